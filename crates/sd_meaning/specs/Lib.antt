@@ -1,0 +1,6 @@
+pub mod Evaluate
+pub mod Routine
+pub mod Run
+pub mod Inputs
+pub mod NewFailure
+pub mod Straight
