@@ -51,13 +51,13 @@ test_of_bit false = refl
 pub live_of-words_of : (live : List Bool) → live_of (length live) (words_of live) ≡ live
 live_of-words_of live =
     same_from_places (live_of (length live) (words_of live)) live false (length-live_of (length live) (words_of live)) (λ c h.
-      let within : c < length live = omega (arith, length-live_of (length live) (words_of live), h)
-      in let place : 64 * (c / 64) + c % 64 ≡ c = omega arith
-      in live_of-at (length live) (words_of live) c within
-        ∙ ap (λ n. bit_at n (c % 64) == 1) (words_of-at live (c / 64) (omega arith))
-        ∙ ap (λ n. n == 1) (bit_at-word_of live (c / 64) (c % 64) (omega arith))
-        ∙ test_of_bit (get_or live (64 * (c / 64) + c % 64) false)
-        ∙ ap (λ i. get_or live i false) place)
+    let within : c < length live = omega (arith, length-live_of (length live) (words_of live), h)
+    in let place : 64 * (c / 64) + c % 64 ≡ c = omega arith
+    in live_of-at (length live) (words_of live) c within
+    ∙ ap (λ n. bit_at n (c % 64) == 1) (words_of-at live (c / 64) (omega arith))
+    ∙ ap (λ n. n == 1) (bit_at-word_of live (c / 64) (c % 64) (omega arith))
+    ∙ test_of_bit (get_or live (64 * (c / 64) + c % 64) false)
+    ∙ ap (λ i. get_or live i false) place)
 
 -- a table is well made where its words are those of a list of entries
 pub live_is : (live : List Bool) (count : ℕ) (words : List ℕ) → length live ≡ count → words ≡ words_of live → live_of count words ≡ live
@@ -85,23 +85,23 @@ module _ (live : List Bool) (c : ℕ) (within : c < length live) where
           in let place : 64 * (c / 64) + j ≡ c = omega arith
           in let small : c % 64 < 64 = omega arith
           in bit_at-word_of (set live c false) (c / 64) j h
-            ∙ ap (λ i. bit (get_or (set live c false) i false)) place
-            ∙ ap bit (get_or-set_same live c false false within)
-            ∙ sym (ap (bit_at (cleared (word_of live (c / 64)) (c % 64))) here ∙ bit_at_clear_same w64 (word_of live (c / 64)) (c % 64) small)
+          ∙ ap (λ i. bit (get_or (set live c false) i false)) place
+          ∙ ap bit (get_or-set_same live c false false within)
+          ∙ sym (ap (bit_at (cleared (word_of live (c / 64)) (c % 64))) here ∙ bit_at_clear_same w64 (word_of live (c / 64)) (c % 64) small)
       bits j h false e =
           let there : j ≢ c % 64 = eqb-false j (c % 64) e
           in let small : c % 64 < 64 = omega arith
           in bit_at-word_of (set live c false) (c / 64) j h
-            ∙ ap bit (get_or-set_other live c (64 * (c / 64) + j) false false (λ s. there (omega arith)))
-            ∙ sym (bit_at-word_of live (c / 64) j h)
-            ∙ sym (bit_at_clear_other w64 (word_of live (c / 64)) (c % 64) small j h there)
+          ∙ ap bit (get_or-set_other live c (64 * (c / 64) + j) false false (λ s. there (omega arith)))
+          ∙ sym (bit_at-word_of live (c / 64) j h)
+          ∙ sym (bit_at_clear_other w64 (word_of live (c / 64)) (c % 64) small j h there)
 
   word-there : (i : ℕ) → i ≢ c / 64 → word_of (set live c false) i ≡ word_of live i
   word-there i n =
       same_from_bits_below 64 _ _ (word_of-lt (set live c false) i) (word_of-lt live i) (λ j h.
-        bit_at-word_of (set live c false) i j h
-        ∙ ap bit (get_or-set_other live c (64 * i + j) false false (λ s. n (omega arith)))
-        ∙ sym (bit_at-word_of live i j h))
+      bit_at-word_of (set live c false) i j h
+      ∙ ap bit (get_or-set_other live c (64 * i + j) false false (λ s. n (omega arith)))
+      ∙ sym (bit_at-word_of live i j h))
 
   pub words_of-set : words_of (set live c false) ≡ set (words_of live) (c / 64) (cleared (get_or (words_of live) (c / 64) 0) (c % 64))
   words_of-set =
@@ -116,24 +116,23 @@ module _ (live : List Bool) (c : ℕ) (within : c < length live) where
           in let also : c / 64 < (length (set live c false) + 63) / 64 = omega (arith, length-set live c false)
           in let there : c / 64 < length (words_of live) = omega (arith, length-words_of live)
           in ap (λ i. get_or (words_of (set live c false)) i 0) here
-            ∙ words_of-at (set live c false) (c / 64) also
-            ∙ word-here
-            ∙ ap (λ n. cleared n (c % 64)) (sym (words_of-at live (c / 64) h'))
-            ∙ sym (get_or-set_same (words_of live) (c / 64) (cleared (get_or (words_of live) (c / 64) 0) (c % 64)) 0 there)
-            ∙ ap (λ i. get_or (set (words_of live) (c / 64) (cleared (get_or (words_of live) (c / 64) 0) (c % 64))) i 0) (sym here)
+          ∙ words_of-at (set live c false) (c / 64) also
+          ∙ word-here
+          ∙ ap (λ n. cleared n (c % 64)) (sym (words_of-at live (c / 64) h'))
+          ∙ sym (get_or-set_same (words_of live) (c / 64) (cleared (get_or (words_of live) (c / 64) 0) (c % 64)) 0 there)
+          ∙ ap (λ i. get_or (set (words_of live) (c / 64) (cleared (get_or (words_of live) (c / 64) 0) (c % 64))) i 0) (sym here)
       at i h false e =
           let other : i ≢ c / 64 = eqb-false i (c / 64) e
           in let also : i < (length (set live c false) + 63) / 64 = omega (arith, length-set live c false)
           in words_of-at (set live c false) i also ∙ word-there i other ∙ sym (words_of-at live i h)
-            ∙ sym (get_or-set_other (words_of live) (c / 64) i (cleared (get_or (words_of live) (c / 64) 0) (c % 64)) 0 other)
+          ∙ sym (get_or-set_other (words_of live) (c / 64) i (cleared (get_or (words_of live) (c / 64) 0) (c % 64)) 0 other)
 
 -- ---- all entries live
-
 
 full-word : (n i : ℕ) → i < n / 64 → word_of (replicate n true) i ≡ 2 ^ 64 - 1
 full-word n i h =
     same_from_bits_below 64 _ _ (word_of-lt (replicate n true) i) (ones_lt 64) (λ j k.
-      bit_at-word_of (replicate n true) i j k ∙ ap bit (get_or-replicate n (64 * i + j) true false (omega arith)) ∙ sym (bit_at_ones 64 j k))
+    bit_at-word_of (replicate n true) i j k ∙ ap bit (get_or-replicate n (64 * i + j) true false (omega arith)) ∙ sym (bit_at_ones 64 j k))
 
 last-word : (n : ℕ) → word_of (replicate n true) (n / 64) ≡ 2 ^ (n % 64) - 1
 last-word n =
@@ -152,8 +151,8 @@ pub words_of-even : (n : ℕ) → n % 64 ≡ 0 → replicate (n / 64) (2 ^ 64 - 
 words_of-even n e =
     same_from_places _ _ 0 (length-replicate (n / 64) (2 ^ 64 - 1) ∙ sym (length-words_of (replicate n true) ∙ ap (λ k. (k + 63) / 64) (length-replicate n true) ∙ omega arith))
     (λ i h.
-      let within : i < n / 64 = omega (arith, length-replicate (n / 64) (2 ^ 64 - 1), h)
-      in get_or-replicate (n / 64) i (2 ^ 64 - 1) 0 within ∙ sym (words_of-at (replicate n true) i (omega (arith, length-replicate n true)) ∙ full-word n i within))
+    let within : i < n / 64 = omega (arith, length-replicate (n / 64) (2 ^ 64 - 1), h)
+    in get_or-replicate (n / 64) i (2 ^ 64 - 1) 0 within ∙ sym (words_of-at (replicate n true) i (omega (arith, length-replicate n true)) ∙ full-word n i within))
 
 pub words_of-odd : (n : ℕ) → 0 < n % 64 → replicate (n / 64) (2 ^ 64 - 1) ++ (2 ^ (n % 64) - 1) ∷ [] ≡ words_of (replicate n true)
 words_of-odd n e =
@@ -168,14 +167,26 @@ words_of-odd n e =
     at i h true t =
         let within : i < n / 64 = ltb-true i (n / 64) t
         in get_or_append_left (replicate (n / 64) (2 ^ 64 - 1)) ((2 ^ (n % 64) - 1) ∷ []) 0 i (omega (arith, length-replicate (n / 64) (2 ^ 64 - 1)))
-          ∙ get_or-replicate (n / 64) i (2 ^ 64 - 1) 0 within
-          ∙ sym (words_of-at (replicate n true) i (omega (arith, length-replicate n true)) ∙ full-word n i within)
+        ∙ get_or-replicate (n / 64) i (2 ^ 64 - 1) 0 within
+        ∙ sym (words_of-at (replicate n true) i (omega (arith, length-replicate n true)) ∙ full-word n i within)
     at i h false t =
         let not_below : n / 64 ≤ i = ltb-false i (n / 64) t
         in let last : i ≡ n / 64 = omega arith
         in ap (λ i. get_or (replicate (n / 64) (2 ^ 64 - 1) ++ (2 ^ (n % 64) - 1) ∷ []) i 0) (last ∙ sym (length-replicate (n / 64) (2 ^ 64 - 1)))
-          ∙ get_or-append_seam (replicate (n / 64) (2 ^ 64 - 1)) (2 ^ (n % 64) - 1) [] 0
-          ∙ sym (ap (λ i. get_or (words_of (replicate n true)) i 0) last ∙ words_of-at (replicate n true) (n / 64) (omega (arith, length-replicate n true)) ∙ last-word n)
+        ∙ get_or-append_seam (replicate (n / 64) (2 ^ 64 - 1)) (2 ^ (n % 64) - 1) [] 0
+        ∙ sym (ap (λ i. get_or (words_of (replicate n true)) i 0) last ∙ words_of-at (replicate n true) (n / 64) (omega (arith, length-replicate n true)) ∙ last-word n)
+
+shifted : (k : ℕ) → k < 64 → 1 * 2 ^ k % 2 ^ 64 ≡ 2 ^ k
+shifted k h = let small : 2 ^ k < 2 ^ 64 = pow-lt {i = k} {j = 64} h in omega arith
+
+pub full-even : (n : ℕ) (words : List ℕ) → words ≡ replicate (n / 64) (2 ^ 64 - 1) → n % 64 ≤ 0 → words ≡ words_of (replicate n true)
+full-even n words e h = e ∙ words_of-even n (omega arith)
+
+pub full-odd : (n : ℕ) (whole words : List ℕ) → whole ≡ replicate (n / 64) (2 ^ 64 - 1) → words ≡ whole ++ (1 * 2 ^ (n % 64) % 2 ^ 64 - 1) ∷ [] → 0 < n % 64 → words ≡ words_of (replicate n true)
+full-odd n whole words e f h =
+    f ∙ ap (λ xs. xs ++ (1 * 2 ^ (n % 64) % 2 ^ 64 - 1) ∷ []) e
+    ∙ ap (λ x. replicate (n / 64) (2 ^ 64 - 1) ++ (x - 1) ∷ []) (shifted (n % 64) (omega arith))
+    ∙ words_of-odd n h
 
 -- ---- what the code of a table computes
 
