@@ -1,9 +1,7 @@
 -- The table's words and its entries: each tells the other.
-use Rattle.std.proofs.Common.{◌≡◌, ◌≢◌, ℕ, zero, suc, ◌+◌, ◌-◌, ◌*◌, ◌/◌, ◌%◌, ◌^◌, ◌<◌, ◌≤◌, ◌==◌, Bool, true, false, List, [], ◌∷◌, ◌++◌, length, get_or, set, refl, sym, ap, ◌∙◌, subst, arith, bit_and, nat_lt}
+use Rattle.std.proofs.Common.{◌≡◌, ◌≢◌, ℕ, suc, ◌+◌, ◌-◌, ◌*◌, ◌/◌, ◌%◌, ◌^◌, ◌<◌, ◌≤◌, ◌==◌, Bool, true, false, List, [], ◌∷◌, ◌++◌, length, get_or, set, refl, sym, ap, ◌∙◌, arith, bit_and, nat_lt}
 use Rattle.std.specs.Prelude.{replicate}
 use Rattle.std.specs.Int.{bit_at, bit_not}
-use Rattle.std.specs.Int.Bits.{and_lt}
-use Rattle.std.specs.List.{range_with_len}
 use Rattle.std.proofs.Common.{w64}
 use Rattle.std.proofs.lemmas.List.{get_or-set_same, get_or-set_other, get_or-replicate, get_or_past, get_or_append_left, length-replicate, length-set, length-append}
 use Rattle.std.proofs.lemmas.List.FromFn.{length-map-range_with_len, get_or-map-range_with_len}
@@ -12,7 +10,7 @@ use Rattle.std.proofs.lemmas.Nat.Bits.{bit_at_clear_same, bit_at_clear_other, bi
 use Rattle.std.proofs.Math.Seq.{get_or-append_seam}
 use Rattle.std.proofs.Math.Pow.{pow-lt, ones_lt}
 use borrow.Author.Tests.{eqb-true, eqb-false, ltb-true, ltb-false}
-use Rattle.sd_cand.specs.Live.{word_of, words_of, live_of}
+use Rattle.sd_cand.specs.Words.{word_of, words_of, live_of}
 use Rattle.sd_cand.proofs.BitLemmas.{bit, bit_at-word_of, word_of-lt}
 
 -- lists that agree at each place are one

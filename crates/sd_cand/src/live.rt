@@ -1,6 +1,6 @@
 //! The table of live candidates.
-ghost use Rattle.std.specs.Prelude.{◌≡◌, ◌<◌, true, false, length, replicate, slice_index, slice_index_or, slice_set, IfOk};
-ghost use Rattle.sd_cand.specs.Live.{words_of};
+ghost use Rattle.std.specs.Prelude.{◌≡◌, ◌<◌, true, false, length, replicate, slice_get, slice_index, slice_set, IfOk};
+ghost use Rattle.sd_cand.specs.Words.{words_of};
 
 use sd_base::NoMemory;
 use std::alloc::Global;
@@ -15,7 +15,7 @@ pub struct LiveTable {
 
 impl Model for LiveTable {
     ghost use Rattle.std.specs.Prelude.{◌≡◌, List, Bool};
-    ghost use Rattle.sd_cand.specs.Live.{live_of, words_of};
+    ghost use Rattle.sd_cand.specs.Words.{live_of, words_of};
 
     ghost Value = { List Bool };
 
@@ -40,13 +40,13 @@ impl LiveTable {
     /// Whether a candidate is live.
     pub fn get(&self, candidate: u32) -> bool
         requires { candidate < length self.now }
-        ensures { result ≡ slice_index_or self.now candidate false }
+        ensures { slice_get self.now candidate ≡ Some result }
     {
         let word = self.words[(candidate / 64) as usize];
         (word >> (candidate % 64)) & 1 == 1
     }
 
-    /// A word of the table.
+    /// A word of the table, of which there are a 64th of the candidates, rounded up.
     pub fn word(&self, i: u32) -> u64
         requires { i < length (words_of self.now) }
         ensures { result ≡ slice_index (words_of self.now) i }

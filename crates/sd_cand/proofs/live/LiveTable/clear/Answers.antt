@@ -1,4 +1,4 @@
-use Rattle.std.proofs.Common.{◌≡◌, ◌/◌, ◌<◌, get_or, length, set, false, sym, ap, ◌∙◌, arith, rules}
+use Rattle.std.proofs.Common.{◌/◌, ◌<◌, length, set, false, ap, ◌∙◌, arith, rules}
 use Rattle.std.proofs.lemmas.Grind.{get_or_default_zero}
 use Rattle.sd_cand.proofs.TableLemmas.{length-live_of, word-within, clear-well_made, clear-live}
 use Rattle.sd_cand.proofs.live.LiveTable.clear.Goals as goal

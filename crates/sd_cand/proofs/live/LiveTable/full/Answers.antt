@@ -1,7 +1,7 @@
 use Rattle.std.proofs.Common.{◌≡◌, true, ap, ◌∙◌}
 use Rattle.std.specs.Prelude.{replicate}
 use Rattle.std.proofs.lemmas.List.{length-replicate}
-use Rattle.sd_cand.specs.Live.{words_of}
+use Rattle.sd_cand.specs.Words.{words_of}
 use Rattle.sd_cand.proofs.TableLemmas.{full-even, full-odd, live_is, words_are}
 use Rattle.sd_cand.proofs.live.LiveTable.full.Goals as goal
 use Rattle.sd_cand.proofs.live.LiveTable.full.Goals.{then-rest-gt0+in_ok-push, else-rest-gt0}
