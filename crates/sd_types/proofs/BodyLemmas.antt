@@ -7,7 +7,7 @@ use Rattle.sd_base.specs.declared.sort.Var.{Var}
 use Rattle.sd_ast.specs.declared.tree.Body.{Body}
 use Rattle.sd_ast.specs.Tree.{names_of}
 use Rattle.sd_ast.specs.Boolean.{AreBooleanVars, AllBooleanStmts, IsBooleanBody}
-use Rattle.sd_types.specs.Names.{HaveSame, AreNew}
+use Rattle.sd_types.specs.Names.{HaveSame}
 use Rattle.sd_types.proofs.NamesLemmas.{have_same-sym, have_same-join, have_same-nil, have_same-swap, have_same-append, are_new-append, are_new-distinct, are_new-alone}
 use Rattle.sd_types.proofs.SameLemmas.{boolean_stmts-same}
 use Rattle.sd_types.proofs.LoopLemmas.{Declares}
