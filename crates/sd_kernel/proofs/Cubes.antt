@@ -22,22 +22,20 @@ valuation_of by ls = record {
   by = record { apply = by.apply; constant = by.constant; start = λ s. cond (is_truth_sort s) (truth (unwrap_or (first_fact ls (leaf (Start s))) false)) (by.start s) };
 }
 
-AllTruth : List Sort → Type 0
+abbrev pub AllTruth : List Sort → Type 0
 AllTruth [] = Unit {0}
 AllTruth (s ∷ ss) = (s ≡ Truth) × AllTruth ss
 
 truth-snoc : (ss : List Sort) (s : Sort) → AllTruth ss → s ≡ Truth → AllTruth (ss ++ s ∷ [])
-unfolding AllTruth
 truth-snoc [] s a e = (e, tt)
 truth-snoc (r ∷ ss) s a e = (a.0, truth-snoc ss s a.1 e)
 
-truth-at : (ss : List Sort) (k : ℕ) → AllTruth ss → sort_at ss k ≡ Truth
-unfolding AllTruth
+pub truth-at : (ss : List Sort) (k : ℕ) → AllTruth ss → sort_at ss k ≡ Truth
 truth-at [] k a = refl
 truth-at (s ∷ ss) zero a = a.0
 truth-at (s ∷ ss) (suc k) a = truth-at ss k a.1
 
-head-truth : (h : Head) (ts : List Tree) (ss : List Sort) → IsBooleanHead h ts → AllTruth ss → sort_by h ss ≡ Truth
+pub head-truth : (h : Head) (ts : List Tree) (ss : List Sort) → IsBooleanHead h ts → AllTruth ss → sort_by h ss ≡ Truth
 head-truth (Sym n Truth) ts ss b a = refl
 head-truth (Start Truth) ts ss b a = refl
 head-truth True ts ss b a = refl
@@ -49,8 +47,7 @@ head-truth Eq ts ss b a = refl
 head-truth Ite ts ss b a = truth-at ss 1 a
 head-truth _ ts ss b a = absurd b
 
-sorts-truth : (t : Tree) → PartsBoolean t → AllTruth (sorts_of t)
-unfolding AllTruth
+pub sorts-truth : (t : Tree) → PartsBoolean t → AllTruth (sorts_of t)
 sorts-truth (leaf h) b = tt
 sorts-truth (call f x) b = truth-snoc (sorts_of f) (sort_of x) (sorts-truth f b.0) (head-truth (head_of x) (parts_of x) (sorts_of x) b.1.1 (sorts-truth x b.1.0))
 

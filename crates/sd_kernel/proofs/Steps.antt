@@ -44,3 +44,8 @@ keeps-terms s t x e = go s.0 s.1 e
     go : (terms : List Tree) (bs : List Trail) → next (terms, bs) x ≡ goes t → t.0 ≡ terms
     go terms [] e = cc
     go terms (b ∷ bs) e = at terms bs (outcome terms b x) (λ mid branches is. step-terms terms b x mid branches is) e
+
+-- what a step leaves is what the walk has then
+pub told-goes : (o : Option StepCause) (s t : State) → told o s ≡ goes t → s ≡ t
+told-goes None s t e = cc
+told-goes (Some c) s t e = cc
