@@ -1,0 +1,8 @@
+//! Looks for a proof that no valuation makes all facts of a query true, or for an open cube of them.
+#![tactic(auto)]
+
+mod atoms;
+mod choice;
+mod search;
+
+pub use search::{Outcome, refute};
