@@ -1,0 +1,13 @@
+//! The reader: from the bytes of a text to its tree. The grammar is after Boogie 2 (Leino 2008).
+#![tactic(auto)]
+
+mod cursor;
+mod expression;
+mod level;
+mod program;
+mod sign;
+mod statement;
+
+pub use cursor::{Cursor, Fault};
+pub use level::Level;
+pub use sign::Sign;
