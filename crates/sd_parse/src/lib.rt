@@ -3,6 +3,7 @@
 
 mod cursor;
 mod expression;
+pub mod laws;
 mod level;
 mod program;
 mod sign;

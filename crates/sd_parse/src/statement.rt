@@ -53,7 +53,7 @@ fn single(alloc: Global, stmt: Stmt) -> Result<Items<Stmt>, AllocError>
 }
 
 #[derive(Clone, Copy)]
-struct Nested<F> {
+pub struct Nested<F> {
     alloc: Global,
     /// How high the expressions and statements below may be.
     depth: u32,
@@ -198,7 +198,7 @@ impl<F: Fn(Global, &mut Cursor<'_>, u32) -> Result<Stmt, Fault>> Nested<F> {
 
 /// No statement has height 0.
 #[tactic(auto, unfolding(crate::specs::ReadingStatements::statement))]
-fn none(tokens: &mut Cursor<'_>) -> Result<Stmt, Fault>
+pub fn none(tokens: &mut Cursor<'_>) -> Result<Stmt, Fault>
     ensures { Gives (spec.statement 0 tokens.old) result tokens.new }
 {
     if begins_statement(tokens.peek()) {
@@ -209,7 +209,7 @@ fn none(tokens: &mut Cursor<'_>) -> Result<Stmt, Fault>
 }
 
 /// The statement of this height at most that the tokens begin with.
-fn statement(alloc: Global, tokens: &mut Cursor<'_>, depth: u32) -> Result<Stmt, Fault>
+pub fn statement(alloc: Global, tokens: &mut Cursor<'_>, depth: u32) -> Result<Stmt, Fault>
     requires { depth < 2 ^ 31 }
     ensures { Gives (spec.statement depth tokens.old) result tokens.new }
 {
