@@ -6,7 +6,7 @@ use Rattle.sd_ast.specs.declared.Program.{Program}
 use Rattle.sd_ast.specs.declared.Proc.{Proc}
 use Rattle.sd_ast.specs.declared.Expr.{Expr}
 use Rattle.sd_ast.specs.declared.StmtKind.{StmtKind, Assert, Assume, Assign, Call, If', While', Break, Return, Row_of-Stmt, end_of-Stmt, more_of-Stmt}
-use Rattle.sd_base.specs.Meaning.{Meaning, Interpretation, interpretation}
+use Rattle.sd_base.specs.Meaning.{Meaning, Interpretation, interpretation, truth_of}
 use Rattle.sd_meaning.specs.Evaluate.{Store, State, value}
 use Rattle.sd_meaning.specs.Routine.{Routine, procedure_in, routine_named, Clause, clauses_of, requires_of}
 use Rattle.sd_meaning.specs.Run.{Outcome, Flow, Next, Breaks, Returns, Failed, Blocked, Unfinished, and_then, each, kinds_of, kinds_in, Verdict, Holds, Fails, Blocks, verdict, if_holds, values_of, before, entered, outcome_of, body_run, Level, received, called, call, after_turn, reach, step, steps, level_by, level, if_assumed, root_run, run}
