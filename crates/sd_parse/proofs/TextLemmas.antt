@@ -5,11 +5,12 @@ use Rattle.sd_ast.specs.declared.Decl.{Decl}
 use Rattle.sd_ast.specs.declared.Program.{Program}
 use Rattle.sd_lex.specs.Pieces.{Bytes}
 use Rattle.sd_lex.specs.Tokens as lex
-use Rattle.sd_lex.proofs.Unique.{one_list}
+use Rattle.sd_lex.specs.declared.LexError.{LexError}
+use Rattle.sd_lex.proofs.Unique.{one_list, not_both}
 use Rattle.sd_parse.specs.Grammar.{Tokens}
 use Rattle.sd_parse.specs.Programs.{Spells}
-use Rattle.sd_parse.specs.Text.{IsRead, OneProgram}
-use Rattle.sd_parse.specs.Reading.{Step, Got, Bad}
+use Rattle.sd_parse.specs.Text.{IsRead, HasTokens, IsSpelled, OneProgram}
+use Rattle.sd_parse.specs.Reading.{Fault, Step, Got, Bad}
 use Rattle.sd_parse.specs.ReadingStatements.{program}
 use Rattle.sd_parse.proofs.ProgramSound.{program_sound}
 use Rattle.sd_parse.proofs.ProgramComplete.{program_complete}
@@ -30,3 +31,17 @@ one_tree d ts P Q p q =
 
 pub one_program : OneProgram
 one_program bytes P Q p q = one_tree 200 p.tokens P Q p.spelled (subst (λ ts. Spells 200 ts Q) (one_list q.cut p.cut) q.spelled)
+
+-- ---- where the code answers that there is none
+
+pub refused : (bytes : Bytes) (e : LexError) → lex.Refused 0 bytes e → HasTokens bytes → ⊥
+refused bytes e r h = not_both h.1 r
+
+pub failed : (ts : Tokens) (k : Fault) (rest : Tokens) → program 200 ts ≡ Bad k rest → IsSpelled ts → ⊥
+failed ts k rest e h = let z : Bad k rest ≡ Got h.0.decls [] = sym e ∙ spelled_is_read 200 ts h.0 h.1 in cc
+
+pub no_tree : (bytes : Bytes) (ts : Tokens) → lex.Tokens 0 bytes ts → (IsSpelled ts → ⊥) → (P : Program) → IsRead bytes P → ⊥
+no_tree bytes ts cut none P r = none (P, subst (λ ts. Spells 200 ts P) (one_list r.cut cut) r.spelled)
+
+pub this_tree : (bytes : Bytes) (ts : Tokens) (Q : Program) → lex.Tokens 0 bytes ts → Spells 200 ts Q → (P : Program) → IsRead bytes P → P ≡ Q
+this_tree bytes ts Q cut q P r = one_tree 200 ts P Q (subst (λ ts. Spells 200 ts P) (one_list r.cut cut) r.spelled) q

@@ -17,6 +17,14 @@ pub record IsRead (bytes : Bytes) (P : Program) : Type 0 where
   pub typed : IsBooleanProgram P
   pub few : length P.decls ≤ 4096
 
+-- the text is cut into some tokens
+abbrev pub HasTokens : Bytes → Type 0
+HasTokens bytes = (ts : Tokens) × lex.Tokens 0 bytes ts
+
+-- the tokens spell some program
+abbrev pub IsSpelled : Tokens → Type 0
+IsSpelled ts = (P : Program) × Spells 200 ts P
+
 -- a text has at most one program
 abbrev pub OneProgram : Type 0
 OneProgram = (bytes : Bytes) (P Q : Program) → IsRead bytes P → IsRead bytes Q → P ≡ Q

@@ -1,8 +1,10 @@
 //! The rules for expressions. They take the reader of the expressions below as a parameter, so that each is proved by itself.
 
 ghost use Rattle.std.specs.Prelude.{◌≡◌, ◌<◌, ◌≤◌, ◌+◌, ◌^◌, IfOk, suc};
+ghost use Rattle.sd_ast.specs.declared.BinOp.TheVariants as op;
 ghost use Rattle.sd_ast.specs.declared.ExprKind as ast;
 ghost use Rattle.sd_parse.specs.Grammar as grammar;
+ghost use Rattle.sd_parse.specs.Grammar.{Right};
 ghost use Rattle.sd_parse.specs.Reading as spec;
 ghost use Rattle.sd_parse.specs.Reading.{Gives, Reads, Nests};
 
@@ -223,12 +225,7 @@ impl<F: Fn(Global, &mut Cursor<'_>, u32, Level) -> Result<Tall, Fault>> Grammar<
     }
 
     /// The operators of the level that follow `first`.
-    fn turns(
-        &self,
-        tokens: &mut Cursor<'_>,
-        level: Level,
-        first: Tall,
-    ) -> Result<Tall, Fault>
+    fn turns(&self, tokens: &mut Cursor<'_>, level: Level, first: Tall) -> Result<Tall, Fault>
         requires nests { Nests self.now.depth (F.pre self.now.inner) (F.post self.now.inner) }
         requires small { self.now.depth < 2 ^ 31 }
         requires low { first.1 ≤ suc self.now.depth }
@@ -290,6 +287,16 @@ impl<F: Fn(Global, &mut Cursor<'_>, u32, Level) -> Result<Tall, Fault>> Grammar<
         }
     }
 
+    /// `==>` after `x`, and its right side, which may have `==>` again.
+    fn implied(&self, tokens: &mut Cursor<'_>, x: Tall) -> Result<Tall, Fault>
+        requires nests { Nests self.now.depth (F.pre self.now.inner) (F.post self.now.inner) }
+        requires small { self.now.depth < 2 ^ 31 }
+        requires low { x.1 ≤ suc self.now.depth }
+        ensures { Reads (suc self.now.depth) (spec.operation self.now.depth (spec.read self.now.depth) Right spec.pure x op.Implies tokens.old) result tokens.new }
+    {
+        self.operation(tokens, Level::Right, x, BinOp::Implies)
+    }
+
     #[tactic(auto, unfolding(crate::specs::Reading::right))]
     fn right(&self, tokens: &mut Cursor<'_>) -> Result<Tall, Fault>
         requires nests { Nests self.now.depth (F.pre self.now.inner) (F.post self.now.inner) }
@@ -298,7 +305,7 @@ impl<F: Fn(Global, &mut Cursor<'_>, u32, Level) -> Result<Tall, Fault>> Grammar<
     {
         let first = self.junction(tokens)?;
         match tokens.peek() {
-            Sign::Implies => self.operation(tokens, Level::Right, first, BinOp::Implies),
+            Sign::Implies => self.implied(tokens, first),
             _ => Ok(first),
         }
     }
@@ -311,7 +318,7 @@ impl<F: Fn(Global, &mut Cursor<'_>, u32, Level) -> Result<Tall, Fault>> Grammar<
     {
         let first = self.junction(tokens)?;
         match tokens.peek() {
-            Sign::Implies => self.operation(tokens, Level::Right, first, BinOp::Implies),
+            Sign::Implies => self.implied(tokens, first),
             _ => self.turns(tokens, Level::Explied, first),
         }
     }
@@ -370,12 +377,7 @@ fn none(tokens: &mut Cursor<'_>, level: Level) -> Result<Tall, Fault>
 }
 
 /// The expression of this height at most that the tokens begin with.
-pub fn read(
-    alloc: Global,
-    tokens: &mut Cursor<'_>,
-    depth: u32,
-    level: Level,
-) -> Result<Tall, Fault>
+pub fn read(alloc: Global, tokens: &mut Cursor<'_>, depth: u32, level: Level) -> Result<Tall, Fault>
     requires { depth < 2 ^ 31 }
     ensures { Reads depth (spec.read depth level tokens.old) result tokens.new }
 {

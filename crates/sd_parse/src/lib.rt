@@ -8,7 +8,8 @@ mod level;
 mod program;
 mod sign;
 mod statement;
+#[cfg(test)]
+mod tests;
+mod text;
 
-pub use cursor::{Cursor, Fault};
-pub use level::Level;
-pub use sign::Sign;
+pub use text::{ReadError, read_program};

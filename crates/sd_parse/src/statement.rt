@@ -225,11 +225,7 @@ pub fn statement(alloc: Global, tokens: &mut Cursor<'_>, depth: u32) -> Result<S
 }
 
 /// The statements of this height at most that the tokens begin with, as many as there are.
-pub fn statements(
-    alloc: Global,
-    tokens: &mut Cursor<'_>,
-    depth: u32,
-) -> Result<Items<Stmt>, Fault>
+pub fn statements(alloc: Global, tokens: &mut Cursor<'_>, depth: u32) -> Result<Items<Stmt>, Fault>
     requires { depth < 2 ^ 31 }
     ensures { Gives (spec.statements depth (spec.statement depth) tokens.old) result tokens.new }
 {
