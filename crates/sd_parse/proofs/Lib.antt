@@ -1,0 +1,11 @@
+pub mod Turns
+pub mod Many
+pub mod Sound
+pub mod ExpressionSound
+pub mod ExpressionComplete
+pub mod Lists
+pub mod StatementSound
+pub mod StatementComplete
+pub mod ProgramSound
+pub mod ProgramComplete
+pub mod TextLemmas

@@ -1,0 +1,14 @@
+use Rattle.std.proofs.Common.{◌≡◌, ◌-◌, suc, sym, ap, subst, arith}
+use Rattle.sd_parse.specs.Reading.{Reads, read}
+use Rattle.sd_parse.proofs.expression.+read.Goals as goal
+
+pub returns-then-depth-eq0 : goal.returns-then-depth-eq0
+returns-then-depth-eq0 t c =
+    let e : 0 ≡ c.args.depth = omega arith in
+    subst (λ n. Reads n (read n c.args.level c.args.tokens.now) c.none.result c.none.new.tokens) e c.none.ensures
+
+pub returns : goal.returns
+unfolding read
+returns t c =
+    let e : suc (c.args.depth - 1) ≡ c.args.depth = omega arith in
+    subst (λ n. Reads n (read n c.args.level c.args.tokens.now) c.layer.result c.layer.new.tokens) e c.layer.ensures

@@ -1,0 +1,7 @@
+pub mod Signs
+pub mod Grammar
+pub mod Statements
+pub mod Programs
+pub mod Text
+pub mod Reading
+pub mod ReadingStatements

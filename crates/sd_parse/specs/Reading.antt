@@ -1,0 +1,237 @@
+-- What a reader gives, as a function of the tokens.
+use Rattle.std.specs.Prelude.{◌≡◌, ℕ, zero, suc, max, ◌≤◌, nat_lt, Bool, true, false, if◌then◌else◌, List, [], ◌∷◌, ◌++◌, length, Option, Some, None, Result, Ok, Err, IfOk}
+use Rattle.std.specs.declared.alloc.Global.{Global}
+use denote.Ref.{MutBor}
+use Rattle.sd_base.specs.declared.Place.{Place}
+use Rattle.sd_base.specs.Value.{Text}
+use Rattle.sd_lex.specs.declared.Token.{Token}
+use Rattle.sd_lex.specs.declared.TokenKind.{TokenKind}
+use Rattle.sd_lex.specs.declared.TokenKind.TheVariants as kind
+use Rattle.sd_ast.specs.declared.Expr.{Expr}
+use Rattle.sd_ast.specs.declared.ExprKind.{Num, Truth, Var, Unary, Binary}
+use Rattle.sd_ast.specs.declared.UnOp.{UnOp}
+use Rattle.sd_ast.specs.declared.BinOp.{BinOp}
+use Rattle.sd_ast.specs.declared.BinOp.TheVariants as op
+use Rattle.sd_parse.specs.declared.sign.Sign.{Sign}
+use Rattle.sd_parse.specs.declared.sign.Sign.TheVariants as s
+use Rattle.sd_parse.specs.declared.cursor.Fault.{Fault as CodeFault}
+use Rattle.sd_parse.specs.declared.cursor.Fault.TheVariants.{NoMemory}
+use Rattle.sd_parse.specs.declared.cursor.Fault.TheVariants as fault
+use Rattle.sd_parse.specs.Signs.{sign, same_sign}
+use Rattle.sd_parse.specs.Grammar.{Tokens, Level, Whole, Implication, Right, Explied, Junction, Conjunction, Disjunction, Relation, Sum, Product, Prefix, Atom, repeated, operand, compares, prefixes, placed}
+
+pub data Fault : Type 0 where
+  Syntax : Fault
+  Deep : Fault
+
+-- a value and the tokens after it, or a fault and the tokens from its place on
+pub data Step (A : Type 0) : Type 0 where
+  Got : A → Tokens → Step A
+  Bad : Fault → Tokens → Step A
+
+abbrev pub Reader : Type 0 → Type 0
+Reader A = Tokens → Step A
+
+abbrev pub and_then : {A B : Type 0} → Step A → (A → Reader B) → Step B
+and_then (Got x rest) f = f x rest
+and_then (Bad k rest) f = Bad k rest
+
+infixl 10 ◌>>=◌
+abbrev pub ◌>>=◌ : {A B : Type 0} → Reader A → (A → Reader B) → Reader B
+p >>= f = λ ts. and_then (p ts) f
+
+abbrev pub ahead : Tokens → Option Token
+ahead [] = None
+ahead (t ∷ ts) = Some t
+
+abbrev pub pure : {A : Type 0} → A → Reader A
+pure x = λ ts. Got x ts
+
+abbrev pub bad : {A : Type 0} → Fault → Reader A
+bad k = λ ts. Bad k ts
+
+-- the next token decides
+abbrev pub look : {A : Type 0} → (Option Token → Reader A) → Reader A
+look f = λ ts. f (ahead ts) ts
+
+-- the next token, of which the place is kept
+abbrev pub skip : Reader Place
+skip [] = Bad Syntax []
+skip (t ∷ ts) = Got t.at ts
+
+abbrev pub sign_of : Option Token → Sign
+sign_of None = s.Other
+sign_of (Some t) = sign t
+
+-- a token of this sign
+unfoldable pub want : Sign → Reader Place
+want x = look (λ t. if same_sign (sign_of t) x then skip else bad Syntax)
+
+-- an identifier, with its place
+abbrev pub name_by : Token → Tokens → TokenKind → Step (Text × Place)
+name_by t ts (kind.Ident x) = Got (x, t.at) ts
+name_by t ts _ = Bad Syntax (t ∷ ts)
+
+unfoldable pub name : Reader (Text × Place)
+name [] = Bad Syntax []
+name (t ∷ ts) = name_by t ts t.kind
+
+abbrev pub number_by : Token → Tokens → TokenKind → Step (ℕ × Place)
+number_by t ts (kind.Number n) = Got (n, t.at) ts
+number_by t ts _ = Bad Syntax (t ∷ ts)
+
+unfoldable pub number : Reader (ℕ × Place)
+number [] = Bad Syntax []
+number (t ∷ ts) = number_by t ts t.kind
+
+-- Items, each added to what was read before, as long as the next token begins one. The number bounds the turns.
+unfoldable pub many : {A B : Type 0} → (Sign → Bool) → Reader A → (B → A → B) → ℕ → B → Reader B
+many begins item add zero acc = bad Syntax
+many begins item add (suc n) acc = look (λ t. if begins (sign_of t) then (item >>= λ x. many begins item add n (add acc x)) else pure acc)
+
+-- as many as there are
+abbrev pub all : {A B : Type 0} → (Sign → Bool) → Reader A → (B → A → B) → B → Reader B
+all begins item add acc = λ ts. many begins item add (suc (length ts)) acc ts
+
+-- an expression, its height, and the place where its phrase begins
+abbrev pub Tall : Type 0
+Tall = Expr × ℕ × Place
+
+abbrev pub join : BinOp → Tall → Tall → Tall
+join f x y = (placed x.2 (Binary f x.0 y.0), suc (max x.1 y.1), x.2)
+
+-- what begins an expression
+abbrev pub begins : Sign → Bool
+begins s.Number = true
+begins s.True = true
+begins s.False = true
+begins s.Name = true
+begins s.Open = true
+begins s.Not = true
+begins s.Minus = true
+begins _ = false
+
+-- what needs a phrase below it
+abbrev pub deeper : {A : Type 0} → ℕ → Reader A → Reader A
+deeper zero p = bad Deep
+deeper (suc d) p = p
+
+-- The phrases of height d + 1 at most, from readers of those of height d at most.
+module _ (d : ℕ) (inner : Level → Reader Tall) where
+  unfoldable pub parenthesized : Reader Tall
+  parenthesized = deeper d (skip >>= λ p. inner Whole >>= λ x. want s.Close >>= λ _. pure (x.0, suc x.1, p))
+
+  abbrev pub atom_by : Sign → Reader Tall
+  atom_by s.Number = number >>= λ n. pure (placed n.1 (Num n.0), 1, n.1)
+  atom_by s.True = skip >>= λ p. pure (placed p (Truth true), 1, p)
+  atom_by s.False = skip >>= λ p. pure (placed p (Truth false), 1, p)
+  atom_by s.Name = name >>= λ x. pure (placed x.1 (Var x.0), 1, x.1)
+  atom_by s.Open = parenthesized
+  atom_by _ = bad Syntax
+
+  unfoldable pub atom : Reader Tall
+  atom = look (λ t. atom_by (sign_of t))
+
+  unfoldable pub prefixed : UnOp → Reader Tall
+  prefixed f = deeper d (skip >>= λ p. inner Prefix >>= λ x. pure (placed p (Unary f x.0), suc x.1, p))
+
+  abbrev pub prefix_by : Option UnOp → Reader Tall
+  prefix_by None = atom
+  prefix_by (Some f) = prefixed f
+
+  unfoldable pub prefix : Reader Tall
+  prefix = look (λ t. prefix_by (prefixes (sign_of t)))
+
+  -- an operator after x, and its right side, of this level; at the next turn what follows
+  abbrev pub operation_by : Bool → Level → (Tall → Reader Tall) → Tall → BinOp → Reader Tall
+  operation_by true l next x f = skip >>= λ _. inner l >>= λ y. next (join f x y)
+  operation_by false l next x f = bad Deep
+
+  unfoldable pub operation : Level → (Tall → Reader Tall) → Tall → BinOp → Reader Tall
+  operation l next x f = operation_by (nat_lt x.1 (suc d)) l next x f
+
+  abbrev pub turn_by : Level → (Tall → Reader Tall) → Tall → Option BinOp → Reader Tall
+  turn_by l next x None = pure x
+  turn_by l next x (Some f) = operation (operand l) next x f
+
+  abbrev pub turn : Level → (Tall → Reader Tall) → Tall → Reader Tall
+  turn l next x = look (λ t. turn_by l next x (repeated l (sign_of t)))
+
+  -- the operators of this level that follow x. A turn raises the height, so there are d + 1 at most.
+  unfoldable pub turns : ℕ → Level → Tall → Reader Tall
+  turns zero l x = bad Deep
+  turns (suc n) l x = turn l (turns n l) x
+
+  unfoldable pub product : Reader Tall
+  product = prefix >>= turns (suc d) Product
+
+  unfoldable pub sum : Reader Tall
+  sum = product >>= turns (suc d) Sum
+
+  abbrev pub comparison_by : Tall → Option BinOp → Reader Tall
+  comparison_by x None = pure x
+  comparison_by x (Some f) = operation Sum pure x f
+
+  unfoldable pub relation : Reader Tall
+  relation = sum >>= λ x. look (λ t. comparison_by x (compares (sign_of t)))
+
+  abbrev pub junction_by : Tall → Sign → Reader Tall
+  junction_by x s.And = turns (suc d) Conjunction x
+  junction_by x _ = turns (suc d) Disjunction x
+
+  unfoldable pub junction : Reader Tall
+  junction = relation >>= λ x. look (λ t. junction_by x (sign_of t))
+
+  abbrev pub right_by : Tall → Sign → Reader Tall
+  right_by x s.Implies = operation Right pure x op.Implies
+  right_by x _ = pure x
+
+  unfoldable pub right : Reader Tall
+  right = junction >>= λ x. look (λ t. right_by x (sign_of t))
+
+  abbrev pub implication_by : Tall → Sign → Reader Tall
+  implication_by x s.Implies = operation Right pure x op.Implies
+  implication_by x _ = turns (suc d) Explied x
+
+  unfoldable pub implication : Reader Tall
+  implication = junction >>= λ x. look (λ t. implication_by x (sign_of t))
+
+  unfoldable pub whole : Reader Tall
+  whole = implication >>= turns (suc d) Whole
+
+  abbrev pub layer : Level → Reader Tall
+  layer Whole = whole
+  layer Implication = implication
+  layer Right = right
+  layer Junction = junction
+  layer Relation = relation
+  layer Sum = sum
+  layer Product = product
+  layer Prefix = prefix
+  layer Atom = atom
+  layer Explied = junction >>= turns (suc d) Explied
+  layer Conjunction = relation >>= turns (suc d) Conjunction
+  layer Disjunction = relation >>= turns (suc d) Disjunction
+
+-- The expressions of height d at most. No expression has height 0.
+unfoldable pub read : ℕ → Level → Reader Tall
+read zero l = look (λ t. if begins (sign_of t) then bad Deep else bad Syntax)
+read (suc d) l = layer d (read d) l
+
+-- What a function of the code returned, and the tokens before which it stands, are what a reader gives. At a fault it stands at
+-- the fault's place. Want of memory says nothing.
+abbrev pub Gives : {A : Type 0} → Step A → Result A CodeFault → Tokens → Type 0
+Gives step (Ok x) new = step ≡ Got x new
+Gives step (Err NoMemory) new = Unit {0}
+Gives step (Err fault.Syntax) new = step ≡ Bad Syntax new
+Gives step (Err fault.Deep) new = step ≡ Bad Deep new
+
+-- the same of an expression, and its height
+pub record Reads (d : ℕ) (step : Step Tall) (r : Result Tall CodeFault) (new : Tokens) : Type 0 where
+  pub gives : Gives step r new
+  pub low : IfOk r (λ x. x.1 ≤ d)
+
+-- a function value that reads the expressions of height d at most
+pub record Nests (d : ℕ) (pre : Global → MutBor Tokens → ℕ → Level → Type 0) (post : Global → MutBor Tokens → ℕ → Level → Result Tall CodeFault → MutBor Tokens → Type 0) : Type 0 where
+  pub callable : (alloc : Global) (old : MutBor Tokens) (l : Level) → pre alloc old d l
+  pub reads : (alloc : Global) (old new : MutBor Tokens) (l : Level) (r : Result Tall CodeFault) → post alloc old d l r new → Reads d (read d l old.now) r new.now

@@ -1,0 +1,393 @@
+//! The rules for expressions. They take the reader of the expressions below as a parameter, so that each is proved by itself.
+
+ghost use Rattle.std.specs.Prelude.{◌≡◌, ◌<◌, ◌≤◌, ◌+◌, ◌^◌, IfOk, suc};
+ghost use Rattle.sd_ast.specs.declared.BinOp.TheVariants as op;
+ghost use Rattle.sd_ast.specs.declared.ExprKind as ast;
+ghost use Rattle.sd_parse.specs.Grammar as grammar;
+ghost use Rattle.sd_parse.specs.Grammar.{Right};
+ghost use Rattle.sd_parse.specs.Reading as spec;
+ghost use Rattle.sd_parse.specs.Reading.{Gives, Reads, Nests};
+
+use crate::cursor::{Cursor, Fault};
+use crate::level::Level;
+use crate::sign::Sign;
+use sd_ast::{BinOp, Expr, ExprKind, UnOp};
+use sd_base::Place;
+use sqlite_items::Boxed;
+use std::alloc::{AllocError, Global};
+
+/// An expression, its height, and the place where its phrase begins.
+pub type Tall = (Expr, u32, Place);
+
+/// The operators that are repeated at a level.
+fn repeated(level: Level, sign: Sign) -> Option<BinOp>
+    ensures { result ≡ grammar.repeated level sign }
+{
+    match (level, sign) {
+        (Level::Whole, Sign::Iff) => Some(BinOp::Iff),
+        (Level::Explied, Sign::Explies) => Some(BinOp::Explies),
+        (Level::Conjunction, Sign::And) => Some(BinOp::And),
+        (Level::Disjunction, Sign::Or) => Some(BinOp::Or),
+        (Level::Sum, Sign::Plus) => Some(BinOp::Add),
+        (Level::Sum, Sign::Minus) => Some(BinOp::Sub),
+        (Level::Product, Sign::Star) => Some(BinOp::Mul),
+        _ => None,
+    }
+}
+
+fn operand(level: Level) -> Level
+    ensures { result ≡ grammar.operand level }
+{
+    match level {
+        Level::Whole => Level::Implication,
+        Level::Explied => Level::Junction,
+        Level::Conjunction => Level::Relation,
+        Level::Disjunction => Level::Relation,
+        Level::Sum => Level::Product,
+        Level::Product => Level::Prefix,
+        _ => Level::Atom,
+    }
+}
+
+fn compares(sign: Sign) -> Option<BinOp>
+    ensures { result ≡ grammar.compares sign }
+{
+    match sign {
+        Sign::Equal => Some(BinOp::Eq),
+        Sign::Unequal => Some(BinOp::Ne),
+        Sign::Less => Some(BinOp::Lt),
+        Sign::AtMost => Some(BinOp::Le),
+        Sign::Greater => Some(BinOp::Gt),
+        Sign::AtLeast => Some(BinOp::Ge),
+        _ => None,
+    }
+}
+
+fn prefixes(sign: Sign) -> Option<UnOp>
+    ensures { result ≡ grammar.prefixes sign }
+{
+    match sign {
+        Sign::Not => Some(UnOp::Not),
+        Sign::Minus => Some(UnOp::Neg),
+        _ => None,
+    }
+}
+
+fn begins(sign: Sign) -> bool
+    ensures { result ≡ spec.begins sign }
+{
+    match sign {
+        Sign::Number
+        | Sign::True
+        | Sign::False
+        | Sign::Name
+        | Sign::Open
+        | Sign::Not
+        | Sign::Minus => true,
+        _ => false,
+    }
+}
+
+fn placed(at: Place, kind: ExprKind) -> Expr
+    ensures { result ≡ grammar.placed at kind }
+{
+    Expr { at, kind }
+}
+
+/// A prefix operator that stands at this place, with what follows it.
+fn unary(alloc: Global, at: Place, op: UnOp, x: Tall) -> Result<Tall, AllocError>
+    requires { x.1 < 2 ^ 31 }
+    ensures { IfOk result (λ y. y ≡ (grammar.placed at (ast.Unary op x.0), suc x.1, at)) }
+{
+    let (tree, height, _) = x;
+    let kind = ExprKind::Unary(op, Boxed::new(alloc, tree)?);
+    Ok((placed(at, kind), height + 1, at))
+}
+
+/// A binary operator between two phrases. It stands where the first one begins.
+fn join(alloc: Global, op: BinOp, x: Tall, y: Tall) -> Result<Tall, AllocError>
+    requires left { x.1 < 2 ^ 31 }
+    requires right { y.1 < 2 ^ 31 }
+    ensures { IfOk result (λ z. z ≡ spec.join op x y) }
+{
+    let (left, left_height, at) = x;
+    let (right, right_height, _) = y;
+    let height = left_height.max(right_height) + 1;
+    let kind = ExprKind::Binary(op, Boxed::new(alloc, left)?, Boxed::new(alloc, right)?);
+    Ok((placed(at, kind), height, at))
+}
+
+#[derive(Clone, Copy)]
+pub struct Grammar<F> {
+    alloc: Global,
+    /// How high the expressions below may be.
+    depth: u32,
+    inner: F,
+}
+
+impl<F: Fn(Global, &mut Cursor<'_>, u32, Level) -> Result<Tall, Fault>> Grammar<F> {
+    fn inner(&self, tokens: &mut Cursor<'_>, level: Level) -> Result<Tall, Fault>
+        requires { Nests self.now.depth (F.pre self.now.inner) (F.post self.now.inner) }
+        ensures { Reads self.now.depth (spec.read self.now.depth level tokens.old) result tokens.new }
+    {
+        (self.inner)(self.alloc, tokens, self.depth, level)
+    }
+
+    #[tactic(auto, unfolding(crate::specs::Reading::parenthesized))]
+    fn parenthesized(&self, tokens: &mut Cursor<'_>) -> Result<Tall, Fault>
+        requires nests { Nests self.now.depth (F.pre self.now.inner) (F.post self.now.inner) }
+        requires small { self.now.depth < 2 ^ 31 }
+        ensures { Reads (suc self.now.depth) (spec.parenthesized self.now.depth (spec.read self.now.depth) tokens.old) result tokens.new }
+    {
+        if self.depth == 0 {
+            return Err(Fault::Deep);
+        }
+        let at = tokens.skip()?;
+        let (tree, height, _) = self.inner(tokens, Level::Whole)?;
+        tokens.want(Sign::Close)?;
+        Ok((tree, height + 1, at))
+    }
+
+    #[tactic(auto, unfolding(crate::specs::Reading::atom))]
+    fn atom(&self, tokens: &mut Cursor<'_>) -> Result<Tall, Fault>
+        requires nests { Nests self.now.depth (F.pre self.now.inner) (F.post self.now.inner) }
+        requires small { self.now.depth < 2 ^ 31 }
+        ensures { Reads (suc self.now.depth) (spec.atom self.now.depth (spec.read self.now.depth) tokens.old) result tokens.new }
+    {
+        match tokens.peek() {
+            Sign::Number => {
+                let (number, at) = tokens.number()?;
+                Ok((placed(at, ExprKind::Num(number)), 1, at))
+            }
+            Sign::True => {
+                let at = tokens.skip()?;
+                Ok((placed(at, ExprKind::Truth(true)), 1, at))
+            }
+            Sign::False => {
+                let at = tokens.skip()?;
+                Ok((placed(at, ExprKind::Truth(false)), 1, at))
+            }
+            Sign::Name => {
+                let (name, at) = tokens.name(self.alloc)?;
+                Ok((placed(at, ExprKind::Var(name)), 1, at))
+            }
+            Sign::Open => self.parenthesized(tokens),
+            _ => Err(Fault::Syntax),
+        }
+    }
+
+    #[tactic(auto, unfolding(crate::specs::Reading::prefixed))]
+    fn prefixed(&self, tokens: &mut Cursor<'_>, op: UnOp) -> Result<Tall, Fault>
+        requires nests { Nests self.now.depth (F.pre self.now.inner) (F.post self.now.inner) }
+        requires small { self.now.depth < 2 ^ 31 }
+        ensures { Reads (suc self.now.depth) (spec.prefixed self.now.depth (spec.read self.now.depth) op tokens.old) result tokens.new }
+    {
+        if self.depth == 0 {
+            return Err(Fault::Deep);
+        }
+        let at = tokens.skip()?;
+        let below = self.inner(tokens, Level::Prefix)?;
+        Ok(unary(self.alloc, at, op, below)?)
+    }
+
+    #[tactic(auto, unfolding(crate::specs::Reading::prefix))]
+    fn prefix(&self, tokens: &mut Cursor<'_>) -> Result<Tall, Fault>
+        requires nests { Nests self.now.depth (F.pre self.now.inner) (F.post self.now.inner) }
+        requires small { self.now.depth < 2 ^ 31 }
+        ensures { Reads (suc self.now.depth) (spec.prefix self.now.depth (spec.read self.now.depth) tokens.old) result tokens.new }
+    {
+        match prefixes(tokens.peek()) {
+            None => self.atom(tokens),
+            Some(op) => self.prefixed(tokens, op),
+        }
+    }
+
+    /// An operator after `x`, and its right side.
+    #[tactic(auto, unfolding(crate::specs::Reading::operation))]
+    fn operation(
+        &self,
+        tokens: &mut Cursor<'_>,
+        level: Level,
+        x: Tall,
+        op: BinOp,
+    ) -> Result<Tall, Fault>
+        requires nests { Nests self.now.depth (F.pre self.now.inner) (F.post self.now.inner) }
+        requires small { self.now.depth < 2 ^ 31 }
+        requires low { x.1 ≤ suc self.now.depth }
+        ensures { Reads (suc self.now.depth) (spec.operation self.now.depth (spec.read self.now.depth) level spec.pure x op tokens.old) result tokens.new }
+    {
+        if x.1 > self.depth {
+            return Err(Fault::Deep);
+        }
+        tokens.skip()?;
+        let right = self.inner(tokens, level)?;
+        Ok(join(self.alloc, op, x, right)?)
+    }
+
+    /// The operators of the level that follow `first`.
+    fn turns(&self, tokens: &mut Cursor<'_>, level: Level, first: Tall) -> Result<Tall, Fault>
+        requires nests { Nests self.now.depth (F.pre self.now.inner) (F.post self.now.inner) }
+        requires small { self.now.depth < 2 ^ 31 }
+        requires low { first.1 ≤ suc self.now.depth }
+        ensures { Reads (suc self.now.depth) (spec.turns self.now.depth (spec.read self.now.depth) (suc self.now.depth) level first tokens.old) result tokens.new }
+    {
+        let mut x = first;
+        for _turn in 0..self.depth + 1 {
+            match repeated(level, tokens.peek()) {
+                None => return Ok(x),
+                Some(op) => x = self.operation(tokens, operand(level), x, op)?,
+            }
+        }
+        Err(Fault::Deep)
+    }
+
+    #[tactic(auto, unfolding(crate::specs::Reading::product))]
+    fn product(&self, tokens: &mut Cursor<'_>) -> Result<Tall, Fault>
+        requires nests { Nests self.now.depth (F.pre self.now.inner) (F.post self.now.inner) }
+        requires small { self.now.depth < 2 ^ 31 }
+        ensures { Reads (suc self.now.depth) (spec.product self.now.depth (spec.read self.now.depth) tokens.old) result tokens.new }
+    {
+        let first = self.prefix(tokens)?;
+        self.turns(tokens, Level::Product, first)
+    }
+
+    #[tactic(auto, unfolding(crate::specs::Reading::sum))]
+    fn sum(&self, tokens: &mut Cursor<'_>) -> Result<Tall, Fault>
+        requires nests { Nests self.now.depth (F.pre self.now.inner) (F.post self.now.inner) }
+        requires small { self.now.depth < 2 ^ 31 }
+        ensures { Reads (suc self.now.depth) (spec.sum self.now.depth (spec.read self.now.depth) tokens.old) result tokens.new }
+    {
+        let first = self.product(tokens)?;
+        self.turns(tokens, Level::Sum, first)
+    }
+
+    #[tactic(auto, unfolding(crate::specs::Reading::relation))]
+    fn relation(&self, tokens: &mut Cursor<'_>) -> Result<Tall, Fault>
+        requires nests { Nests self.now.depth (F.pre self.now.inner) (F.post self.now.inner) }
+        requires small { self.now.depth < 2 ^ 31 }
+        ensures { Reads (suc self.now.depth) (spec.relation self.now.depth (spec.read self.now.depth) tokens.old) result tokens.new }
+    {
+        let first = self.sum(tokens)?;
+        match compares(tokens.peek()) {
+            None => Ok(first),
+            Some(op) => self.operation(tokens, Level::Sum, first, op),
+        }
+    }
+
+    #[tactic(auto, unfolding(crate::specs::Reading::junction))]
+    fn junction(&self, tokens: &mut Cursor<'_>) -> Result<Tall, Fault>
+        requires nests { Nests self.now.depth (F.pre self.now.inner) (F.post self.now.inner) }
+        requires small { self.now.depth < 2 ^ 31 }
+        ensures { Reads (suc self.now.depth) (spec.junction self.now.depth (spec.read self.now.depth) tokens.old) result tokens.new }
+    {
+        let first = self.relation(tokens)?;
+        match tokens.peek() {
+            Sign::And => self.turns(tokens, Level::Conjunction, first),
+            _ => self.turns(tokens, Level::Disjunction, first),
+        }
+    }
+
+    /// `==>` after `x`, and its right side, which may have `==>` again.
+    fn implied(&self, tokens: &mut Cursor<'_>, x: Tall) -> Result<Tall, Fault>
+        requires nests { Nests self.now.depth (F.pre self.now.inner) (F.post self.now.inner) }
+        requires small { self.now.depth < 2 ^ 31 }
+        requires low { x.1 ≤ suc self.now.depth }
+        ensures { Reads (suc self.now.depth) (spec.operation self.now.depth (spec.read self.now.depth) Right spec.pure x op.Implies tokens.old) result tokens.new }
+    {
+        self.operation(tokens, Level::Right, x, BinOp::Implies)
+    }
+
+    #[tactic(auto, unfolding(crate::specs::Reading::right))]
+    fn right(&self, tokens: &mut Cursor<'_>) -> Result<Tall, Fault>
+        requires nests { Nests self.now.depth (F.pre self.now.inner) (F.post self.now.inner) }
+        requires small { self.now.depth < 2 ^ 31 }
+        ensures { Reads (suc self.now.depth) (spec.right self.now.depth (spec.read self.now.depth) tokens.old) result tokens.new }
+    {
+        let first = self.junction(tokens)?;
+        match tokens.peek() {
+            Sign::Implies => self.implied(tokens, first),
+            _ => Ok(first),
+        }
+    }
+
+    #[tactic(auto, unfolding(crate::specs::Reading::implication))]
+    fn implication(&self, tokens: &mut Cursor<'_>) -> Result<Tall, Fault>
+        requires nests { Nests self.now.depth (F.pre self.now.inner) (F.post self.now.inner) }
+        requires small { self.now.depth < 2 ^ 31 }
+        ensures { Reads (suc self.now.depth) (spec.implication self.now.depth (spec.read self.now.depth) tokens.old) result tokens.new }
+    {
+        let first = self.junction(tokens)?;
+        match tokens.peek() {
+            Sign::Implies => self.implied(tokens, first),
+            _ => self.turns(tokens, Level::Explied, first),
+        }
+    }
+
+    #[tactic(auto, unfolding(crate::specs::Reading::whole))]
+    fn whole(&self, tokens: &mut Cursor<'_>) -> Result<Tall, Fault>
+        requires nests { Nests self.now.depth (F.pre self.now.inner) (F.post self.now.inner) }
+        requires small { self.now.depth < 2 ^ 31 }
+        ensures { Reads (suc self.now.depth) (spec.whole self.now.depth (spec.read self.now.depth) tokens.old) result tokens.new }
+    {
+        let first = self.implication(tokens)?;
+        self.turns(tokens, Level::Whole, first)
+    }
+
+    fn layer(&self, tokens: &mut Cursor<'_>, level: Level) -> Result<Tall, Fault>
+        requires nests { Nests self.now.depth (F.pre self.now.inner) (F.post self.now.inner) }
+        requires small { self.now.depth < 2 ^ 31 }
+        ensures { Reads (suc self.now.depth) (spec.layer self.now.depth (spec.read self.now.depth) level tokens.old) result tokens.new }
+    {
+        match level {
+            Level::Whole => self.whole(tokens),
+            Level::Implication => self.implication(tokens),
+            Level::Right => self.right(tokens),
+            Level::Explied => {
+                let first = self.junction(tokens)?;
+                self.turns(tokens, Level::Explied, first)
+            }
+            Level::Junction => self.junction(tokens),
+            Level::Conjunction => {
+                let first = self.relation(tokens)?;
+                self.turns(tokens, Level::Conjunction, first)
+            }
+            Level::Disjunction => {
+                let first = self.relation(tokens)?;
+                self.turns(tokens, Level::Disjunction, first)
+            }
+            Level::Relation => self.relation(tokens),
+            Level::Sum => self.sum(tokens),
+            Level::Product => self.product(tokens),
+            Level::Prefix => self.prefix(tokens),
+            Level::Atom => self.atom(tokens),
+        }
+    }
+}
+
+/// No expression has height 0.
+#[tactic(auto, unfolding(crate::specs::Reading::read))]
+fn none(tokens: &mut Cursor<'_>, level: Level) -> Result<Tall, Fault>
+    ensures { Reads 0 (spec.read 0 level tokens.old) result tokens.new }
+{
+    if begins(tokens.peek()) {
+        Err(Fault::Deep)
+    } else {
+        Err(Fault::Syntax)
+    }
+}
+
+/// The expression of this height at most that the tokens begin with.
+pub fn read(alloc: Global, tokens: &mut Cursor<'_>, depth: u32, level: Level) -> Result<Tall, Fault>
+    requires { depth < 2 ^ 31 }
+    ensures { Reads depth (spec.read depth level tokens.old) result tokens.new }
+{
+    if depth == 0 {
+        return none(tokens, level);
+    }
+    Grammar {
+        alloc,
+        depth: depth - 1,
+        inner: read,
+    }
+    .layer(tokens, level)
+}
