@@ -1,0 +1,4 @@
+pub mod Keep
+pub mod Adequate
+pub mod Runs
+pub mod Sorted
