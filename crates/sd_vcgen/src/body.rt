@@ -1,6 +1,6 @@
 //! The statements of a body run on terms, under a path that says when they are reached.
-ghost use Rattle.std.specs.Prelude.{◌≡◌, ◌<◌, [], ◌∷◌, IfOk, OnOk, All, length, map};
-ghost use Rattle.std.specs.List.{zip};
+ghost use Rattle.std.specs.Prelude.{◌≡◌, ◌<◌, [], ◌∷◌, ◌++◌, IfOk, OnOk, All, length, map};
+ghost use Rattle.std.specs.List.{zip, IsDistinct};
 ghost use Rattle.indexmap.specs.IndexMap.{insert_all};
 ghost use Rattle.sd_base.specs.Value.{same_text};
 ghost use Rattle.sd_ast.specs.Tree.{names_of};
@@ -8,15 +8,14 @@ ghost use Rattle.sd_ast.specs.Boolean.{IsBooleanProc};
 ghost use Rattle.sd_term.specs.Bank.{tree_at};
 ghost use Rattle.sd_term.specs.Build.{Extends, not_of, and_of};
 ghost use Rattle.sd_vcgen.specs.Body as spec;
-ghost use Rattle.sd_vcgen.specs.Body.{constant, unary, binary, term_named, term_of, assert, assign, guard_of, step, all_steps, starting, flag_of};
+ghost use Rattle.sd_vcgen.specs.Body.{constant, unary, binary, term_named, term_of, assert, assign, guard_of, step, all_steps, starting, begun, flag_of};
 ghost use Rattle.sd_vcgen.specs.Numbers.{Denotes, store_of, AreWithin, Stands, state_of, IsWithin};
-
-use std::alloc::Global;
 
 use indexmap::IndexMap;
 use sd_ast::{BinOp, Expr, ExprKind, Left, Proc, Stmt, StmtKind, UnOp};
 use sd_base::{CloneOf, Name, NoMemory, Var};
 use sd_term::{Bank, Head, Op, TermId};
+use std::alloc::Global;
 
 /// What the variables of a body hold, whether an assertion has failed, and whether the body has ended.
 #[derive(Drop)]
@@ -45,15 +44,38 @@ pub fn flag_term(
     let Some(body) = &procedure.body else {
         return put_truth(bank, false);
     };
-    let flag = put_truth(bank, false)?;
-    let gone = put_truth(bank, false)?;
-    let mut store = IndexMap::new(alloc);
-    declare_inputs(alloc, &mut store, procedure.head.ins.as_slice(), inputs)?;
-    declare_locals(alloc, bank, &mut store, body.locals.as_slice())?;
-    let mut state = BodyState { store, flag, gone };
+    let mut state = begin(
+        alloc,
+        bank,
+        procedure.head.ins.as_slice(),
+        inputs,
+        body.locals.as_slice(),
+    )?;
     let path = put_truth(bank, true)?;
     run_statements(bank, &mut state, path, body.stmts.as_slice())?;
     Ok(state.flag)
+}
+
+/// Where a body begins.
+fn begin(
+    alloc: Global,
+    bank: &mut Bank,
+    parameters: &[Var],
+    inputs: &[TermId],
+    locals: &[Var],
+) -> Result<BodyState, NoMemory>
+    requires count { length inputs.now ≡ length parameters.now }
+    requires inputs { All (λ id. id < length bank.old) inputs.now }
+    requires distinct { IsDistinct same_text (names_of parameters.now ++ names_of locals.now) }
+    ensures state { IfOk result (λ s. Stands bank.new s (begun (names_of parameters.now) (map (tree_at bank.old) inputs.now) locals.now)) }
+    ensures kept { OnOk result (Extends bank.old bank.new) }
+{
+    let flag = put_truth(bank, false)?;
+    let gone = put_truth(bank, false)?;
+    let mut store = IndexMap::new(alloc);
+    declare_inputs(alloc, &mut store, parameters, inputs)?;
+    declare_locals(alloc, bank, &mut store, locals)?;
+    Ok(BodyState { store, flag, gone })
 }
 
 /// Gives each in-parameter the term of its input.
@@ -101,6 +123,7 @@ fn put_truth(bank: &mut Bank, value: bool) -> Result<TermId, NoMemory>
     bank.put_tree(Head::Op(op), &[])
 }
 
+#[tactic(auto, using(crate::proofs::Numbers::within_later))]
 fn put_expression(
     bank: &mut Bank,
     store: &IndexMap<Name, TermId>,
@@ -108,6 +131,7 @@ fn put_expression(
 ) -> Result<TermId, NoMemory>
     requires { AreWithin bank.old store.now.entries }
     ensures term { IfOk result (λ id. Denotes bank.new id (term_of (store_of bank.old store.now.entries) expression.now)) }
+    ensures store { OnOk result (AreWithin bank.new store.now.entries) }
     ensures kept { OnOk result (Extends bank.old bank.new) }
 {
     match expression {
@@ -295,6 +319,36 @@ fn run_return(bank: &mut Bank, state: &mut BodyState, path: TermId) -> Result<()
     leave(bank, state, guard)
 }
 
+/// The paths of the two branches of an `if`.
+#[derive(Drop)]
+struct Branches {
+    then_path: TermId,
+    else_path: TermId,
+}
+
+fn put_branches(
+    bank: &mut Bank,
+    state: &BodyState,
+    path: TermId,
+    condition: &ExprKind,
+) -> Result<Branches, NoMemory>
+    requires state { IsWithin bank.old state.now }
+    requires path { path < length bank.old }
+    ensures then_path { IfOk result (λ b. Denotes bank.new b.then_path (and_of (tree_at bank.old path) (term_of (state_of bank.old state.now).store condition.now))) }
+    ensures else_path { IfOk result (λ b. Denotes bank.new b.else_path (and_of (tree_at bank.old path) (not_of (term_of (state_of bank.old state.now).store condition.now)))) }
+    ensures state { OnOk result (IsWithin bank.new state.now) }
+    ensures kept { OnOk result (Extends bank.old bank.new) }
+{
+    let holds = put_expression(bank, &state.store, condition)?;
+    let then_path = bank.and(path, holds)?;
+    let fails = bank.not(holds)?;
+    let else_path = bank.and(path, fails)?;
+    Ok(Branches {
+        then_path,
+        else_path,
+    })
+}
+
 #[cycle(statement)]
 fn run_statement(
     bank: &mut Bank,
@@ -305,6 +359,7 @@ fn run_statement(
     requires state { IsWithin bank.old state.old }
     requires path { path < length bank.old }
     ensures state { OnOk result (Stands bank.new state.new (step statement.now (tree_at bank.old path) (state_of bank.old state.old))) }
+    ensures within { OnOk result (IsWithin bank.new state.new) }
     ensures kept { OnOk result (Extends bank.old bank.new) }
 {
     match statement {
@@ -313,12 +368,9 @@ fn run_statement(
             run_assignments(bank, state, path, lefts.as_slice(), rights.as_slice())
         }
         StmtKind::If(condition, yes, no) => {
-            let condition = put_expression(bank, &state.store, &condition.kind)?;
-            let yes_path = bank.and(path, condition)?;
-            run_statements(bank, state, yes_path, yes.as_slice())?;
-            let opposite = bank.not(condition)?;
-            let no_path = bank.and(path, opposite)?;
-            run_statements(bank, state, no_path, no.as_slice())
+            let paths = put_branches(bank, state, path, &condition.kind)?;
+            run_statements(bank, state, paths.then_path, yes.as_slice())?;
+            run_statements(bank, state, paths.else_path, no.as_slice())
         }
         StmtKind::Return => run_return(bank, state, path),
         _ => Ok(()),
@@ -335,6 +387,7 @@ fn run_statements(
     requires state { IsWithin bank.old state.old }
     requires path { path < length bank.old }
     ensures state { OnOk result (Stands bank.new state.new (all_steps statements.now (tree_at bank.old path) (state_of bank.old state.old))) }
+    ensures within { OnOk result (IsWithin bank.new state.new) }
     ensures kept { OnOk result (Extends bank.old bank.new) }
 {
     for statement in statements {
