@@ -39,7 +39,7 @@ sorted_truths = record {
   ites = λ c a b h k l. (ite-well c a b h.0 k.0 l.0 h.1 (k.1 ∙ sym l.1), ite-sort c a b ∙ k.1);
 }
 
-starting-sorted : (vars : List Var) → AreBooleanVars vars → AllHold IsSortedTruth (starting vars)
+pub starting-sorted : (vars : List Var) → AreBooleanVars vars → AllHold IsSortedTruth (starting vars)
 starting-sorted [] h = tt
 starting-sorted (x ∷ xs) h = (((tt, refl), h.0), starting-sorted xs h.1)
 
