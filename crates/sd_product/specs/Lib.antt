@@ -1,0 +1,3 @@
+pub mod Query
+pub mod Laws
+pub mod Numbers

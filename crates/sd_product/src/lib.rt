@@ -1,0 +1,7 @@
+//! Queries about pairs of procedures, and what they are good for.
+#![tactic(auto)]
+
+pub mod laws;
+mod pair;
+
+pub use pair::{Candidate, pair_query};
