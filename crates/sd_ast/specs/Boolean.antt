@@ -1,7 +1,7 @@
 -- The programs that this version takes: procedures over truth values, without results, contracts, calls and loops.
 use Rattle.std.specs.Prelude.{◌≡◌, List, [], ◌∷◌, ◌++◌, Option, Some, None, Contains}
 use Rattle.std.specs.List.{IsDistinct}
-use Rattle.sd_base.specs.declared.sort.Sort.{Sort, Bool as BoolSort}
+use Rattle.sd_base.specs.declared.sort.Sort.{Bool as BoolSort}
 use Rattle.sd_base.specs.declared.sort.Var.{Var}
 use Rattle.sd_base.specs.Value.{Text, same_text}
 use Rattle.sd_ast.specs.declared.tree.BinOp.TheVariants as op

@@ -1,9 +1,9 @@
 -- the test is the relation, and a cast has the type
-use Rattle.std.proofs.Common.{◌≡◌, Bool, true, false, refl, sym, ap, ◌∙◌, subst}
+use Rattle.std.proofs.Common.{◌≡◌, Bool, true, false, refl}
 use Rattle.std.specs.Prelude.{not, ◌&&◌, if◌then◌else◌}
 use Rattle.std.specs.Cmp.Lexicographic.{bytes_decides}
-use Rattle.sd_base.specs.declared.sort.Sort.{Sort, Int, Bool as BoolSort, Named, Map', more_of-Sort, end_of-Sort}
-use Rattle.sd_base.specs.Value.{Value, Number, Truth, Element, Map, Entries, no_entry, entry, Index, at_number, at_element, same_value, same_text}
+use Rattle.sd_base.specs.declared.sort.Sort.{Sort, Int, Bool as BoolSort, Named}
+use Rattle.sd_base.specs.Value.{Value, Number, Truth, Element, Map, Entries, no_entry, entry, Index, at_number, at_element, same_value}
 use Rattle.sd_base.specs.Sorts.{MapOf, IsIndexOf, is_before, AreEntries, HasSort}
 use Rattle.sd_base.specs.Cast.{is_index_of, are_entries, has_sort, default_of, cast}
 

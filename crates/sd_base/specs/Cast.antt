@@ -1,6 +1,6 @@
 -- whether a value is one of a type, as a test, and the cast by it
 use Rattle.std.specs.Prelude.{pos, Bool, true, false, not, ◌&&◌, if◌then◌else◌}
-use Rattle.sd_base.specs.declared.sort.Sort.{Sort, Int, Bool as BoolSort, Named, Map', more_of-Sort, end_of-Sort}
+use Rattle.sd_base.specs.declared.sort.Sort.{Sort, Int, Bool as BoolSort, Named}
 use Rattle.sd_base.specs.Value.{Value, Number, Truth, Element, Map, Entries, no_entry, entry, Index, at_number, at_element, same_value, same_text}
 use Rattle.sd_base.specs.Sorts.{MapOf, is_before}
 

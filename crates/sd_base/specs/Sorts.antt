@@ -38,4 +38,3 @@ value_sort _ = BoolSort
 abbrev pub index_sort : Sort → Sort
 index_sort (MapOf i v) = i
 index_sort _ = Int
-

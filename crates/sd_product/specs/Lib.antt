@@ -1,3 +1,4 @@
 pub mod Query
 pub mod Laws
 pub mod Numbers
+pub mod Straight

@@ -3,5 +3,7 @@
 
 pub mod laws;
 mod pair;
+mod straight;
 
 pub use pair::{Candidate, pair_query};
+pub use straight::{Straight, straight_pairs};

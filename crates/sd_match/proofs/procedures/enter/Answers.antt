@@ -1,9 +1,5 @@
-use Rattle.std.proofs.Common.{◌≡◌, ◌∙◌, sym, ap, subst}
-use Rattle.std.specs.Prelude.{Option, Some, if◌then◌else◌}
 use Rattle.std.specs.HashMap.{get}
 use Rattle.sd_base.specs.Value.{same_text}
-use Rattle.sd_ast.specs.declared.Decl.{Decl}
-use Rattle.sd_match.specs.Places.{is_procedure_named}
 use Rattle.sd_match.proofs.PlaceLemmas.{entered}
 use Rattle.sd_match.proofs.procedures.enter.Goals as goal
 

@@ -1,4 +1,4 @@
-use Rattle.std.proofs.Common.{◌≡◌, ◌∙◌, sym}
+use Rattle.std.proofs.Common.{◌∙◌, sym}
 use Rattle.sd_match.proofs.PlaceLemmas.{place_none, place_not_past, found_is}
 use Rattle.sd_match.proofs.procedures.Procedures.named.Goals as goal
 

@@ -1,5 +1,5 @@
-use Rattle.std.proofs.Common.{◌≡◌, ◌∙◌, sym, ap, arith, ◌-◌, ◌<◌, suc, refl, length}
-use Rattle.std.specs.Prelude.{Option, Some, if◌then◌else◌}
+use Rattle.std.proofs.Common.{◌≡◌, ◌∙◌, sym, ap, arith, ◌-◌, ◌<◌, suc, length}
+use Rattle.std.specs.Prelude.{Some, if◌then◌else◌}
 use Rattle.sd_match.specs.Places.{is_procedure_named}
 use Rattle.sd_match.proofs.PlaceLemmas.{place_more}
 use Rattle.sd_match.proofs.procedures.Procedures.new.Goals as goal

@@ -1,0 +1,5 @@
+pub mod Reports
+pub mod Texts
+pub mod Tables
+pub mod Settling
+pub mod VerdictLemmas

@@ -1,0 +1,191 @@
+ghost use Rattle.std.specs.Prelude.{◌≡◌, ◌++◌, IfOk, OnOk, codes, decimal, count_by, [], if◌then◌else◌};
+ghost use Rattle.std.specs.List.{flat_map};
+ghost use Rattle.symdiff.specs.Report.{line_end, beginning, ending, verdict_line, only_line, is_axiom, summary, report, count_of, is_safe, is_unknown, is_refused};
+
+use crate::verdict::{PairVerdict, VerdictState};
+use sd_ast::{Decl, Proc, Program};
+use sd_base::NoMemory;
+use sd_match::Procedures;
+use std::alloc::Global;
+
+fn beginning(state: VerdictState) -> &'static [u8]
+    ensures { result.now ≡ beginning state }
+{
+    match state {
+        VerdictState::Safe => b"safe ",
+        VerdictState::Unknown => b"unknown ",
+        VerdictState::Signature => b"refused ",
+    }
+}
+
+fn ending(state: VerdictState) -> &'static [u8]
+    ensures { result.now ≡ ending state }
+{
+    match state {
+        VerdictState::Signature => b" signature\n",
+        _ => b"\n",
+    }
+}
+
+fn push_verdict(out: &mut Vec<u8>, verdict: &PairVerdict) -> Result<(), NoMemory>
+    ensures { OnOk result (out.new.items ≡ out.old.items ++ verdict_line verdict.now) }
+{
+    out.extend_from_slice(beginning(verdict.state))?;
+    out.extend_from_slice(verdict.old.as_bytes())?;
+    out.extend_from_slice(b" ")?;
+    out.extend_from_slice(verdict.new.as_bytes())?;
+    out.extend_from_slice(ending(verdict.state))?;
+    Ok(())
+}
+
+fn push_verdicts(out: &mut Vec<u8>, verdicts: &[PairVerdict]) -> Result<(), NoMemory>
+    ensures { OnOk result (out.new.items ≡ out.old.items ++ flat_map verdict_line verdicts.now) }
+{
+    'verdicts: for verdict in verdicts {
+        push_verdict(out, verdict)?;
+    }
+    Ok(())
+}
+
+/// A line for a procedure without partner among the others.
+fn push_only(
+    out: &mut Vec<u8>,
+    word: &[u8],
+    decl: &Decl,
+    others: &Procedures<'_>,
+) -> Result<(), NoMemory>
+    ensures { OnOk result (out.new.items ≡ out.old.items ++ only_line word.now others.now.decls.now decl.now) }
+{
+    match decl {
+        Decl::Procedure(proc) => {
+            push_unless(out, word, proc, others.named(&proc.head.name).is_some())
+        }
+        _ => Ok(()),
+    }
+}
+
+/// A line for a procedure, unless there is a partner.
+fn push_unless(
+    out: &mut Vec<u8>,
+    word: &[u8],
+    proc: &Proc,
+    has_partner: bool,
+) -> Result<(), NoMemory>
+    ensures { OnOk result (out.new.items ≡ out.old.items ++ (if has_partner then [] else word.now ++ proc.now.head.name ++ line_end)) }
+{
+    if !has_partner {
+        out.extend_from_slice(word)?;
+        out.extend_from_slice(proc.head.name.as_bytes())?;
+        out.extend_from_slice(b"\n")?;
+    }
+    Ok(())
+}
+
+/// Lines for the procedures that have no partner among the others.
+fn push_all_only(
+    out: &mut Vec<u8>,
+    word: &[u8],
+    decls: &[Decl],
+    others: &Procedures<'_>,
+) -> Result<(), NoMemory>
+    ensures { OnOk result (out.new.items ≡ out.old.items ++ flat_map (only_line word.now others.now.decls.now) decls.now) }
+{
+    'decls: for decl in decls {
+        push_only(out, word, decl, others)?;
+    }
+    Ok(())
+}
+
+fn push_count(alloc: Global, out: &mut Vec<u8>, word: &[u8], count: usize) -> Result<(), NoMemory>
+    ensures { OnOk result (out.new.items ≡ out.old.items ++ word.now ++ decimal count) }
+{
+    out.extend_from_slice(word)?;
+    let digits = count.to_string(alloc)?;
+    out.extend_from_slice(digits.as_bytes())?;
+    Ok(())
+}
+
+fn count_safe(verdicts: &[PairVerdict]) -> usize
+    ensures { result ≡ count_of is_safe verdicts.now }
+{
+    verdicts.iter().filter(|v| v.state.is_safe()).count()
+}
+
+fn count_unknown(verdicts: &[PairVerdict]) -> usize
+    ensures { result ≡ count_of is_unknown verdicts.now }
+{
+    verdicts.iter().filter(|v| v.state.is_unknown()).count()
+}
+
+fn count_refused(verdicts: &[PairVerdict]) -> usize
+    ensures { result ≡ count_of is_refused verdicts.now }
+{
+    verdicts.iter().filter(|v| v.state.is_refused()).count()
+}
+
+#[tactic(auto, unfolding(crate::specs::Report::is_axiom))]
+fn is_axiom(decl: &Decl) -> bool
+    ensures { result ≡ is_axiom decl.now }
+{
+    match decl {
+        Decl::Axiom(_) => true,
+        _ => false,
+    }
+}
+
+fn count_axioms(decls: &[Decl]) -> usize
+    ensures { result ≡ count_by is_axiom decls.now }
+{
+    let mut count = 0;
+    'decls: for decl in decls {
+        if is_axiom(decl) {
+            count += 1;
+        }
+    }
+    count
+}
+
+fn push_summary(
+    alloc: Global,
+    out: &mut Vec<u8>,
+    verdicts: &[PairVerdict],
+    old_axioms: usize,
+    new_axioms: usize,
+) -> Result<(), NoMemory>
+    ensures { OnOk result (out.new.items ≡ out.old.items ++ summary verdicts.now old_axioms new_axioms) }
+{
+    push_count(alloc, out, b"pairs ", verdicts.len())?;
+    push_count(alloc, out, b" safe ", count_safe(verdicts))?;
+    push_count(alloc, out, b" equal 0 unknown ", count_unknown(verdicts))?;
+    push_count(alloc, out, b" refused ", count_refused(verdicts))?;
+    push_count(alloc, out, b" axioms ", old_axioms)?;
+    push_count(alloc, out, b" ", new_axioms)?;
+    out.extend_from_slice(b"\n")?;
+    Ok(())
+}
+
+/// The report on two programs whose pairs have these verdicts: a line a pair, a line for each procedure
+/// without partner, old text first, and the line of the counts.
+pub fn report_of(
+    alloc: Global,
+    old: &Program,
+    new: &Program,
+    verdicts: &[PairVerdict],
+) -> Result<Vec<u8>, NoMemory>
+    ensures { IfOk result (λ text. text.items ≡ report old.now.decls new.now.decls verdicts.now) }
+{
+    let olds = Procedures::new(alloc, old)?;
+    let news = Procedures::new(alloc, new)?;
+    let mut out = Vec::new(alloc);
+    push_verdicts(&mut out, verdicts)?;
+    push_all_only(&mut out, b"only old ", olds.decls, &news)?;
+    push_all_only(&mut out, b"only new ", news.decls, &olds)?;
+    push_summary(
+        alloc,
+        &mut out,
+        verdicts,
+        count_axioms(olds.decls),
+        count_axioms(news.decls),
+    )?;
+    Ok(out)
+}

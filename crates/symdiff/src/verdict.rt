@@ -1,0 +1,49 @@
+ghost use Rattle.std.specs.Prelude.{◌≡◌};
+
+use sd_base::Name;
+
+/// What is said of a pair of procedures.
+#[derive(Clone, Copy, Debug, PartialEq, Eq)]
+pub enum VerdictState {
+    /// No equal input lets the old procedure end while the new one fails.
+    Safe,
+    /// No claim on the flags of the pair was proved.
+    Unknown,
+    /// The types of the parameters differ.
+    Signature,
+}
+
+impl VerdictState {
+    ghost use Rattle.symdiff.specs.Report.{is_safe, is_unknown, is_refused};
+
+    /// Whether the pair is safe.
+    pub fn is_safe(self) -> bool
+        ensures { result ≡ is_safe self }
+    {
+        matches!(self, VerdictState::Safe)
+    }
+
+    /// Whether the pair is unknown.
+    pub fn is_unknown(self) -> bool
+        ensures { result ≡ is_unknown self }
+    {
+        matches!(self, VerdictState::Unknown)
+    }
+
+    /// Whether the pair is refused.
+    pub fn is_refused(self) -> bool
+        ensures { result ≡ is_refused self }
+    {
+        matches!(self, VerdictState::Signature)
+    }
+}
+
+/// The verdict of a pair of procedures, with their names in the old and in the new text.
+#[derive(Debug, Drop)]
+pub struct PairVerdict {
+    pub old: Name,
+    pub new: Name,
+    pub state: VerdictState,
+    /// Whether the outputs were shown to be equal. No such claim is made yet.
+    pub equal: bool,
+}
