@@ -5,4 +5,5 @@ pub mod Refuted
 pub mod Tables
 pub mod Opened
 pub mod Cubes
+pub mod Propositions
 pub mod Steps

@@ -5,3 +5,4 @@ pub mod Proof
 pub mod Branches
 pub mod Told
 pub mod OpenCube
+pub mod Propositions

@@ -1,10 +1,10 @@
 -- a step that is chosen can be made, leaves less work, and keeps the facts in front
-use Rattle.std.proofs.Common.{◌≡◌, ℕ, zero, suc, ◌+◌, ◌<◌, List, [], ◌∷◌, ◌++◌, map, length, get_or, refl, sym, ap, ◌∙◌, subst, Bool, true, false, not, cond, ◌&&◌, ◌||◌, Option, Some, None, unwrap_or, take, slice_get, arith, append_assoc, All}
+use Rattle.std.proofs.Common.{◌≡◌, ℕ, zero, suc, ◌<◌, List, [], ◌∷◌, ◌++◌, map, length, get_or, refl, sym, ap, ◌∙◌, Bool, true, false, not, cond, ◌||◌, Option, Some, None, unwrap_or, take, slice_get, arith, append_assoc, All}
 use Rattle.sd_base.specs.declared.sort.Sort.{Sort}
 use Rattle.sd_base.specs.declared.sort.Sort.{Bool as Truth}
 use Rattle.sd_term.specs.declared.node.Head.{Head}
 use Rattle.sd_term.specs.declared.node.Head.TheVariants.{Sym, Start}
-use Rattle.sd_term.specs.Tree.{Tree, head_of, at_parts, same_tree, same_tree-true, same_tree-self}
+use Rattle.sd_term.specs.Tree.{Tree, head_of, at_parts, same_tree, same_tree-self}
 use Rattle.sd_term.specs.Bank.{tree_at}
 use Rattle.sd_term.specs.Sorts.{sort_by, sorts_of, sort_of, is_truth_sort}
 use Rattle.sd_term.proofs.Typed.{is-truth-sort}
@@ -12,10 +12,10 @@ use Rattle.sd_kernel.specs.declared.step.Step.{Step}
 use Rattle.sd_kernel.specs.declared.step.Step.TheVariants.{Split, Close}
 use Rattle.sd_kernel.specs.declared.step.StepCause.TheVariants.{Shape, Value as Value'}
 use Rattle.sd_kernel.specs.Known.{Fact, Trail, first_fact, has_fact, by_parts, known_by, known, known_by_parts, known_at, is_known}
-use Rattle.sd_kernel.specs.Steps.{Outcome, bad, leaves, named, needs, outcome}
+use Rattle.sd_kernel.specs.Steps.{leaves, named, needs, outcome}
 use Rattle.sd_kernel.specs.Proof.{start, State, IsOpen, front, goes, after, next}
 use Rattle.sd_search.specs.Atoms.{is_atom, is_atom_head}
-use Rattle.sd_search.specs.Choice.{IsFalseFact, IsOpenAtom, IsChoice}
+use Rattle.sd_search.specs.Choice.{IsChoice}
 use Rattle.sd_search.proofs.Weights.{weight, weight-close, weight-split}
 
 -- each branch begins with the facts, all true
@@ -83,7 +83,7 @@ pub split-outcome : (terms : List Tree) (b : Trail) (n : ℕ) → n < length ter
 split-outcome terms b n h a =
     ap (λ o. named o (λ t. needs (is_truth_sort (sort_of t)) Shape (leaves terms ((b ++ (t, true) ∷ []) ∷ (b ++ (t, false) ∷ []) ∷ [])))) (slice_get-tree terms n h)
     ∙ ap (λ s. needs (is_truth_sort s) Shape (leaves terms ((b ++ (tree_at terms n, true) ∷ []) ∷ (b ++ (tree_at terms n, false) ∷ []) ∷ [])))
-      (atom-sort (head_of (tree_at terms n)) (sorts_of (tree_at terms n)) a)
+    (atom-sort (head_of (tree_at terms n)) (sorts_of (tree_at terms n)) a)
 
 -- values by number
 pub known-tree : (b : Trail) (ts : List Tree) (n : ℕ) → n < length ts → known_at (map (λ t. known b t) ts) n ≡ known b (tree_at ts n)
@@ -107,18 +107,20 @@ module _ (facts terms : List Tree) (ids : List ℕ) (values : List (Option Bool)
   choice-made b others (Close k) e h c =
       let f : ℕ = get_or ids k 0 in
       let place : slice_get facts k ≡ Some (tree_at terms f) = ap (λ l. slice_get l k) (sym are) ∙ fact-at terms ids k c.0 in
-      let false_there : known b (tree_at terms f) ≡ Some false = sym (known-tree b terms f (within k 0 c.0)) ∙ ap (λ l. known_at l f) (sym e) ∙ c.1 in
-      ( others
-      , ap (after others) (close-outcome terms facts b k (tree_at terms f) h.0 place false_there)
-      , record { less = weight-close terms b others; begins = h.1 } )
+      let false_there : known b (tree_at terms f) ≡ Some false = sym (known-tree b terms f (within k 0 c.0)) ∙ ap (λ l. known_at l f) (sym e) ∙ c.1 in (
+        others,
+        ap (after others) (close-outcome terms facts b k (tree_at terms f) h.0 place false_there),
+        record { less = weight-close terms b others; begins = h.1 },
+      )
   choice-made b others (Split n) e h c =
-      let none_there : first_fact b (tree_at terms n) ≡ None = sym (atom-known b (tree_at terms n) c.1.0) ∙ sym (known-tree b terms n c.0) ∙ ap (λ l. known_at l n) (sym e) ∙ c.1.1 in
-      ( (b ++ (tree_at terms n, true) ∷ []) ∷ (b ++ (tree_at terms n, false) ∷ []) ∷ others
-      , ap (after others) (split-outcome terms b n c.0 c.1.0)
-      , record {
+      let none_there : first_fact b (tree_at terms n) ≡ None = sym (atom-known b (tree_at terms n) c.1.0) ∙ sym (known-tree b terms n c.0) ∙ ap (λ l. known_at l n) (sym e) ∙ c.1.1 in (
+        (b ++ (tree_at terms n, true) ∷ []) ∷ (b ++ (tree_at terms n, false) ∷ []) ∷ others,
+        ap (after others) (split-outcome terms b n c.0 c.1.0),
+        record {
           less = weight-split terms b others n c.0 c.1.0 none_there;
           begins = (begins-more facts b ((tree_at terms n, true) ∷ []) h.0, (begins-more facts b ((tree_at terms n, false) ∷ []) h.0, h.1));
-        } )
+        },
+      )
 
   -- the same for a walk
   pub walk-made : (s : State) (step : Step) → s.0 ≡ terms → IsOpen s → values ≡ map (λ t. known (front s) t) terms → AllBegin facts s.1 → IsChoice terms ids values step

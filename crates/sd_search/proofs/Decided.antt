@@ -1,7 +1,6 @@
 -- where no fact is false and each atom has a value, the values of the atoms are an open cube
-use Rattle.std.proofs.Common.{◌≡◌, ◌≢◌, ℕ, zero, suc, ◌+◌, ◌<◌, ◌≤◌, List, [], ◌∷◌, ◌++◌, map, length, get_or, refl, sym, ap, ◌∙◌, subst, Bool, true, false, not, cond, ◌||◌, Option, Some, None, unwrap_or, is_some, All, arith, append_assoc, append-nil, length-append}
+use Rattle.std.proofs.Common.{◌≡◌, ◌≢◌, ℕ, zero, suc, ◌<◌, ◌≤◌, List, [], ◌∷◌, ◌++◌, map, length, get_or, refl, sym, ap, ◌∙◌, subst, Bool, true, false, not, cond, ◌||◌, Option, Some, None, unwrap_or, is_some, All, arith, append_assoc, length-append}
 use Rattle.std.proofs.lemmas.List.Elements.{All-cons, All-nil}
-use Rattle.sd_base.specs.declared.sort.Sort.{Sort}
 use Rattle.sd_base.specs.declared.sort.Sort.{Bool as Truth}
 use Rattle.sd_term.specs.declared.cube.Cube.{Cube}
 use Rattle.sd_term.specs.declared.cube.Literal.{Literal}
@@ -9,12 +8,12 @@ use Rattle.sd_term.specs.Tree.{Tree, head_of, at_parts, same_tree, same_tree-tru
 use Rattle.sd_term.specs.Bank.{tree_at}
 use Rattle.sd_term.specs.Sorts.{sort_of, sorts_of, AllWellSorted}
 use Rattle.sd_term.specs.Numbering.{has, numbered}
-use Rattle.sd_kernel.specs.Known.{Fact, Trail, first_fact, by_parts, known_by, known, known_by_parts, known_at}
+use Rattle.sd_kernel.specs.Known.{Trail, first_fact, known_by, known, known_by_parts, known_at}
 use Rattle.sd_kernel.specs.OpenCube.{AllBoolean, literals_of, NoneTwice, AllKnown, NoneOpposite, IsOpenCube}
 use Rattle.sd_search.specs.Atoms.{is_atom, atom_literals}
 use Rattle.sd_search.specs.Choice.{IsDecided}
 use Rattle.sd_search.proofs.Everywhere.{Each, Everywhere, each-at}
-use Rattle.sd_search.proofs.Choices.{atom-unjudged, atom-sort, atom-known, known-tree, fact-at}
+use Rattle.sd_search.proofs.Choices.{atom-unjudged, atom-sort, atom-known, known-tree}
 use Rattle.sd_search.proofs.Good.{IsGood, facts-good, numbered-good, good-some, good-same}
 
 -- the values of the atoms, as facts
@@ -30,11 +29,11 @@ pub atom-first : (b : Trail) (ts : List Tree) (t : Tree) → has ts t ≡ true �
 atom-first b [] t h a = let f : false ≡ true = h in cc
 atom-first b (u ∷ ts) t h a =
     or-cases (same_tree u t) (has ts t) h
-      (λ e. let same : u ≡ t = same_tree-true u t e in
-            ap (λ q. first_fact (cond q ((u, unwrap_or (known b u) false) ∷ atom_facts b ts) (atom_facts b ts)) t) (ap is_atom same ∙ a)
-            ∙ ap (λ q. cond q (Some (unwrap_or (known b u) false)) (first_fact (atom_facts b ts) t)) e
-            ∙ ap (λ w. Some (unwrap_or (known b w) false)) same)
-      (λ e k. go (is_atom u) e (atom-first b ts t k a))
+    (λ e. let same : u ≡ t = same_tree-true u t e in
+    ap (λ q. first_fact (cond q ((u, unwrap_or (known b u) false) ∷ atom_facts b ts) (atom_facts b ts)) t) (ap is_atom same ∙ a)
+    ∙ ap (λ q. cond q (Some (unwrap_or (known b u) false)) (first_fact (atom_facts b ts) t)) e
+    ∙ ap (λ w. Some (unwrap_or (known b w) false)) same)
+    (λ e k. go (is_atom u) e (atom-first b ts t k a))
   where
     go : (q : Bool) → same_tree u t ≡ false → first_fact (atom_facts b ts) t ≡ Some (unwrap_or (known b t) false)
         → first_fact (cond q ((u, unwrap_or (known b u) false) ∷ atom_facts b ts) (atom_facts b ts)) t ≡ Some (unwrap_or (known b t) false)
@@ -116,15 +115,15 @@ module _ (terms : List Tree) (b : Trail) where
           → All (IsNamed i (length terms)) (cond q (record { term = i; value = unwrap_or (known b t) false } ∷ atom_literals (suc i) ts (map (λ u. known b u) ts)) (atom_literals (suc i) ts (map (λ u. known b u) ts)))
       go true a here long more =
           All-cons (IsNamed i (length terms)) (record { term = i; value = unwrap_or (known b t) false }) (atom_literals (suc i) ts (map (λ u. known b u) ts))
-            (record { from = omega arith; below = long; sort = ap sort_of here ∙ atom-sort (head_of t) (sorts_of t) a })
-            (λ k d lt. named-more i (length terms) (get_or (atom_literals (suc i) ts (map (λ u. known b u) ts)) k d) (more k d lt))
+          (record { from = omega arith; below = long; sort = ap sort_of here ∙ atom-sort (head_of t) (sorts_of t) a })
+          (λ k d lt. named-more i (length terms) (get_or (atom_literals (suc i) ts (map (λ u. known b u) ts)) k d) (more k d lt))
       go false a here long more = λ k d lt. named-more i (length terms) (get_or (atom_literals (suc i) ts (map (λ u. known b u) ts)) k d) (more k d lt)
 
   literals-once : (pre ts : List Tree) (i : ℕ) → i ≡ length pre → terms ≡ pre ++ ts → NoneTwice (atom_literals i ts (map (λ t. known b t) ts))
   literals-once pre [] i e f = tt
   literals-once pre (t ∷ ts) i e f =
       go (is_atom t) (literals-named (pre ++ t ∷ []) ts (suc i) (place-next pre t i e) (f ∙ sym (append_assoc pre (t ∷ []) ts)))
-        (literals-once (pre ++ t ∷ []) ts (suc i) (place-next pre t i e) (f ∙ sym (append_assoc pre (t ∷ []) ts)))
+      (literals-once (pre ++ t ∷ []) ts (suc i) (place-next pre t i e) (f ∙ sym (append_assoc pre (t ∷ []) ts)))
     where
       go : (q : Bool) → All (IsNamed (suc i) (length terms)) (atom_literals (suc i) ts (map (λ u. known b u) ts)) → NoneTwice (atom_literals (suc i) ts (map (λ u. known b u) ts))
           → NoneTwice (cond q (record { term = i; value = unwrap_or (known b t) false } ∷ atom_literals (suc i) ts (map (λ u. known b u) ts)) (atom_literals (suc i) ts (map (λ u. known b u) ts)))
@@ -137,16 +136,17 @@ all-known : (terms : List Tree) (a b : Trail) (facts : List Tree) → Each (Ever
     → ((t : Tree) → Everywhere (IsGood terms) t → known a t ≡ known b t) → ((t : Tree) → Everywhere (IsGood terms) t → is_some (known b t) ≡ true)
     → ((k : ℕ) (d : Tree) → k < length facts → known b (get_or facts k d) ≢ Some false) → AllKnown a facts
 all-known terms a b [] g same some n = tt
-all-known terms a b (t ∷ ts) g same some n =
-    ( same t g.0 ∙ known-true (known b t) (some t g.0) (n 0 t (omega arith))
-    , all-known terms a b ts g.1 same some (λ k d lt. n (suc k) d (omega (arith, lt))) )
+all-known terms a b (t ∷ ts) g same some n = (
+  same t g.0 ∙ known-true (known b t) (some t g.0) (n 0 t (omega arith)),
+  all-known terms a b ts g.1 same some (λ k d lt. n (suc k) d (omega (arith, lt))),
+)
 
 has-place : (ts : List Tree) (t : Tree) → has ts t ≡ true → (n : ℕ) × (n < length ts) × (tree_at ts n ≡ t)
 has-place [] t h = let f : false ≡ true = h in cc
 has-place (u ∷ ts) t h =
     or-cases (same_tree u t) (has ts t) h
-      (λ e. (0, omega arith, same_tree-true u t e))
-      (λ e k. let r = has-place ts t k in (suc r.0, omega (arith, r.1), r.2))
+    (λ e. (0, omega arith, same_tree-true u t e))
+    (λ e k. let r = has-place ts t k in (suc r.0, omega (arith, r.1), r.2))
 
 pub decided-open : (facts : List Tree) (b : Trail) (ids : List ℕ) (values : List (Option Bool)) (cube : Cube) → AllBoolean facts → AllWellSorted facts
     → All (λ f. f < length (numbered facts)) ids → map (λ f. tree_at (numbered facts) f) ids ≡ facts
@@ -154,17 +154,17 @@ pub decided-open : (facts : List Tree) (b : Trail) (ids : List ℕ) (values : Li
     → cube.extra ≡ [] → cube.literals ≡ atom_literals 0 (numbered facts) values → IsOpenCube facts cube
 decided-open facts b ids values cube boolean sorted within are is d extra lits =
     subst (λ ls. cube.literals ≡ ls → IsOpenCube facts cube) (ap (λ vs. atom_literals 0 (numbered facts) vs) (sym is))
-      (λ e. record {
-        no_extra = extra;
-        named = subst (λ ls. All (λ (l : Literal). l.term < length (numbered facts)) ls) (sym e) (λ k d lt. (names k d lt).below);
-        sorts = subst (λ ls. All (λ (l : Literal). sort_of (tree_at (numbered facts) l.term) ≡ Truth) ls) (sym e) (λ k d lt. (names k d lt).sort);
-        once = subst NoneTwice (sym e) (literals-once (numbered facts) b [] (numbered facts) 0 refl refl);
-        valued = λ n lt s. some-not-none (known (literals_of (numbered facts) cube.literals) (tree_at (numbered facts) n))
+    (λ e. record {
+      no_extra = extra;
+      named = subst (λ ls. All (λ (l : Literal). l.term < length (numbered facts)) ls) (sym e) (λ k d lt. (names k d lt).below);
+      sorts = subst (λ ls. All (λ (l : Literal). sort_of (tree_at (numbered facts) l.term) ≡ Truth) ls) (sym e) (λ k d lt. (names k d lt).sort);
+      once = subst NoneTwice (sym e) (literals-once (numbered facts) b [] (numbered facts) 0 refl refl);
+      valued = λ n lt s. some-not-none (known (literals_of (numbered facts) cube.literals) (tree_at (numbered facts) n))
           (ap (λ fs. is_some (known fs (tree_at (numbered facts) n))) (facts_are e) ∙ ap (λ (o : Option Bool). is_some o) (same (tree_at (numbered facts) n) (good n lt)) ∙ some (tree_at (numbered facts) n) (good n lt));
-        none_opposite = subst (λ fs. NoneOpposite fs fs) (sym (facts_are e)) (none-opposite (atom_facts b (numbered facts)) b (numbered facts));
-        facts_true = subst (λ fs. AllKnown fs facts) (sym (facts_are e)) (all-known (numbered facts) (atom_facts b (numbered facts)) b facts (facts-good facts boolean sorted) same some not_false);
-      })
-      lits
+      none_opposite = subst (λ fs. NoneOpposite fs fs) (sym (facts_are e)) (none-opposite (atom_facts b (numbered facts)) b (numbered facts));
+      facts_true = subst (λ fs. AllKnown fs facts) (sym (facts_are e)) (all-known (numbered facts) (atom_facts b (numbered facts)) b facts (facts-good facts boolean sorted) same some not_false);
+    })
+    lits
   where
     names : All (IsNamed (numbered facts) b 0 (length (numbered facts))) (atom_literals 0 (numbered facts) (map (λ t. known b t) (numbered facts)))
     names = literals-named (numbered facts) b [] (numbered facts) 0 refl refl
@@ -179,11 +179,11 @@ decided-open facts b ids values cube boolean sorted within are is d extra lits =
     decided t h a =
         let p = has-place (numbered facts) t h in
         not-none-some (known b t)
-          (λ n. d.1 p.0 p.1 (ap is_atom p.2 ∙ a) (ap (λ vs. known_at vs p.0) is ∙ known-tree b (numbered facts) p.0 p.1 ∙ ap (known b) p.2 ∙ n))
+        (λ n. d.1 p.0 p.1 (ap is_atom p.2 ∙ a) (ap (λ vs. known_at vs p.0) is ∙ known-tree b (numbered facts) p.0 p.1 ∙ ap (known b) p.2 ∙ n))
 
     same : (t : Tree) → Everywhere (IsGood (numbered facts)) t → known (atom_facts b (numbered facts)) t ≡ known b t
     same t g = good-same (numbered facts) (atom_facts b (numbered facts)) b
-      (λ u h a. atom-first b (numbered facts) u h a ∙ some-value (known b u) (decided u h a) ∙ atom-known b u a) t g
+        (λ u h a. atom-first b (numbered facts) u h a ∙ some-value (known b u) (decided u h a) ∙ atom-known b u a) t g
 
     some : (t : Tree) → Everywhere (IsGood (numbered facts)) t → is_some (known b t) ≡ true
     some t g = good-some (numbered facts) b decided t g

@@ -1,5 +1,5 @@
 -- what holds of each tree of a list, and of each subterm of a tree
-use Rattle.std.proofs.Common.{◌≡◌, ℕ, zero, suc, ◌<◌, List, [], ◌∷◌, ◌++◌, flat_map, length, Bool, true, false, cond, arith}
+use Rattle.std.proofs.Common.{ℕ, zero, suc, ◌<◌, List, [], ◌∷◌, ◌++◌, flat_map, length, Bool, true, false, cond, arith}
 use Rattle.sd_term.specs.Tree.{Tree, leaf, call, below, subterms}
 use Rattle.sd_term.specs.Bank.{tree_at}
 use Rattle.sd_term.specs.Numbering.{has, with_new, numbered}
@@ -39,7 +39,7 @@ module _ (P : Tree → Type 0) where
   each-below (leaf h) w = tt
   each-below (call f x) w =
       each-append Everywhere (below f) (below x ++ x ∷ []) (each-below f w.0)
-        (each-append Everywhere (below x) (x ∷ []) (each-below x w.1.0) ((w.1.0, w.1.1), tt))
+      (each-append Everywhere (below x) (x ∷ []) (each-below x w.1.0) ((w.1.0, w.1.1), tt))
 
   pub each-subterm : (ts : List Tree) → Each Everywhere ts → Each Everywhere (flat_map subterms ts)
   each-subterm [] w = tt

@@ -1,16 +1,16 @@
 -- the terms of boolean facts: each subterm is boolean, well sorted and numbered, and has a value once the atoms have
-use Rattle.std.proofs.Common.{◌≡◌, ◌≢◌, ℕ, zero, suc, ◌<◌, List, [], ◌∷◌, ◌++◌, flat_map, map, length, refl, sym, ap, ◌∙◌, subst, Bool, true, false, not, cond, Option, Some, None, unwrap_or, is_some, arith}
+use Rattle.std.proofs.Common.{◌≡◌, ℕ, zero, suc, ◌<◌, List, [], ◌∷◌, ◌++◌, flat_map, length, refl, sym, ap, ◌∙◌, Bool, true, false, cond, Option, Some, None, unwrap_or, is_some, arith}
 use Rattle.sd_base.specs.declared.sort.Sort.{Sort}
 use Rattle.sd_base.specs.declared.sort.Sort.{Bool as Truth}
 use Rattle.sd_term.specs.declared.node.Head.{Head}
 use Rattle.sd_term.specs.declared.node.Head.TheVariants.{Sym, Start}
 use Rattle.sd_term.specs.Heads.{True, False, Not, And, Or, Eq, Ite}
 use Rattle.sd_term.specs.Tree.{Tree, leaf, call, head_of, parts_of, below, subterms, at_parts}
-use Rattle.sd_term.specs.Sorts.{is_truth_sort, sort_at, sort_of, sorts_of, Takes, PartsWellSorted, IsWellSorted, AllWellSorted}
-use Rattle.sd_term.specs.Numbering.{has, with_new, numbered, AllIn}
+use Rattle.sd_term.specs.Sorts.{is_truth_sort, sort_at, sort_of, sorts_of, Takes, PartsWellSorted, AllWellSorted}
+use Rattle.sd_term.specs.Numbering.{has, numbered, AllIn}
 use Rattle.sd_term.proofs.Numbers.{AllIn-left, AllIn-right, with_new-all}
 use Rattle.sd_kernel.specs.Known.{Trail, first_fact, not3, and3, or3, iff3, ite3, known_at, if_truth, by_parts, known_by, known}
-use Rattle.sd_kernel.specs.OpenCube.{IsBooleanHead, PartsBoolean, IsBoolean, AllBoolean}
+use Rattle.sd_kernel.specs.OpenCube.{IsBooleanHead, PartsBoolean, AllBoolean}
 use Rattle.sd_kernel.proofs.Cubes.{AllTruth, truth-at, sorts-truth}
 use Rattle.sd_search.specs.Atoms.{is_atom, is_atom_head}
 use Rattle.sd_search.proofs.Everywhere.{Each, Inside, Everywhere, each-numbered}
@@ -21,16 +21,18 @@ IsGood terms t = IsBooleanHead (head_of t) (parts_of t) × Takes (head_of t) (so
 good-inside : (terms : List Tree) (t : Tree) → PartsBoolean t → PartsWellSorted t → AllIn terms (below t) → Inside (IsGood terms) t
 good-inside terms (leaf h) b w a = tt
 good-inside terms (call f x) b w a =
-    let right : AllIn terms (below x ++ x ∷ []) = AllIn-right terms (below f) (below x ++ x ∷ []) a in
-    ( good-inside terms f b.0 w.0 (AllIn-left terms (below f) (below x ++ x ∷ []) a)
-    , (good-inside terms x b.1.0 w.1.0 (AllIn-left terms (below x) (x ∷ []) right), (b.1.1, w.1.1, (AllIn-right terms (below x) (x ∷ []) right).0)) )
+    let right : AllIn terms (below x ++ x ∷ []) = AllIn-right terms (below f) (below x ++ x ∷ []) a in (
+      good-inside terms f b.0 w.0 (AllIn-left terms (below f) (below x ++ x ∷ []) a),
+      (good-inside terms x b.1.0 w.1.0 (AllIn-left terms (below x) (x ∷ []) right), (b.1.1, w.1.1, (AllIn-right terms (below x) (x ∷ []) right).0)),
+    )
 
 good-facts : (terms facts : List Tree) → AllBoolean facts → AllWellSorted facts → AllIn terms (flat_map subterms facts) → Each (Everywhere (IsGood terms)) facts
 good-facts terms [] b w a = tt
 good-facts terms (t ∷ ts) b w a =
-    let left : AllIn terms (below t ++ t ∷ []) = AllIn-left terms (subterms t) (flat_map subterms ts) a in
-    ( (good-inside terms t b.0.0 w.0.0 (AllIn-left terms (below t) (t ∷ []) left), (b.0.1, w.0.1, (AllIn-right terms (below t) (t ∷ []) left).0))
-    , good-facts terms ts b.1 w.1 (AllIn-right terms (subterms t) (flat_map subterms ts) a) )
+    let left : AllIn terms (below t ++ t ∷ []) = AllIn-left terms (subterms t) (flat_map subterms ts) a in (
+      (good-inside terms t b.0.0 w.0.0 (AllIn-left terms (below t) (t ∷ []) left), (b.0.1, w.0.1, (AllIn-right terms (below t) (t ∷ []) left).0)),
+      good-facts terms ts b.1 w.1 (AllIn-right terms (subterms t) (flat_map subterms ts) a),
+    )
 
 pub facts-good : (facts : List Tree) → AllBoolean facts → AllWellSorted facts → Each (Everywhere (IsGood (numbered facts))) facts
 facts-good facts b w = good-facts (numbered facts) facts b w (with_new-all (flat_map subterms facts) [])
@@ -135,11 +137,11 @@ judged-some Or ss ks t a =
 judged-some Eq ss ks t a =
     let long : length ss ≡ 2 = ap length t.1 in
     if_truth-judged (sort_at ss 0) (iff3 (known_at ks 0) (known_at ks 1))
-      (iff-some (known_at ks 0) (known_at ks 1) (are-known-at ks ss 0 a (omega (arith, long))) (are-known-at ks ss 1 a (omega (arith, long))))
+    (iff-some (known_at ks 0) (known_at ks 1) (are-known-at ks ss 0 a (omega (arith, long))) (are-known-at ks ss 1 a (omega (arith, long))))
 judged-some Ite ss ks t a =
     let long : length ss ≡ 3 = ap length t.1 in
     if_truth-judged (sort_at ss 1) (ite3 (known_at ks 0) (known_at ks 1) (known_at ks 2))
-      (ite-some (known_at ks 0) (known_at ks 1) (known_at ks 2) (are-known-at ks ss 0 a (omega (arith, long))) (are-known-at ks ss 1 a (omega (arith, long))) (are-known-at ks ss 2 a (omega (arith, long))))
+    (ite-some (known_at ks 0) (known_at ks 1) (known_at ks 2) (are-known-at ks ss 0 a (omega (arith, long))) (are-known-at ks ss 1 a (omega (arith, long))) (are-known-at ks ss 2 a (omega (arith, long))))
 judged-some _ ss ks t a = tt
 
 module _ (terms : List Tree) (b : Trail) (decided : (t : Tree) → has terms t ≡ true → is_atom t ≡ true → is_some (known b t) ≡ true) where

@@ -5,3 +5,4 @@ pub mod Good
 pub mod Decided
 pub mod Literals
 pub mod Searched
+pub mod Added

@@ -4,7 +4,6 @@ use Rattle.std.proofs.lemmas.Grind.{common_steps}
 use Rattle.sd_term.specs.declared.cube.Literal.{Literal}
 use Rattle.sd_term.specs.Tree.{Tree}
 use Rattle.sd_term.specs.Bank.{tree_at}
-use Rattle.sd_kernel.specs.Known.{known_at}
 use Rattle.sd_search.specs.Atoms.{is_atom, atom_literals}
 
 drop-tree : (ts : List Tree) (i : ℕ) → i < length ts → drop i ts ≡ tree_at ts i ∷ drop (i + 1) ts

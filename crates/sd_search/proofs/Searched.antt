@@ -1,5 +1,5 @@
 -- one step of a search
-use Rattle.std.proofs.Common.{◌≡◌, ℕ, ◌<◌, List, [], ◌∷◌, ◌++◌, map, length, refl, sym, ap, ◌∙◌, subst, Bool, Option, All, append-nil}
+use Rattle.std.proofs.Common.{◌≡◌, ℕ, ◌<◌, List, [], ◌∷◌, ◌++◌, map, length, sym, ap, ◌∙◌, subst, Bool, Option, All, append-nil}
 use Rattle.sd_term.specs.Tree.{Tree}
 use Rattle.sd_term.specs.Bank.{tree_at}
 use Rattle.sd_term.specs.Numbering.{numbered}
@@ -28,10 +28,11 @@ start-walk q terms ids ids' s e f g h =
 
 pub start-invariant : (q : List Tree) (s : State) (steps : List Step) → s ≡ (numbered q, start q ∷ []) → steps ≡ []
     → (s.0 ≡ numbered q) × AllBegin q s.1 × ((rest : List Step) → judged (numbered q, start q ∷ []) 0 (steps ++ rest) ≡ judged s (length steps) rest)
-start-invariant q s steps e f =
-    ( ap (λ (r : State). r.0) e
-    , subst (λ (r : State). AllBegin q r.1) (sym e) (([], sym (append-nil (start q))), tt)
-    , λ rest. subst (λ l. judged (numbered q, start q ∷ []) 0 (l ++ rest) ≡ judged s (length l) rest) (sym f) (ap (λ r. judged r 0 rest) (sym e)) )
+start-invariant q s steps e f = (
+  ap (λ (r : State). r.0) e,
+  subst (λ (r : State). AllBegin q r.1) (sym e) (([], sym (append-nil (start q))), tt),
+  λ rest. subst (λ l. judged (numbered q, start q ∷ []) 0 (l ++ rest) ≡ judged s (length l) rest) (sym f) (ap (λ r. judged r 0 rest) (sym e)),
+)
 
 -- the walk after a chosen step
 pub walk-step : (q : List Tree) (ids : List ℕ) (values : List (Option Bool)) (old new : State) (step : Step) (r : Option StepCause)
@@ -41,7 +42,8 @@ pub walk-step : (q : List Tree) (ids : List ℕ) (values : List (Option Bool)) (
     → (new.0 ≡ numbered q) × Makes q (numbered q) old.1 new.1 × (next old step ≡ goes new)
 walk-step q ids values old new step r within are e b o v c n =
     let m = walk-made q (numbered q) ids values within are old step e o v b c in
-    let same : new ≡ (numbered q, m.0) = told-goes r new (numbered q, m.0) (sym n ∙ m.1) in
-    ( ap (λ (s : State). s.0) same
-    , subst (λ (s : State). Makes q (numbered q) old.1 s.1) (sym same) m.2
-    , m.1 ∙ ap goes (sym same) )
+    let same : new ≡ (numbered q, m.0) = told-goes r new (numbered q, m.0) (sym n ∙ m.1) in (
+      ap (λ (s : State). s.0) same,
+      subst (λ (s : State). Makes q (numbered q) old.1 s.1) (sym same) m.2,
+      m.1 ∙ ap goes (sym same),
+    )

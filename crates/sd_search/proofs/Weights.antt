@@ -1,8 +1,8 @@
 -- the work that is left on open branches
-use Rattle.std.proofs.Common.{◌≡◌, ℕ, zero, suc, ◌+◌, ◌<◌, ◌≤◌, List, [], ◌∷◌, ◌++◌, length, refl, sym, ap, ◌∙◌, subst, Bool, true, false, cond, ◌&&◌, Option, Some, None, is_none, arith}
-use Rattle.sd_term.specs.Tree.{Tree, same_tree, same_tree-true, same_tree-self}
+use Rattle.std.proofs.Common.{◌≡◌, ℕ, zero, suc, ◌+◌, ◌<◌, ◌≤◌, List, [], ◌∷◌, ◌++◌, length, refl, sym, ap, subst, Bool, true, false, cond, ◌&&◌, Option, Some, None, is_none, arith}
+use Rattle.sd_term.specs.Tree.{Tree, same_tree, same_tree-self}
 use Rattle.sd_term.specs.Bank.{tree_at}
-use Rattle.sd_kernel.specs.Known.{Fact, Trail, first_fact}
+use Rattle.sd_kernel.specs.Known.{Trail, first_fact}
 use Rattle.sd_search.specs.Atoms.{is_atom}
 
 -- how many of the terms are atoms that no fact is on
@@ -77,7 +77,7 @@ module _ (b : Trail) (v : Bool) where
       let new : is_none (first_fact (b ++ (t, v) ∷ []) t) ≡ false = is_none-some (first_fact (b ++ (t, v) ∷ []) t) v (first_fact-new b t v e) in
       let old : is_none (first_fact b t) ≡ true = is_none-none (first_fact b t) e in
       subst (λ x. x < unknown b (t ∷ ts)) (sym (λ i. cond (a i && new i) (suc (unknown (b ++ (t, v) ∷ []) ts)) (unknown (b ++ (t, v) ∷ []) ts)))
-        (subst (λ x. unknown (b ++ (t, v) ∷ []) ts < x) (sym (λ i. cond (a i && old i) (suc (unknown b ts)) (unknown b ts))) (omega (arith, less)))
+      (subst (λ x. unknown (b ++ (t, v) ∷ []) ts < x) (sym (λ i. cond (a i && old i) (suc (unknown b ts)) (unknown b ts))) (omega (arith, less)))
   unknown-split (t ∷ ts) (suc n) h a e =
       let more : unknown (b ++ (tree_at ts n, v) ∷ []) ts < unknown b ts = unknown-split ts n (omega (arith, h)) a e in
       less-suc (unknown (b ++ (tree_at ts n, v) ∷ []) ts) (unknown b ts) more
@@ -108,5 +108,5 @@ pub weight-split : (terms : List Tree) (b : Trail) (others : List Trail) (n : �
     → weight terms ((b ++ (tree_at terms n, true) ∷ []) ∷ (b ++ (tree_at terms n, false) ∷ []) ∷ others) < weight terms (b ∷ others)
 weight-split terms b others n h a e =
     let k = both-less (unknown (b ++ (tree_at terms n, true) ∷ []) terms) (unknown (b ++ (tree_at terms n, false) ∷ []) terms) (unknown b terms)
-      (unknown-split b true terms n h a e) (unknown-split b false terms n h a e) in
+    (unknown-split b true terms n h a e) (unknown-split b false terms n h a e) in
     omega (arith, k)

@@ -1,3 +1,4 @@
 pub mod Atoms
 pub mod Choice
 pub mod Outcome
+pub mod Connectives

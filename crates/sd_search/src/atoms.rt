@@ -4,11 +4,10 @@ ghost use Rattle.std.specs.Prelude.{unwrap_or, false};
 ghost use Rattle.sd_term.specs.Sorts.{is_truth_sort};
 ghost use Rattle.sd_search.specs.Atoms.{is_atom, is_atom_head, atom_literals};
 
-use std::alloc::Global;
-
 use sd_base::{NoMemory, Sort};
 use sd_term::{Bank, Head, Literal, TermId};
 use sqlite_items::Items;
+use std::alloc::Global;
 
 /// Whether a term is a symbol or a starting value of truth values.
 pub fn is_atom(terms: &Bank, id: TermId) -> bool
@@ -38,7 +37,11 @@ fn is_truth(sort: &Sort) -> bool
 }
 
 /// The values of the atoms, by ascending number. An atom without a value counts as false.
-pub fn atom_literals(alloc: Global, terms: &Bank, values: &[Option<bool>]) -> Result<Items<Literal>, NoMemory>
+pub fn atom_literals(
+    alloc: Global,
+    terms: &Bank,
+    values: &[Option<bool>],
+) -> Result<Items<Literal>, NoMemory>
     requires { length values.now ≡ length terms.now }
     ensures { IfOk result (λ literals. literals ≡ atom_literals 0 terms.now values.now) }
 {

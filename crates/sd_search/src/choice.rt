@@ -4,10 +4,9 @@ ghost use Rattle.sd_kernel.specs.Known.{known_at};
 ghost use Rattle.sd_search.specs.Atoms.{is_atom};
 ghost use Rattle.sd_search.specs.Choice.{IsFalseFact, IsOpenAtom, IsChoice, IsDecided};
 
+use crate::atoms::is_atom;
 use sd_kernel::Step;
 use sd_term::{Bank, Head, Op, TermId};
-
-use crate::atoms::is_atom;
 
 /// The next step in a branch with these values: it is closed by a false fact, or it is split on an atom without a value.
 /// Such an atom is taken from below a fact without a value where there is one, the last such fact first.
@@ -119,7 +118,11 @@ fn open_part(terms: &Bank, values: &[Option<bool>], id: TermId) -> Option<TermId
     }
     let node = terms.node(id);
     let parts = node.parts.as_slice();
-    let first = if chooses_the_second(&node.head, values, parts) { 2 } else { 0 };
+    let first = if chooses_the_second(&node.head, values, parts) {
+        2
+    } else {
+        0
+    };
     for place in first..parts.len() {
         if values[parts[place].number() as usize].is_none() {
             return Some(parts[place]);

@@ -4,5 +4,7 @@
 mod atoms;
 mod choice;
 mod search;
+#[cfg(test)]
+mod tests;
 
 pub use search::{Outcome, refute};

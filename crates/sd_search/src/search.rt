@@ -4,15 +4,13 @@ ghost use Rattle.sd_kernel.specs.OpenCube.{AllBoolean, IsOpenCube};
 ghost use Rattle.sd_kernel.specs.declared.step.Verdict.{Verdict};
 ghost use Rattle.sd_search.specs.Outcome.{IfRefuted, IfOpen};
 
-use std::alloc::Global;
-
+use crate::atoms::atom_literals;
+use crate::choice::next_step;
 use sd_base::NoMemory;
 use sd_kernel::{Proof, Verdict, Walk};
 use sd_term::{Cube, Numbered, Query};
 use sqlite_items::Items;
-
-use crate::atoms::atom_literals;
-use crate::choice::next_step;
+use std::alloc::Global;
 
 /// What a search finds: a proof that no valuation makes all facts true, or values of the atoms under which they are.
 #[derive(Drop)]

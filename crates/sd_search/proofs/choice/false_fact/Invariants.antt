@@ -1,4 +1,4 @@
-use Rattle.std.proofs.Common.{◌≡◌, ◌≢◌, ℕ, ◌<◌, get_or, Some, false}
+use Rattle.std.proofs.Common.{◌≢◌, ℕ, ◌<◌, get_or, Some, false}
 use Rattle.sd_kernel.specs.Known.{known_at}
 use Rattle.sd_search.proofs.choice.false_fact.Given as goal
 
