@@ -1,14 +1,13 @@
 -- What is spelled is read, whatever follows that doesn't go on with it.
-use Rattle.std.proofs.Common.{◌≡◌, ℕ, zero, suc, ◌+◌, ◌<◌, ◌≤◌, max, true, false, cond, List, [], ◌∷◌, ◌++◌, refl, ap, sym, ◌∙◌, subst, arith, append_assoc}
-use Rattle.std.specs.Prelude.{Bool, Option, Some, None, nat_lt}
+use Rattle.std.proofs.Common.{◌≡◌, ℕ, zero, suc, ◌+◌, ◌<◌, ◌≤◌, max, true, false, [], ◌∷◌, ◌++◌, refl, ap, sym, ◌∙◌, subst, arith, append_assoc}
+use Rattle.std.specs.Prelude.{Some, None, nat_lt}
 use Rattle.std.proofs.lemmas.Bool.Decides.{nat_tests}
 use denote.Enum.Bare.{true_same}
 use Rattle.sd_base.specs.declared.Place.{Place}
 use Rattle.sd_base.specs.Value.{Text}
 use Rattle.sd_lex.specs.declared.Token.{Token}
-use Rattle.sd_lex.specs.declared.TokenKind.TheVariants as kind
 use Rattle.sd_ast.specs.declared.Expr.{Expr}
-use Rattle.sd_ast.specs.declared.ExprKind.{Num, Truth, Var, Unary, Binary}
+use Rattle.sd_ast.specs.declared.ExprKind.{Unary, Binary}
 use Rattle.sd_ast.specs.declared.UnOp.{UnOp}
 use Rattle.sd_ast.specs.declared.BinOp.{BinOp}
 use Rattle.sd_ast.specs.declared.BinOp.TheVariants as op
@@ -18,7 +17,7 @@ use Rattle.sd_parse.specs.contracts.sign.Sign.{the_type}
 use Rattle.sd_parse.specs.Signs.{sign, sign_of_kind, same_sign}
 use Rattle.sd_parse.specs.Grammar as g
 use Rattle.sd_parse.specs.Grammar.{Tokens, Level, Whole, Implication, Right, Explied, Junction, Conjunction, Disjunction, Relation, Sum, Product, Prefix, Atom, Phrase, Is, IsName, IsNumber, repeated, operand, has_operand, compares, prefixes, placed}
-use Rattle.sd_parse.specs.Reading.{Syntax, Deep, Step, Got, Bad, Reader, and_then, ahead, sign_of, skip, want, name_by, name, number_by, number, Tall, join, deeper, operation_by, parenthesized, atom_by, atom, prefixed, prefix_by, prefix, operation, turn_by, turn, turns, product, sum, comparison_by, relation, junction_by, junction, right_by, right, implication_by, implication, whole, layer, read}
+use Rattle.sd_parse.specs.Reading.{Step, Got, Bad, Reader, and_then, ahead, sign_of, skip, want, name_by, name, number_by, number, Tall, deeper, parenthesized, atom_by, atom, prefixed, prefix, operation, turn, turns, product, sum, relation, junction_by, junction, right_by, right, implication_by, implication, whole, layer, read}
 
 pub tall : {l : Level} {u : Tokens} {e : Expr} {h : ℕ} {p : Place} → Phrase l u e h p → 1 ≤ h
 tall (g.number i) = omega arith

@@ -1,5 +1,5 @@
 -- What the reader of expressions has read is a phrase within its height.
-use Rattle.std.proofs.Common.{◌≡◌, ℕ, zero, suc, ◌+◌, ◌<◌, ◌≤◌, max, true, false, cond, List, [], ◌∷◌, ◌++◌, refl, ap, sym, ◌∙◌, subst, arith, append_assoc}
+use Rattle.std.proofs.Common.{◌≡◌, ℕ, zero, suc, ◌≤◌, max, true, false, cond, [], ◌∷◌, ◌++◌, refl, sym, subst, arith, append_assoc}
 use Rattle.std.specs.Prelude.{Bool, Option, Some, None, nat_lt}
 use Rattle.std.proofs.lemmas.Bool.Decides.{nat_tests}
 use Rattle.std.proofs.lemmas.List.{append-nil}
@@ -12,10 +12,9 @@ use Rattle.sd_ast.specs.declared.BinOp.{BinOp}
 use Rattle.sd_ast.specs.declared.BinOp.TheVariants as op
 use Rattle.sd_parse.specs.declared.sign.Sign.{Sign}
 use Rattle.sd_parse.specs.declared.sign.Sign.TheVariants as s
-use Rattle.sd_parse.specs.Signs.{sign}
 use Rattle.sd_parse.specs.Grammar as g
 use Rattle.sd_parse.specs.Grammar.{Tokens, Level, Whole, Implication, Right, Explied, Junction, Conjunction, Disjunction, Relation, Sum, Product, Prefix, Atom, Phrase, Is, repeated, operand, has_operand, compares, prefixes, placed}
-use Rattle.sd_parse.specs.Reading.{Syntax, Deep, Step, Got, Bad, Reader, and_then, ahead, sign_of, skip, want, name, number, begins, Tall, join, deeper, operation_by, parenthesized, atom_by, atom, prefixed, prefix_by, prefix, operation, turn_by, turn, turns, product, sum, comparison_by, relation, junction_by, junction, right_by, right, implication_by, implication, whole, layer, read}
+use Rattle.sd_parse.specs.Reading.{Syntax, Deep, Step, Got, Bad, Reader, and_then, ahead, sign_of, skip, want, begins, Tall, join, operation_by, parenthesized, atom_by, atom, prefixed, prefix_by, prefix, operation, turn_by, turn, turns, product, sum, comparison_by, relation, junction_by, junction, right_by, right, implication_by, implication, whole, layer, read}
 use Rattle.sd_parse.proofs.Sound.{SoundStep, Sound, bind, sound_map, stop, shift, Wanted, wanted, Named, named, Counted, counted, Nothing, nothing, settle, Both, both, seq, done, into, deeper_sound, skip_sound, want_sound, name_sound, number_sound}
 
 -- a phrase of this level, of height d at most

@@ -1,11 +1,10 @@
 -- Items one after another, as their languages say.
-use Rattle.std.proofs.Common.{◌≡◌, ℕ, zero, suc, ◌+◌, ◌<◌, ◌≤◌, true, false, cond, List, [], ◌∷◌, ◌++◌, length, length-append, refl, ap, sym, ◌∙◌, subst, arith, append_assoc}
-use Rattle.std.specs.Prelude.{Bool, Option, Some, None}
+use Rattle.std.proofs.Common.{◌≡◌, ℕ, zero, suc, ◌<◌, true, false, List, [], ◌∷◌, ◌++◌, length, length-append, refl, ap, sym, ◌∙◌, subst, arith, append_assoc}
+use Rattle.std.specs.Prelude.{Bool}
 use Rattle.std.proofs.lemmas.List.{append-nil}
-use Rattle.sd_lex.specs.declared.Token.{Token}
 use Rattle.sd_parse.specs.declared.sign.Sign.{Sign}
 use Rattle.sd_parse.specs.Grammar.{Tokens}
-use Rattle.sd_parse.specs.Reading.{Step, Got, Bad, Reader, and_then, ahead, sign_of, many, all}
+use Rattle.sd_parse.specs.Reading.{Got, Reader, ahead, sign_of, many, all}
 use Rattle.sd_parse.specs.ReadingStatements.{push, join_lists}
 use Rattle.sd_parse.proofs.Sound as r
 use Rattle.sd_parse.proofs.Sound.{Repeat}

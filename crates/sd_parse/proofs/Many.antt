@@ -1,11 +1,11 @@
 -- A turn of the code's loops over items.
-use Rattle.std.proofs.Common.{◌≡◌, ℕ, zero, suc, ◌+◌, ◌-◌, ◌<◌, ◌≤◌, true, false, cond, List, [], ◌∷◌, ◌++◌, length, refl, ap, sym, ◌∙◌, subst, arith}
-use Rattle.std.specs.Prelude.{Bool, Option, Some, None, Result, Ok, Err}
+use Rattle.std.proofs.Common.{◌≡◌, ℕ, zero, suc, ◌+◌, ◌-◌, ◌<◌, ◌≤◌, true, false, length, refl, ap, sym, ◌∙◌, subst, arith}
+use Rattle.std.specs.Prelude.{Bool, Err}
 use Rattle.sd_parse.specs.declared.cursor.Fault.{Fault as CodeFault}
 use Rattle.sd_parse.specs.declared.cursor.Fault.TheVariants as fault
 use Rattle.sd_parse.specs.declared.sign.Sign.{Sign}
 use Rattle.sd_parse.specs.Grammar.{Tokens}
-use Rattle.sd_parse.specs.Reading.{Syntax, Deep, Step, Got, Bad, Reader, and_then, ahead, sign_of, many, all, Gives}
+use Rattle.sd_parse.specs.Reading.{Syntax, Step, Got, Bad, Reader, and_then, ahead, sign_of, many, all, Gives}
 
 -- what a reader that failed gives, whatever should have followed
 pub gives_err : {A B : Type 0} (s : Step A) (f : A → Reader B) (e : CodeFault) (new : Tokens) → Gives s (Err e) new → Gives (and_then s f) (Err e) new

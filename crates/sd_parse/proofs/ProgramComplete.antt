@@ -1,9 +1,7 @@
 -- What is spelled as a program is read.
-use Rattle.std.proofs.Common.{◌≡◌, ℕ, zero, suc, ◌+◌, ◌<◌, ◌≤◌, max, true, false, cond, List, [], ◌∷◌, ◌++◌, length, length-append, refl, ap, sym, ◌∙◌, subst, arith, append_assoc}
-use Rattle.std.specs.Prelude.{Bool, Option, Some, None}
+use Rattle.std.proofs.Common.{◌≡◌, ℕ, ◌<◌, ◌≤◌, true, false, List, [], ◌∷◌, ◌++◌, length, refl, ap, sym, ◌∙◌, subst, arith, append_assoc}
 use Rattle.std.proofs.lemmas.List.{append-nil}
 use denote.Enum.Bare.{false_same}
-use Rattle.sd_base.specs.declared.Place.{Place}
 use Rattle.sd_base.specs.declared.Var.{Var}
 use Rattle.sd_base.specs.Value.{Text}
 use Rattle.sd_lex.specs.declared.Token.{Token}
@@ -14,12 +12,12 @@ use Rattle.sd_parse.specs.declared.sign.Sign.{Sign}
 use Rattle.sd_parse.specs.declared.sign.Sign.TheVariants as s
 use Rattle.sd_parse.specs.contracts.sign.Sign.{the_type}
 use Rattle.sd_parse.specs.Signs.{sign, same_sign}
-use Rattle.sd_parse.specs.Grammar.{Tokens, Is, IsName}
+use Rattle.sd_parse.specs.Grammar.{Tokens, Is}
 use Rattle.sd_parse.specs.Statements as st
 use Rattle.sd_parse.specs.Statements.{Statements}
 use Rattle.sd_parse.specs.Programs as p
 use Rattle.sd_parse.specs.Programs.{Names, Group, Vars, Parameters, Locals, BodyText, Declaration, Declarations, truths, procedure}
-use Rattle.sd_parse.specs.Reading.{Syntax, Deep, Step, Got, Bad, Reader, and_then, ahead, sign_of, skip, want, name}
+use Rattle.sd_parse.specs.Reading.{Got, and_then, ahead, sign_of, want}
 use Rattle.sd_parse.specs.ReadingStatements.{push, join_lists, begins_statement, statements, statement, is_comma, is_var, is_procedure, next_name, more_names, names, group, next_group, more_groups, vars, parameters_by, listed, parameters, local_group, locals, body, declaration, declarations, ended, program}
 use Rattle.sd_parse.proofs.ExpressionComplete.{want_goes, name_goes, name_sign, same_signs}
 use Rattle.sd_parse.proofs.Lists.{Many, Joined, none, more, push_all, join_all, all_complete}

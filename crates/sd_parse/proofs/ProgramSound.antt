@@ -1,25 +1,20 @@
 -- What the reader of programs has read is a list of declarations within its height.
-use Rattle.std.proofs.Common.{◌≡◌, ℕ, zero, suc, ◌+◌, ◌<◌, ◌≤◌, max, true, false, cond, List, [], ◌∷◌, ◌++◌, length, refl, ap, sym, ◌∙◌, subst, arith, append_assoc}
-use Rattle.std.specs.Prelude.{Bool, Option, Some, None}
+use Rattle.std.proofs.Common.{◌≡◌, ℕ, suc, ◌≤◌, max, true, List, [], ◌∷◌, ◌++◌, length, refl, sym, ◌∙◌, subst, arith, append_assoc}
 use Rattle.std.proofs.lemmas.List.{append-nil}
-use Rattle.sd_base.specs.declared.Place.{Place}
 use Rattle.sd_base.specs.declared.Var.{Var}
 use Rattle.sd_base.specs.Value.{Text}
 use Rattle.sd_lex.specs.declared.Token.{Token}
-use Rattle.sd_ast.specs.declared.Stmt.{Stmt}
 use Rattle.sd_ast.specs.declared.Body.{Body}
 use Rattle.sd_ast.specs.declared.Decl.{Decl}
 use Rattle.sd_parse.specs.declared.sign.Sign.{Sign}
 use Rattle.sd_parse.specs.declared.sign.Sign.TheVariants as s
-use Rattle.sd_parse.specs.Signs.{same_sign}
 use Rattle.sd_parse.specs.Grammar.{Tokens, Is, IsName}
 use Rattle.sd_parse.specs.Programs as p
 use Rattle.sd_parse.specs.Programs.{Names, Group, Vars, Parameters, Locals, BodyText, Declaration, Declarations, truths, procedure}
-use Rattle.sd_parse.specs.Reading.{Syntax, Deep, Step, Got, Bad, Reader, and_then, ahead, sign_of, skip, want, name}
-use Rattle.sd_parse.specs.ReadingStatements.{push, join_lists, statements, statement, is_comma, is_var, is_procedure, next_name, more_names, names, group, next_group, more_groups, vars, parameters_by, listed, parameters, local_group, locals, body, declaration, declarations, ended, program}
-use Rattle.sd_parse.proofs.Sound.{SoundStep, Sound, Wanted, wanted, Named, named, Nothing, settle, Both, both, seq, done, into, skip_sound, want_sound, name_sound, many_sound, same_is}
+use Rattle.sd_parse.specs.Reading.{Step, Got, Bad, and_then, ahead, sign_of}
+use Rattle.sd_parse.specs.ReadingStatements.{push, join_lists, statement, is_comma, is_var, is_procedure, next_name, more_names, names, group, next_group, more_groups, vars, parameters_by, listed, parameters, local_group, locals, body, declaration, declarations, ended, program}
+use Rattle.sd_parse.proofs.Sound.{Sound, Wanted, wanted, Named, named, Nothing, settle, Both, both, seq, done, into, skip_sound, want_sound, name_sound, many_sound, same_is}
 use Rattle.sd_parse.proofs.Lists.{Many, Joined, none, more, Behind, pushed, joined}
-use Rattle.sd_parse.proofs.Lists as l
 use Rattle.sd_parse.proofs.StatementSound.{LowStatements, statements_law, statement_law}
 
 -- ---- names and variables

@@ -1,6 +1,6 @@
 -- What a reader has read is in its language.
-use Rattle.std.proofs.Common.{◌≡◌, ℕ, zero, suc, true, false, cond, List, [], ◌∷◌, ◌++◌, refl, ap, sym, ◌∙◌, subst, append_assoc}
-use Rattle.std.specs.Prelude.{Bool, Option, Some, None}
+use Rattle.std.proofs.Common.{◌≡◌, ℕ, zero, suc, true, false, cond, [], ◌∷◌, ◌++◌, refl, ap, sym, ◌∙◌, subst, append_assoc}
+use Rattle.std.specs.Prelude.{Bool}
 use Rattle.std.proofs.lemmas.List.{append-nil}
 use denote.Enum.Bare.{same_true}
 use Rattle.sd_base.specs.declared.Place.{Place}
@@ -9,11 +9,10 @@ use Rattle.sd_lex.specs.declared.Token.{Token}
 use Rattle.sd_lex.specs.declared.TokenKind.{TokenKind}
 use Rattle.sd_lex.specs.declared.TokenKind.TheVariants as kind
 use Rattle.sd_parse.specs.declared.sign.Sign.{Sign}
-use Rattle.sd_parse.specs.declared.sign.Sign.TheVariants as s
 use Rattle.sd_parse.specs.contracts.sign.Sign.{the_type}
-use Rattle.sd_parse.specs.Signs.{sign, same_sign}
+use Rattle.sd_parse.specs.Signs.{same_sign}
 use Rattle.sd_parse.specs.Grammar.{Tokens, Is, IsName, IsNumber}
-use Rattle.sd_parse.specs.Reading.{Syntax, Deep, Step, Got, Bad, Reader, and_then, ahead, sign_of, skip, want, name_by, name, number_by, number, many, deeper}
+use Rattle.sd_parse.specs.Reading.{Syntax, Step, Got, Bad, Reader, and_then, ahead, sign_of, skip, want, name_by, name, number_by, number, many, deeper}
 
 -- what was got is in the language, behind what was read before
 abbrev pub SoundStep : {A : Type 0} (G : Tokens → A → Type 0) (pre ts : Tokens) → Step A → Type 0

@@ -1,7 +1,5 @@
 -- What is spelled as a statement is read, where no `else` follows.
-use Rattle.std.proofs.Common.{◌≡◌, ℕ, zero, suc, ◌+◌, ◌<◌, ◌≤◌, max, true, false, cond, List, [], ◌∷◌, ◌++◌, length, refl, ap, sym, ◌∙◌, subst, arith, append_assoc}
-use Rattle.std.specs.Prelude.{Bool, Option, Some, None}
-use denote.Enum.Bare.{false_same}
+use Rattle.std.proofs.Common.{◌≡◌, ℕ, zero, suc, ◌<◌, ◌≤◌, max, true, List, [], ◌∷◌, ◌++◌, refl, ap, sym, ◌∙◌, arith, append_assoc}
 use Rattle.sd_base.specs.declared.Place.{Place}
 use Rattle.sd_base.specs.Value.{Text}
 use Rattle.sd_lex.specs.declared.Token.{Token}
@@ -10,12 +8,10 @@ use Rattle.sd_ast.specs.declared.Stmt.{Stmt}
 use Rattle.sd_ast.specs.declared.StmtKind.{Assert, If, Return}
 use Rattle.sd_parse.specs.declared.sign.Sign.{Sign}
 use Rattle.sd_parse.specs.declared.sign.Sign.TheVariants as s
-use Rattle.sd_parse.specs.contracts.sign.Sign.{the_type}
-use Rattle.sd_parse.specs.Signs.{sign, same_sign}
 use Rattle.sd_parse.specs.Grammar.{Tokens, Whole, Phrase, Is, IsName}
 use Rattle.sd_parse.specs.Statements as st
 use Rattle.sd_parse.specs.Statements.{Statement, Otherwise, Block, Statements, stated, assign}
-use Rattle.sd_parse.specs.Reading.{Syntax, Deep, Step, Got, Bad, Reader, and_then, ahead, sign_of, skip, want, name, read, deeper}
+use Rattle.sd_parse.specs.Reading.{Got, Reader, and_then, ahead, sign_of, skip, want, name, read, deeper}
 use Rattle.sd_parse.specs.ReadingStatements.{push, begins_statement, asserted, assigned, returned, statements, block, branch_by, branch, otherwise_by, otherwise, conditional, statement_by, statement_layer, statement}
 use Rattle.sd_parse.proofs.ExpressionComplete.{tall, want_goes, name_goes, name_sign, Stops, read_complete}
 use Rattle.sd_parse.proofs.Lists.{Many, none, more, push_all, all_complete}

@@ -1,10 +1,8 @@
 -- What the reader of statements has read is a statement within its height.
-use Rattle.std.proofs.Common.{◌≡◌, ℕ, zero, suc, ◌+◌, ◌<◌, ◌≤◌, max, true, false, cond, List, [], ◌∷◌, ◌++◌, length, refl, ap, sym, ◌∙◌, subst, arith, append_assoc}
-use Rattle.std.specs.Prelude.{Bool, Option, Some, None}
+use Rattle.std.proofs.Common.{◌≡◌, ℕ, zero, suc, ◌<◌, ◌≤◌, max, true, false, cond, List, [], ◌∷◌, ◌++◌, length, refl, ap, sym, ◌∙◌, subst, arith}
+use Rattle.std.specs.Prelude.{Bool}
 use Rattle.std.proofs.lemmas.List.{append-nil}
-use Rattle.sd_base.specs.declared.Place.{Place}
 use Rattle.sd_lex.specs.declared.Token.{Token}
-use Rattle.sd_ast.specs.declared.Expr.{Expr}
 use Rattle.sd_ast.specs.declared.Stmt.{Stmt}
 use Rattle.sd_ast.specs.declared.StmtKind.{Assert, If, Return}
 use Rattle.sd_parse.specs.declared.sign.Sign.{Sign}
@@ -12,11 +10,11 @@ use Rattle.sd_parse.specs.declared.sign.Sign.TheVariants as s
 use Rattle.sd_parse.specs.Grammar.{Tokens, Whole, Is}
 use Rattle.sd_parse.specs.Statements as st
 use Rattle.sd_parse.specs.Statements.{Statement, Otherwise, Block, Statements, stated, assign}
-use Rattle.sd_parse.specs.Reading.{Syntax, Deep, Step, Got, Bad, Reader, and_then, ahead, sign_of, skip, want, name, read, deeper}
+use Rattle.sd_parse.specs.Reading.{Syntax, Deep, Step, Got, Bad, Reader, and_then, ahead, sign_of, skip, want, name, read}
 use Rattle.sd_parse.specs.ReadingStatements.{push, begins_statement, asserted, assigned, returned, statements, block, branch_by, branch, otherwise_by, otherwise, conditional, statement_by, statement_layer, statement}
-use Rattle.sd_parse.proofs.Sound.{SoundStep, Sound, Wanted, wanted, Named, named, Nothing, settle, Both, both, seq, done, into, deeper_sound, skip_sound, want_sound, name_sound, many_sound}
+use Rattle.sd_parse.proofs.Sound.{Sound, Wanted, wanted, Named, named, Nothing, settle, Both, both, seq, done, into, deeper_sound, skip_sound, want_sound, name_sound, many_sound}
 use Rattle.sd_parse.proofs.ExpressionSound.{Within, read_law}
-use Rattle.sd_parse.proofs.Lists.{Many, none, more, Behind, pushed}
+use Rattle.sd_parse.proofs.Lists.{Many, none, more, pushed}
 
 pub record LowStatement (d : ℕ) (u : Tokens) (x : Stmt) : Type 0 where
   pub height : ℕ

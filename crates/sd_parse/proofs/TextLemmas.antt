@@ -1,6 +1,5 @@
 -- A text has one program, and the reader gives it.
-use Rattle.std.proofs.Common.{◌≡◌, ℕ, ◌≤◌, List, [], length, refl, ap, sym, ◌∙◌, subst}
-use Rattle.std.specs.Prelude.{Result, Ok, Err}
+use Rattle.std.proofs.Common.{◌≡◌, ℕ, List, [], ap, sym, ◌∙◌, subst}
 use Rattle.sd_ast.specs.declared.Decl.{Decl}
 use Rattle.sd_ast.specs.declared.Program.{Program}
 use Rattle.sd_lex.specs.Pieces.{Bytes}
@@ -10,7 +9,7 @@ use Rattle.sd_lex.proofs.Unique.{one_list, not_both}
 use Rattle.sd_parse.specs.Grammar.{Tokens}
 use Rattle.sd_parse.specs.Programs.{Spells}
 use Rattle.sd_parse.specs.Text.{IsRead, HasTokens, IsSpelled, OneProgram}
-use Rattle.sd_parse.specs.Reading.{Fault, Step, Got, Bad}
+use Rattle.sd_parse.specs.Reading.{Fault, Got, Bad}
 use Rattle.sd_parse.specs.ReadingStatements.{program}
 use Rattle.sd_parse.proofs.ProgramSound.{program_sound}
 use Rattle.sd_parse.proofs.ProgramComplete.{program_complete}

@@ -1,6 +1,6 @@
 -- A turn of the code's loop over the operators of a level.
-use Rattle.std.proofs.Common.{◌≡◌, ℕ, suc, ◌+◌, ◌-◌, ◌<◌, ◌≤◌, true, false, [], ◌∷◌, refl, ap, sym, ◌∙◌, arith}
-use Rattle.std.specs.Prelude.{Bool, Option, Some, None, nat_lt}
+use Rattle.std.proofs.Common.{◌≡◌, ℕ, suc, ◌+◌, ◌-◌, ◌<◌, ◌≤◌, true, false, [], ◌∷◌, refl, ap, ◌∙◌, arith}
+use Rattle.std.specs.Prelude.{Bool, Some, None, nat_lt}
 use Rattle.sd_ast.specs.declared.BinOp.{BinOp}
 use Rattle.sd_parse.specs.Grammar.{Tokens, Level, repeated, operand}
 use Rattle.sd_parse.specs.Reading.{Step, Got, Bad, Reader, and_then, pure, ahead, sign_of, Tall, join, operation_by, operation, turns}

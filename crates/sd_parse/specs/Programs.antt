@@ -1,5 +1,5 @@
 -- The grammar of programs: procedures over truth values, without results and clauses.
-use Rattle.std.specs.Prelude.{◌≡◌, ℕ, max, ◌≤◌, List, [], ◌∷◌, ◌++◌, map, Some}
+use Rattle.std.specs.Prelude.{ℕ, max, ◌≤◌, List, [], ◌∷◌, ◌++◌, map, Some}
 use Rattle.sd_base.specs.declared.Place.{Place}
 use Rattle.sd_base.specs.declared.Var.{Var}
 use Rattle.sd_base.specs.declared.Sort as sort

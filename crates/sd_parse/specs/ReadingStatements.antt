@@ -1,5 +1,5 @@
 -- What the readers of statements and programs give, as functions of the tokens.
-use Rattle.std.specs.Prelude.{◌≡◌, ℕ, zero, suc, Bool, true, false, if◌then◌else◌, List, [], ◌∷◌, ◌++◌, Result}
+use Rattle.std.specs.Prelude.{ℕ, zero, suc, Bool, true, false, if◌then◌else◌, List, [], ◌∷◌, ◌++◌, Result}
 use Rattle.std.specs.declared.alloc.Global.{Global}
 use denote.Ref.{MutBor}
 use Rattle.sd_base.specs.declared.Var.{Var}
@@ -15,7 +15,7 @@ use Rattle.sd_parse.specs.Signs.{same_sign}
 use Rattle.sd_parse.specs.Grammar.{Tokens, Whole}
 use Rattle.sd_parse.specs.Statements.{stated, assign}
 use Rattle.sd_parse.specs.Programs.{truths, procedure}
-use Rattle.sd_parse.specs.Reading.{Syntax, Deep, Step, Got, Bad, Reader, and_then, ◌>>=◌, pure, bad, look, skip, sign_of, want, name, all, deeper, read, Gives}
+use Rattle.sd_parse.specs.Reading.{Syntax, Deep, Got, Bad, Reader, ◌>>=◌, pure, bad, look, skip, sign_of, want, name, all, deeper, read, Gives}
 
 -- one more at the end
 abbrev pub push : {A : Type 0} → List A → A → List A

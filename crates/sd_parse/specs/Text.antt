@@ -1,5 +1,5 @@
 -- What a text is read as.
-use Rattle.std.specs.Prelude.{◌≡◌, ◌≢◌, ℕ, ◌≤◌, List, length, Contains}
+use Rattle.std.specs.Prelude.{◌≡◌, ◌≤◌, length, Contains}
 use Rattle.sd_lex.specs.Pieces.{Bytes}
 use Rattle.sd_lex.specs.Tokens as lex
 use Rattle.sd_ast.specs.declared.Program.{Program}

@@ -1,4 +1,4 @@
-use Rattle.std.proofs.Common.{◌≡◌, ◌-◌, ◌+◌, true, false, sym, ap, ◌∙◌, [], rules, arith}
+use Rattle.std.proofs.Common.{◌≡◌, ◌-◌, true, false, sym, ap, ◌∙◌, [], rules, arith}
 use Rattle.std.proofs.lemmas.Grind.{common_steps}
 use Rattle.sd_parse.specs.declared.sign.Sign.TheVariants as s
 use Rattle.sd_parse.specs.Signs.{same_sign}

@@ -1,4 +1,4 @@
-use Rattle.std.proofs.Common.{◌≡◌, ◌-◌, []}
+use Rattle.std.proofs.Common.{◌≡◌, ◌-◌}
 use Rattle.sd_parse.specs.Reading.{many}
 use Rattle.sd_parse.specs.ReadingStatements.{is_var, local_group, join_lists, locals}
 use Rattle.sd_parse.proofs.program.locals.Given as goal

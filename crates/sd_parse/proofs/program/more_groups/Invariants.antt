@@ -1,4 +1,4 @@
-use Rattle.std.proofs.Common.{◌≡◌, ◌-◌, []}
+use Rattle.std.proofs.Common.{◌≡◌, ◌-◌}
 use Rattle.sd_parse.specs.Reading.{many}
 use Rattle.sd_parse.specs.ReadingStatements.{is_comma, next_group, join_lists, more_groups}
 use Rattle.sd_parse.proofs.program.more_groups.Given as goal

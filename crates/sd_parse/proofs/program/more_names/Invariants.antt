@@ -1,4 +1,4 @@
-use Rattle.std.proofs.Common.{◌≡◌, ◌-◌, []}
+use Rattle.std.proofs.Common.{◌≡◌, ◌-◌}
 use Rattle.sd_parse.specs.Reading.{many}
 use Rattle.sd_parse.specs.ReadingStatements.{is_comma, next_name, push, more_names}
 use Rattle.sd_parse.proofs.program.more_names.Given as goal

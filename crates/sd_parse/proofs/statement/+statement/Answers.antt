@@ -1,4 +1,4 @@
-use Rattle.std.proofs.Common.{◌≡◌, ◌-◌, suc, sym, ap, subst, arith}
+use Rattle.std.proofs.Common.{◌≡◌, ◌-◌, suc, subst, arith}
 use Rattle.sd_parse.specs.Reading.{Gives}
 use Rattle.sd_parse.specs.ReadingStatements.{statement}
 use Rattle.sd_parse.proofs.statement.+statement.Goals as goal

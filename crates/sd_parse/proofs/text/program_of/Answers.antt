@@ -1,4 +1,4 @@
-use Rattle.std.proofs.Common.{◌≡◌, sym, ap, ◌∙◌}
+use Rattle.std.proofs.Common.{sym, ap, ◌∙◌}
 use Rattle.sd_parse.specs.Reading.{Syntax, Deep}
 use Rattle.sd_parse.specs.ReadingStatements.{program}
 use Rattle.sd_parse.proofs.TextLemmas.{read_is_spelled, failed}

@@ -1,6 +1,5 @@
-use Rattle.std.proofs.Common.{◌≡◌, ◌≤◌, sym, ap, ◌∙◌, subst, length, arith}
-use Rattle.std.specs.Prelude.{IsTrue, MatchOption}
-use Rattle.sd_lex.specs.Tokens as lex
+use Rattle.std.proofs.Common.{◌≤◌, subst, length, arith}
+use Rattle.std.specs.Prelude.{IsTrue}
 use Rattle.sd_ast.specs.Boolean.{IsBooleanProgram}
 use Rattle.sd_parse.specs.Programs.{Spells}
 use Rattle.sd_parse.specs.Text.{IsSpelled}

@@ -1,5 +1,5 @@
-use Rattle.std.proofs.Common.{◌≡◌, true, false, sym, ap, ◌∙◌, subst}
-use Rattle.std.specs.Prelude.{IsTrue, ◌≢◌}
+use Rattle.std.proofs.Common.{◌≡◌}
+use Rattle.std.specs.Prelude.{IsTrue}
 use Rattle.sd_lex.specs.declared.LexError.TheVariants as lexical
 use Rattle.sd_parse.proofs.TextLemmas.{refused}
 use Rattle.sd_parse.proofs.text.tokens_of.Goals as goal

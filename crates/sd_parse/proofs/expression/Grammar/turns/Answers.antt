@@ -1,4 +1,4 @@
-use Rattle.std.proofs.Common.{rules, arith, sym, ap, ◌∙◌, ◌+◌, ◌-◌, suc}
+use Rattle.std.proofs.Common.{rules, arith, sym, ap, ◌∙◌, ◌+◌, ◌-◌}
 use Rattle.std.proofs.lemmas.Grind.{common_steps}
 use Rattle.sd_parse.specs.Reading.{turns, read, and_then, operation, pure}
 use Rattle.sd_parse.specs.Grammar.{repeated}

@@ -1,4 +1,4 @@
-use Rattle.std.proofs.Common.{◌≡◌, ◌-◌, []}
+use Rattle.std.proofs.Common.{◌≡◌, ◌-◌}
 use Rattle.sd_parse.specs.Reading.{many}
 use Rattle.sd_parse.specs.ReadingStatements.{begins_statement, statement, push, statements}
 use Rattle.sd_parse.proofs.statement.Nested.statements.Given as goal
