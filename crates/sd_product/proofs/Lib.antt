@@ -1,3 +1,4 @@
 pub mod Booleans
 pub mod Programs
 pub mod Failures
+pub mod Numbers
