@@ -43,19 +43,35 @@ pub fn pair_query(
     ensures query { IfOk result (λ q. q ≡ query_of candidate old.now new.now) }
     ensures boolean { IfOk result AllBoolean }
 {
+    let mut bank = Bank::new(alloc);
+    let facts = put_facts(alloc, &mut bank, old, new, candidate)?;
+    Ok(Query::new(bank, facts))
+}
+
+fn put_facts(
+    alloc: Global,
+    bank: &mut Bank,
+    old: &Proc,
+    new: &Proc,
+    candidate: Candidate,
+) -> Result<Items<TermId>, NoMemory>
+    requires old { IsBooleanProc old.now }
+    requires new { IsBooleanProc new.now }
+    requires count { length old.now.head.ins ≡ length new.now.head.ins }
+    ensures { IfOk result (λ ids. DenoteAll bank.new ids (query_of candidate old.now new.now)) }
+{
     let count = old.head.ins.len();
     if count > (u32::MAX / 2) as usize {
         return Err(NoMemory);
     }
-    let mut bank = Bank::new(alloc);
-    let old_inputs = put_symbols(alloc, &mut bank, 0, count)?;
-    let new_inputs = put_symbols(alloc, &mut bank, count, count)?;
+    let old_inputs = put_symbols(alloc, bank, 0, count)?;
+    let new_inputs = put_symbols(alloc, bank, count, count)?;
     let old_inputs = old_inputs.as_slice();
     let new_inputs = new_inputs.as_slice();
-    let mut facts = put_conditions(alloc, &mut bank, candidate, old_inputs, new_inputs)?;
-    let denial = put_denial(alloc, &mut bank, old, old_inputs, new, new_inputs)?;
+    let mut facts = put_conditions(alloc, bank, candidate, old_inputs, new_inputs)?;
+    let denial = put_denial(alloc, bank, old, old_inputs, new, new_inputs)?;
     facts.push(denial)?;
-    Ok(Query::new(bank, facts))
+    Ok(facts)
 }
 
 /// So many symbols of truth values, by ascending number.
