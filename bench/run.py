@@ -1,0 +1,129 @@
+#!/usr/bin/env python3
+"""Times the built program on texts of many procedures.
+
+    python3 bench/run.py [--count N] [--runs R] [--program PATH]
+
+Makes two texts of N procedures and two of 2N (N is 2048 unless --count gives less; the reader takes 4096 procedures at most),
+runs `symdiff verify old new` on them R times each in a temporary folder, and prints the size of the text, the least time and the
+greatest peak memory, and then the ratio of the two times. It is no part of the gate. The program has to be built before:
+`rt run` in crates/symdiff leaves it as crates/symdiff/out/symdiff.
+
+The status is 0 where each report is right, the ratio is below 2.5, and the larger text takes less than a second and 200 MB.
+Where one of these fails a line says so, and the status is 1.
+"""
+
+import argparse
+import os
+import subprocess
+import sys
+import tempfile
+import time
+
+HERE = os.path.dirname(os.path.abspath(__file__))
+PROGRAM = os.path.join(HERE, "..", "crates", "symdiff", "out", "symdiff")
+GREATEST_RATIO = 2.5
+GREATEST_SECONDS = 1.0
+GREATEST_BYTES = 200_000_000
+
+# One procedure. The parts that the new text may change are the last two assertions.
+FORM = """procedure handler_{number:04d}(ready: bool, locked: bool, open: bool, forced: bool)
+{{
+  var state, result: bool;
+  state := ready && !locked;
+  if (open || forced) {{
+    result := state ==> ready;
+  }} else {{
+    result := !state;
+    return;
+  }}
+  {last}
+}}
+"""
+
+# What stands last in the old and in the new procedure, and the word that the report says of them.
+LAST = [
+    ("assert result && (open || forced);", "assert (forced || open) && result;", "safe"),
+    ("assert ready && locked;", "assert locked || !ready;", "safe"),
+    ("assert ready || locked;", "assert ready;", "unknown"),
+    ("assert state; assert open;", "assert open; assert state;", "safe"),
+]
+
+
+def texts(count):
+    """The old text, the new text, and the report that is right for them."""
+    old, new, report = [], [], []
+    words = {"safe": 0, "unknown": 0}
+    for number in range(count):
+        before, after, word = LAST[number % len(LAST)]
+        old.append(FORM.format(number=number, last=before))
+        new.append(FORM.format(number=number, last=after))
+        name = "handler_%04d" % number
+        report.append("%s %s %s\n" % (word, name, name))
+        words[word] += 1
+    report.append("pairs %d safe %d equal 0 unknown %d refused 0 axioms 0 0\n" % (count, words["safe"], words["unknown"]))
+    return "".join(old), "".join(new), "".join(report)
+
+
+def run_once(program, folder):
+    """The seconds that a run takes, its peak memory in bytes, its status and what it writes."""
+    with open(os.path.join(folder, "report"), "w+b") as out:
+        begin = time.perf_counter()
+        process = subprocess.Popen([program, "verify", "old", "new"], cwd=folder, stdin=subprocess.DEVNULL, stdout=out)
+        _, status, usage = os.wait4(process.pid, 0)
+        seconds = time.perf_counter() - begin
+        process.returncode = os.waitstatus_to_exitcode(status)
+        out.seek(0)
+        written = out.read().decode("ascii", "replace")
+    peak = usage.ru_maxrss * (1 if sys.platform == "darwin" else 1024)
+    return seconds, peak, process.returncode, written
+
+
+def measure(program, count, runs, complaints):
+    """The least time of several runs on texts of so many procedures."""
+    old, new, report = texts(count)
+    best, peak = None, 0
+    with tempfile.TemporaryDirectory() as folder:
+        for name, text in (("old", old), ("new", new)):
+            with open(os.path.join(folder, name), "w", encoding="ascii") as file:
+                file.write(text)
+        for _ in range(runs):
+            seconds, bytes_used, status, written = run_once(program, folder)
+            best = seconds if best is None else min(best, seconds)
+            peak = max(peak, bytes_used)
+            if status != 1 or written != report:
+                complaints.append("%d procedures: status %d, and the report isn't the one that is right" % (count, status))
+                break
+    print("%5d procedures  %8d bytes a text  %8.3f s  %7.1f MB" % (count, len(old), best, peak / 1e6))
+    return best, peak
+
+
+def main():
+    parser = argparse.ArgumentParser(description="times the built program on texts of many procedures")
+    parser.add_argument("--count", type=int, default=2048)
+    parser.add_argument("--runs", type=int, default=3)
+    parser.add_argument("--program", default=PROGRAM)
+    given = parser.parse_args()
+    if not 4 <= given.count <= 2048 or given.runs < 1:
+        parser.error("4 to 2048 procedures, and at least one run")
+    program = os.path.abspath(given.program)
+    if not os.path.isfile(program):
+        print("there is no %s: run `rt run` in crates/symdiff first" % program)
+        return 2
+    complaints = []
+    single, _ = measure(program, given.count, given.runs, complaints)
+    double, peak = measure(program, 2 * given.count, given.runs, complaints)
+    ratio = double / single
+    print("ratio of the times at %d and %d: %.2f" % (2 * given.count, given.count, ratio))
+    if ratio >= GREATEST_RATIO:
+        complaints.append("the ratio isn't below %.1f" % GREATEST_RATIO)
+    if double >= GREATEST_SECONDS:
+        complaints.append("%d procedures take a second or more" % (2 * given.count))
+    if peak >= GREATEST_BYTES:
+        complaints.append("%d procedures take 200 MB or more" % (2 * given.count))
+    for complaint in complaints:
+        print("falls short: " + complaint)
+    return 1 if complaints else 0
+
+
+if __name__ == "__main__":
+    sys.exit(main())
