@@ -3,5 +3,7 @@
 
 pub mod laws;
 mod pair;
+#[cfg(test)]
+mod tests;
 
 pub use pair::{Candidate, pair_query};
