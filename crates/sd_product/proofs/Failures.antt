@@ -33,9 +33,9 @@ use Rattle.sd_vcgen.proofs.Runs.{flag-is-failure}
 use Rattle.sd_product.specs.declared.pair.Candidate.{Candidate}
 use Rattle.sd_product.specs.declared.pair.Candidate.TheVariants.{NoCondition, EqualInputs}
 use Rattle.sd_product.specs.Query.{symbols, old_inputs, new_inputs, equalities, conditions, claim, query_of}
-use Rattle.sd_product.specs.Laws.{IsPair, UnsatisfiableIsSafe, ValuationsAreFailures, OpenCubesAreFailures}
+use Rattle.sd_product.specs.Laws.{IsPair, PlacesArePairs, UnsatisfiableIsSafe, ValuationsAreFailures, OpenCubesAreFailures}
 use Rattle.sd_product.proofs.Booleans.{query-boolean, symbols-truths}
-use Rattle.sd_product.proofs.Programs.{no-implementation, no-globals, no-uniques, all-true, found-boolean}
+use Rattle.sd_product.proofs.Programs.{no-implementation, no-globals, no-uniques, all-true, found-boolean, found-at}
 
 -- ---- lists of values
 
@@ -255,3 +255,12 @@ valuations-fail P Q f g p q v pair = valuation-is-failure P Q f g p q pair v
 
 pub open_cubes-fail : OpenCubesAreFailures
 open_cubes-fail P Q f g p q cube pair = open_cube-is-failure P Q f g p q pair cube
+
+pub places-pair : PlacesArePairs
+places-pair P Q hp hq i j p q at at' same = record {
+  old_boolean = hp;
+  new_boolean = hq;
+  old_found = found-at P hp i p at;
+  new_found = found-at Q hq j q at';
+  same_count = same;
+}

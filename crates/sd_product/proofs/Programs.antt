@@ -80,3 +80,10 @@ found-in (_ ∷ ds) h d k p e = absurd h.0
 -- the procedure at a place is the one that its name finds
 pub found-at : (P : Program) → IsBooleanProgram P → (k : ℕ) (p : Proc) → slice_get P.decls k ≡ Some (Procedure p) → procedure_in P.decls p.head.name ≡ Some p
 found-at P h k p e = found-in P.decls h.decls h.distinct k p e
+
+-- and it is boolean
+pub boolean-at : (ds : List Decl) (k : ℕ) (p : Proc) → AreBooleanDecls ds → slice_get ds k ≡ Some (Procedure p) → IsBooleanProc p
+boolean-at [] k p h e = cc
+boolean-at (Procedure r ∷ ds) zero p h e = let same : r ≡ p = cc in subst IsBooleanProc same h.0
+boolean-at (Procedure r ∷ ds) (suc k) p h e = boolean-at ds k p h.1 e
+boolean-at (_ ∷ ds) k p h e = absurd h.0

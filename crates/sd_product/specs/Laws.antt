@@ -1,6 +1,7 @@
 -- What the queries of a pair of procedures are good for.
-use Rattle.std.specs.Prelude.{◌≡◌, List, length, Some}
+use Rattle.std.specs.Prelude.{◌≡◌, ℕ, length, Some, slice_get}
 use Rattle.sd_base.specs.Value.{Text}
+use Rattle.sd_ast.specs.declared.Decl.TheVariants.{Procedure}
 use Rattle.sd_ast.specs.declared.Program.{Program}
 use Rattle.sd_ast.specs.declared.Proc.{Proc}
 use Rattle.sd_ast.specs.Boolean.{IsBooleanProgram}
@@ -20,6 +21,11 @@ pub record IsPair (P Q : Program) (f g : Text) (p q : Proc) : Type 0 where
   pub old_found : procedure_in P.decls f ≡ Some p
   pub new_found : procedure_in Q.decls g ≡ Some q
   pub same_count : length p.head.ins ≡ length q.head.ins
+
+-- Procedures at some places of the two programs are such a pair, under their names.
+abbrev pub PlacesArePairs : Type 0
+PlacesArePairs =
+    (P Q : Program) → IsBooleanProgram P → IsBooleanProgram Q → (i j : ℕ) (p q : Proc) → slice_get P.decls i ≡ Some (Procedure p) → slice_get Q.decls j ≡ Some (Procedure q) → length p.head.ins ≡ length q.head.ins → IsPair P Q p.head.name q.head.name p q
 
 -- Where no valuation makes the facts true, the new procedure has no failure that the old one lacks.
 abbrev pub UnsatisfiableIsSafe : Type 0

@@ -9,13 +9,12 @@ ghost use Rattle.sd_vcgen.specs.Numbers.{Denotes};
 ghost use Rattle.sd_product.specs.Numbers.{DenoteAll};
 ghost use Rattle.sd_product.specs.Query.{symbols, equalities, conditions, claim, query_of};
 
-use std::alloc::Global;
-
 use sd_ast::Proc;
 use sd_base::{NoMemory, Sort};
 use sd_term::{Bank, Head, Query, TermId};
 use sd_vcgen::flag_term;
 use sqlite_items::Items;
+use std::alloc::Global;
 
 /// On which inputs the new procedure is claimed to fail only where the old one does.
 #[derive(Clone, Copy, Debug, PartialEq, Eq)]

@@ -5,3 +5,4 @@ pub mod Sorted
 pub mod Numbers
 pub mod Statements
 pub mod Declared
+pub mod Assertions

@@ -217,8 +217,9 @@ fn fail(bank: &mut Bank, state: &mut BodyState, guard: TermId) -> Result<(), NoM
     ensures kept { OnOk result (Extends bank.old bank.new) }
 {
     let flag = bank.or(state.flag, guard)?;
-    state.gone = bank.or(state.gone, guard)?;
+    let gone = bank.or(state.gone, guard)?;
     state.flag = flag;
+    state.gone = gone;
     Ok(())
 }
 

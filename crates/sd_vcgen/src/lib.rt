@@ -3,5 +3,7 @@
 
 mod body;
 pub mod laws;
+#[cfg(test)]
+mod tests;
 
 pub use body::flag_term;

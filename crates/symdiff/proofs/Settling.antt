@@ -62,6 +62,14 @@ pub record HasProof (facts : List Tree) : Type 0 where
 steps_of : (facts : List Tree) (how : How) → IsHow facts how → HasProof facts
 steps_of facts (Steps proof) h = record { steps = proof.steps; proves = h }
 
+-- an open cube of a query
+pub record HasCube (facts : List Tree) : Type 0 where
+  pub cube : Cube
+  pub «open» : IsOpenCube facts cube
+
+cube_of : (facts : List Tree) (cause : Cause) → IsCause facts cause → HasCube facts
+cube_of facts (Open cube) h = record { cube = cube; «open» = h }
+
 module _ (queries : List (List Tree)) (table : List Bool) (deaths : List Death) (proofs : List Proved) (settled : IsSettled queries table deaths proofs) where
   -- the query of a live candidate has a proof
   pub live_proved : (c : ℕ) (facts : List Tree) → slice_get table c ≡ Some true → slice_get queries c ≡ Some facts → HasProof facts
@@ -97,14 +105,6 @@ module _ (queries : List (List Tree)) (table : List Bool) (deaths : List Death) 
   lawful before [] c a (k, within, is) = absurd (omega arith)
   lawful before (d ∷ ds) c a (zero, within, is) = record { before = before; death = d; named = is; legal = a.0 }
   lawful before (d ∷ ds) c a (suc k, within, is) = lawful (before ++ d.candidate ∷ []) ds c a.1 (k, omega arith, is)
-
-  -- an open cube of a query
-  pub record HasCube (facts : List Tree) : Type 0 where
-    pub cube : Cube
-    pub «open» : IsOpenCube facts cube
-
-  cube_of : (facts : List Tree) (cause : Cause) → IsCause facts cause → HasCube facts
-  cube_of facts (Open cube) h = record { cube = cube; «open» = h }
 
   -- the query of a dead candidate has an open cube
   pub dead_open : (c : ℕ) (facts : List Tree) → slice_get table c ≡ Some false → slice_get queries c ≡ Some facts → HasCube facts

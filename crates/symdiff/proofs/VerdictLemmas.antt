@@ -89,6 +89,9 @@ boolean_of (Axiom x ∷ ds) f p b e = absurd b.0
 boolean_of (Globals vs ∷ ds) f p b e = absurd b.0
 boolean_of (Implementation m ∷ ds) f p b e = absurd b.0
 
+none_is_some : {X : Type 0} (x : X) → ◌≡◌ {A = Option X} None (Some x) → ⊥
+none_is_some x e = cc
+
 -- ---- pairs
 
 module _ (P Q : Program) (old_boolean : IsBooleanProgram P) (new_boolean : IsBooleanProgram Q) where
@@ -124,7 +127,7 @@ module _ (P Q : Program) (old_boolean : IsBooleanProgram P) (new_boolean : IsBoo
   -- ---- verdicts
 
   -- what is claimed by a verdict
-  abbrev IsRight : PairVerdict → Type 0
+  abbrev pub IsRight : PairVerdict → Type 0
   IsRight v = (v.state ≡ Safe → NewFailure P Q v.old v.new → ⊥) × (v.state ≡ Unknown → NewFailure P Q v.old v.new)
 
   -- a live candidate makes its pair safe, and a dead one with equal inputs shows a failure
@@ -138,9 +141,6 @@ module _ (P Q : Program) (old_boolean : IsBooleanProgram P) (new_boolean : IsBoo
       live : (c : ℕ) (facts : List Tree) → slice_get table c ≡ Some true → slice_get queries c ≡ Some facts → Live facts
       dead : (c : ℕ) (facts : List Tree) → slice_get table c ≡ Some false → slice_get queries c ≡ Some facts → Dead facts
 
-    signature_is : (s t : VerdictState) → ◌≡◌ {A = VerdictState} Signature Safe → ⊥
-    signature_is s t e = cc
-
     -- the verdict of two procedures with as many parameters
     right_open : (p q : Proc) (table : List Bool) → IsPair P Q p.head.name q.head.name p q → Tells (query_of NoCondition p q ∷ query_of EqualInputs p q ∷ []) (take 2 table)
         → IsRight (record { old = p.head.name; new = q.head.name; state = if any_live (take 2 table) then Safe else Unknown; equal = false })
@@ -153,21 +153,18 @@ module _ (P Q : Program) (old_boolean : IsBooleanProgram P) (new_boolean : IsBoo
     -- ---- lists of pairs
 
     slice_get-take : {X : Type 0} (k : ℕ) (xs : List X) (c : ℕ) (x : X) → slice_get (take k xs) c ≡ Some x → slice_get xs c ≡ Some x
-    slice_get-take zero xs c x e = absurd (none_there c e)
-      where
-        none_there : (c : ℕ) → slice_get {X = X} [] c ≡ Some x → ⊥
-        none_there c e = cc
+    slice_get-take zero xs c x e = absurd (none_is_some x e)
     slice_get-take (suc k) [] c x e = e
     slice_get-take (suc k) (y ∷ xs) zero x e = e
     slice_get-take (suc k) (y ∷ xs) (suc c) x e = slice_get-take k xs c x e
 
     slice_get-drop : {X : Type 0} (k : ℕ) (xs : List X) (c : ℕ) (x : X) → slice_get (drop k xs) c ≡ Some x → slice_get xs (k + c) ≡ Some x
     slice_get-drop zero xs c x e = let z : 0 + c ≡ c = omega arith in ap (λ n. slice_get xs n) z ∙ e
-    slice_get-drop (suc k) [] c x e = absurd (let bad : ◌≡◌ {A = Option X} None (Some x) = e in cc)
+    slice_get-drop (suc k) [] c x e = absurd (none_is_some x e)
     slice_get-drop (suc k) (y ∷ xs) c x e = let z : suc k + c ≡ suc (k + c) = omega arith in ap (λ n. slice_get (y ∷ xs) n) z ∙ slice_get-drop k xs c x e
 
     slice_get-front : {X : Type 0} (xs ys : List X) (c : ℕ) (x : X) → slice_get xs c ≡ Some x → slice_get (xs ++ ys) c ≡ Some x
-    slice_get-front [] ys c x e = absurd (let bad : ◌≡◌ {A = Option X} None (Some x) = e in cc)
+    slice_get-front [] ys c x e = absurd (none_is_some x e)
     slice_get-front (y ∷ xs) ys zero x e = e
     slice_get-front (y ∷ xs) ys (suc c) x e = slice_get-front xs ys c x e
 
