@@ -112,7 +112,11 @@ fn push_some(pairs: &mut Vec<Straight>, pair: Option<Straight>) -> Result<(), No
 
 /// The pairs of two programs, each with the queries of its candidates: a procedure is paired with the one of its
 /// name, in the order of the old text.
-pub fn straight_pairs(alloc: Global, old: &Program, new: &Program) -> Result<Vec<Straight>, NoMemory>
+pub fn straight_pairs(
+    alloc: Global,
+    old: &Program,
+    new: &Program,
+) -> Result<Vec<Straight>, NoMemory>
     requires old_boolean { IsBooleanProgram old.now }
     requires new_boolean { IsBooleanProgram new.now }
     ensures pairs { IfOk result (λ pairs. pairs.items ≡ straights_of old.now.decls new.now.decls) }

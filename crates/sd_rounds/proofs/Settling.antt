@@ -90,9 +90,10 @@ live_from-false n (false ∷ bs) = live_from-false (suc n) bs
 
 legal-more : (queries : List (List Tree)) (facts : List Tree) (count : ℕ) (before : List ℕ) (ds : List Death) → AreLegal queries count before ds → AreLegal (queries ++ facts ∷ []) count before ds
 legal-more queries facts count before [] a = tt
-legal-more queries facts count before (d ∷ ds) a =
-    (record { facts = a.0.facts; query = slice_get-append queries (facts ∷ []) d.candidate a.0.facts a.0.query; once = a.0.once; seen = a.0.seen; cause = a.0.cause },
-     legal-more queries facts count (before ++ d.candidate ∷ []) ds a.1)
+legal-more queries facts count before (d ∷ ds) a = (
+  record { facts = a.0.facts; query = slice_get-append queries (facts ∷ []) d.candidate a.0.facts a.0.query; once = a.0.once; seen = a.0.seen; cause = a.0.cause },
+  legal-more queries facts count (before ++ d.candidate ∷ []) ds a.1,
+)
 
 legal-snoc : (queries : List (List Tree)) (count : ℕ) (before : List ℕ) (ds : List Death) (d : Death) → AreLegal queries count before ds → IsLegalDeath queries count (before ++ dead_of ds) d → AreLegal queries count before (ds ++ d ∷ [])
 legal-snoc queries count before [] d a is = (subst (λ (b : List ℕ). IsLegalDeath queries count b d) (append_nil before) is, tt)
@@ -137,11 +138,11 @@ module _ (count : ℕ) (queries : List (List Tree)) (table : List Bool) (deaths 
   proof_settles proof proofs' proves added =
       let one : Proved = record { candidate = candidate; how = Steps proof } in
       let grown : take (length (queries ++ facts ∷ [])) table ≡ take candidate table ++ true ∷ [] =
-            ap (λ n. take n table) more_queries ∙ (take_more table candidate false within ∙ ap (λ b. take candidate table ++ b ∷ []) (get_or_from_slice_get table candidate true false alive)) in
+      ap (λ n. take n table) more_queries ∙ (take_more table candidate false within ∙ ap (λ b. take candidate table ++ b ∷ []) (get_or_from_slice_get table candidate true false alive)) in
       let numbers : proved_of (proofs ++ one ∷ []) ≡ live_from 0 (take candidate table ++ true ∷ []) =
-            map-append (λ p. p.candidate) proofs (one ∷ [])
-            ∙ (ap (λ ks. ks ++ candidate ∷ []) (settled.inductive.numbers ∙ ap (λ n. live_from 0 (take n table)) (sym is))
-            ∙ sym (live_from-true 0 (take candidate table) ∙ ap (λ n. live_from 0 (take candidate table) ++ n ∷ []) (let e = front in omega (arith, e)))) in
+      map-append (λ p. p.candidate) proofs (one ∷ [])
+      ∙ (ap (λ ks. ks ++ candidate ∷ []) (settled.inductive.numbers ∙ ap (λ n. live_from 0 (take n table)) (sym is))
+      ∙ sym (live_from-true 0 (take candidate table) ∙ ap (λ n. live_from 0 (take candidate table) ++ n ∷ []) (let e = front in omega (arith, e)))) in
       record {
         table_is = settled.table_is;
         legal = legal-more queries facts count [] deaths settled.legal;
@@ -149,7 +150,7 @@ module _ (count : ℕ) (queries : List (List Tree)) (table : List Bool) (deaths 
           numbers = ap proved_of added ∙ (numbers ∙ ap (live_from 0) (sym grown));
           proved = subst (λ (ps : List Proved). AllByRecursion (IsProved (queries ++ facts ∷ [])) ps) (sym added)
               (all-append (IsProved (queries ++ facts ∷ [])) proofs (one ∷ []) (all-map (IsProved queries) (IsProved (queries ++ facts ∷ [])) (proved-more queries facts) proofs settled.inductive.proved)
-                (record { facts = facts; query = ap (λ k. slice_get (queries ++ facts ∷ []) k) is ∙ slice_get-last queries facts; how = proves }, tt));
+              (record { facts = facts; query = ap (λ k. slice_get (queries ++ facts ∷ []) k) is ∙ slice_get-last queries facts; how = proves }, tt));
         };
       }
 
@@ -166,8 +167,8 @@ module _ (count : ℕ) (queries : List (List Tree)) (table : List Bool) (deaths 
       numbers =
           settled.inductive.numbers ∙ (ap (λ n. live_from 0 (take n table)) (sym is)
           ∙ sym (ap (λ t. live_from 0 (take (length (queries ++ facts ∷ [])) t)) cut
-            ∙ (ap (λ n. live_from 0 (take n (set table candidate false))) more_queries
-            ∙ (ap (live_from 0) (take_more_set table candidate false within) ∙ live_from-false 0 (take candidate table)))));
+          ∙ (ap (λ n. live_from 0 (take n (set table candidate false))) more_queries
+          ∙ (ap (live_from 0) (take_more_set table candidate false within) ∙ live_from-false 0 (take candidate table)))));
       proved = all-map (IsProved queries) (IsProved (queries ++ facts ∷ [])) (proved-more queries facts) proofs settled.inductive.proved;
     };
   }

@@ -62,7 +62,12 @@ fn add(count: u32, more: usize) -> Result<u32, NoMemory>
 }
 
 /// Judges the candidate with this number and this query.
-fn judge(alloc: Global, settled: &mut Settled, candidate: u32, query: &Query) -> Result<(), NoMemory>
+fn judge(
+    alloc: Global,
+    settled: &mut Settled,
+    candidate: u32,
+    query: &Query,
+) -> Result<(), NoMemory>
     requires boolean { AllBoolean query.now }
     requires within { candidate < length settled.old.table }
     ensures size { OnOk result (length settled.new.table ≡ length settled.old.table) }

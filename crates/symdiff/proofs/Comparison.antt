@@ -34,9 +34,9 @@ module _ (P Q : Program) (pairs : List PairVerdict) (table : List ℕ) (deaths :
   safe : (p q : Proc) (c : Candidate) → IsPair P Q p.head.name q.head.name p q → HasProof (query_of c p q) → NewFailure P Q p.head.name q.head.name → ⊥
   safe p q c pair proof =
       unsatisfiable-safe P Q p.head.name q.head.name p q c pair
-        (accepted-unsatisfiable (query_of c p q) proof.steps
-          (query-sorted c p q (found-boolean P.decls p.head.name p pair.old_boolean.decls pair.old_found) (found-boolean Q.decls q.head.name q pair.new_boolean.decls pair.new_found))
-          (proves-accepted (query_of c p q) proof.steps proof.proves))
+      (accepted-unsatisfiable (query_of c p q) proof.steps
+      (query-sorted c p q (found-boolean P.decls p.head.name p pair.old_boolean.decls pair.old_found) (found-boolean Q.decls q.head.name q pair.new_boolean.decls pair.new_found))
+      (proves-accepted (query_of c p q) proof.steps proof.proves))
 
   failure : (p q : Proc) → IsPair P Q p.head.name q.head.name p q → HasCube (query_of EqualInputs p q) → NewFailure P Q p.head.name q.head.name
   failure p q pair cube = open_cubes-fail P Q p.head.name q.head.name p q cube.cube pair cube.«open»
@@ -45,8 +45,8 @@ module _ (P Q : Program) (pairs : List PairVerdict) (table : List ℕ) (deaths :
   all =
       let queries = queries_of (straights_of P.decls Q.decls) in
       subst (λ (vs : List PairVerdict). AllByRecursion (IsRight P Q old_read.typed new_read.typed) vs) (sym compared.verdicts)
-        (all_right P Q old_read.typed new_read.typed HasProof HasCube safe failure compared.live compared.settled.0
-          (live_proved queries compared.live deaths compared.proofs compared.settled) (dead_open queries compared.live deaths compared.proofs compared.settled))
+      (all_right P Q old_read.typed new_read.typed HasProof HasCube safe failure compared.live compared.settled.0
+      (live_proved queries compared.live deaths compared.proofs compared.settled) (dead_open queries compared.live deaths compared.proofs compared.settled))
 
   -- no safe pair has a new failure
   pub compared_safe : NoNewFailure P Q pairs

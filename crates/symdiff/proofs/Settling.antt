@@ -92,8 +92,9 @@ module _ (queries : List (List Tree)) (table : List Bool) (deaths : List Death) 
   cleared_false : (t : List Bool) (cs : List ℕ) (i : ℕ) → slice_get (cleared t cs) i ≡ Some false → (slice_get t i ≡ Some false) ⊎ Contains cs i
   cleared_false t [] i e = inl e
   cleared_false t (c ∷ cs) i e = elim (cleared_false (set t c false) cs i e) [
-      inl h ↦ elim (set_false t c i h) [ inl k ↦ inl k | inr k ↦ inr (subst (λ (j : ℕ). Contains (c ∷ cs) j) k (contains_head c cs)) ]
-    | inr h ↦ inr (contains_tail c cs i h) ]
+    | inl h ↦ elim (set_false t c i h) [ inl k ↦ inl k | inr k ↦ inr (subst (λ (j : ℕ). Contains (c ∷ cs) j) k (contains_head c cs)) ]
+    | inr h ↦ inr (contains_tail c cs i h)
+  ]
 
   record Lawful (c : ℕ) : Type 0 where
     before : List ℕ
@@ -111,11 +112,12 @@ module _ (queries : List (List Tree)) (table : List Bool) (deaths : List Death) 
   dead_open c facts dead query =
       let below : c < length queries = slice_get_within queries c facts query in
       let full : slice_get (replicate (length queries) true) c ≡ Some true =
-            slice_get-get_or (replicate (length queries) true) c false (subst (λ (n : ℕ). c < n) (sym (length-replicate (length queries) true)) below) ∙ ap Some (get_or-replicate (length queries) c true false below) in
+      slice_get-get_or (replicate (length queries) true) c false (subst (λ (n : ℕ). c < n) (sym (length-replicate (length queries) true)) below) ∙ ap Some (get_or-replicate (length queries) c true false below) in
       let gone : slice_get (cleared (replicate (length queries) true) (dead_of deaths)) c ≡ Some false = ap (λ t. slice_get t c) (sym settled.1.table_is) ∙ dead in
       elim (cleared_false (replicate (length queries) true) (dead_of deaths) c gone) [
-          inl h ↦ absurd (let bad : false ≡ true = bool_is false true (sym h ∙ full) in cc)
+        | inl h ↦ absurd (let bad : false ≡ true = bool_is false true (sym h ∙ full) in cc)
         | inr h ↦
             let l : Lawful c = lawful [] deaths c settled.1.legal h in
             let same : l.legal.facts ≡ facts = some_is l.legal.facts facts (sym l.legal.query ∙ (ap (λ k. slice_get queries k) l.named ∙ query)) in
-            subst (λ (fs : List Tree). HasCube fs) same (cube_of l.legal.facts l.death.cause l.legal.cause) ]
+            subst (λ (fs : List Tree). HasCube fs) same (cube_of l.legal.facts l.death.cause l.legal.cause)
+      ]

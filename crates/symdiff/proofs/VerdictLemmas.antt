@@ -109,14 +109,16 @@ module _ (P Q : Program) (old_boolean : IsBooleanProgram P) (new_boolean : IsBoo
     where
       go : (o : Option Proc) → procedure_in Q.decls p.head.name ≡ o → AllByRecursion IsOf (straights_of ds Q.decls) → AllByRecursion IsOf (cons_option (option_map (straight_of p) o) (straights_of ds Q.decls))
       go None e rest = rest
-      go (Some q) e rest =
-          (record {
-            p = p;
-            q = q;
-            is = refl;
-            old_found = own_found P.decls p old_boolean.decls old_boolean.distinct (within p (inl refl));
-            new_found = own_found Q.decls q new_boolean.decls new_boolean.distinct (boolean_of Q.decls p.head.name q new_boolean.decls e);
-          }, rest)
+      go (Some q) e rest = (
+        record {
+          p = p;
+          q = q;
+          is = refl;
+          old_found = own_found P.decls p old_boolean.decls old_boolean.distinct (within p (inl refl));
+          new_found = own_found Q.decls q new_boolean.decls new_boolean.distinct (boolean_of Q.decls p.head.name q new_boolean.decls e);
+        },
+        rest,
+      )
   all_of (Types ns ∷ ds) b within = absurd b.0
   all_of (Const u ns s ∷ ds) b within = absurd b.0
   all_of (Function n args r ∷ ds) b within = absurd b.0
@@ -134,7 +136,6 @@ module _ (P Q : Program) (old_boolean : IsBooleanProgram P) (new_boolean : IsBoo
   module _ (Live Dead : List Tree → Type 0)
       (safe : (p q : Proc) (c : Candidate) → IsPair P Q p.head.name q.head.name p q → Live (query_of c p q) → NewFailure P Q p.head.name q.head.name → ⊥)
       (failure : (p q : Proc) → IsPair P Q p.head.name q.head.name p q → Dead (query_of EqualInputs p q) → NewFailure P Q p.head.name q.head.name) where
-
     -- the candidates of these queries are live or dead as the table says
     record Tells (queries : List (List Tree)) (table : List Bool) : Type 0 where
       size : length table ≡ length queries
@@ -203,7 +204,7 @@ module _ (P Q : Program) (old_boolean : IsBooleanProgram P) (new_boolean : IsBoo
     right_pair p q table true same found found' tells =
         let pair : IsPair P Q p.head.name q.head.name p q = record { old_boolean = old_boolean; new_boolean = new_boolean; old_found = found; new_found = found'; same_count = grind (arith, nat_tests, same) } in
         let R : Bool → Type 0 = λ b. Tells (if b then query_of NoCondition p q ∷ query_of EqualInputs p q ∷ [] else []) (take (length (if b then query_of NoCondition p q ∷ query_of EqualInputs p q ∷ [] else [])) table)
-              → IsRight (record { old = p.head.name; new = q.head.name; state = if not b then Signature else if any_live (take (length (if b then query_of NoCondition p q ∷ query_of EqualInputs p q ∷ [] else [])) table) then Safe else Unknown; equal = false }) in
+        → IsRight (record { old = p.head.name; new = q.head.name; state = if not b then Signature else if any_live (take (length (if b then query_of NoCondition p q ∷ query_of EqualInputs p q ∷ [] else [])) table) then Safe else Unknown; equal = false }) in
         subst R (sym same) (λ t. right_open p q table pair t) tells
     right_pair p q table false same found found' tells =
         let R : Bool → Type 0 = λ b. IsRight (record { old = p.head.name; new = q.head.name; state = if not b then Signature else if any_live (take (length (if b then query_of NoCondition p q ∷ query_of EqualInputs p q ∷ [] else [])) table) then Safe else Unknown; equal = false }) in
@@ -213,9 +214,10 @@ module _ (P Q : Program) (old_boolean : IsBooleanProgram P) (new_boolean : IsBoo
     verdicts_right [] table a t = tt
     verdicts_right (s ∷ ss) table a t =
         let cut : Tells (s.queries ++ queries_of ss) table = subst (λ (qs : List (List Tree)). Tells qs table) (flat_map-cons (λ x. x.queries) s ss) t in
-        let V : Straight → Type 0 = λ x. Tells x.queries (take (length x.queries) table) → IsRight (verdict_of x (take (length x.queries) table)) in
-        (subst V (sym a.0.is) (right_pair a.0.p a.0.q table (same_types a.0.p a.0.q) refl a.0.old_found a.0.new_found) (tells_front s.queries (queries_of ss) table cut),
-         verdicts_right ss (drop (length s.queries) table) a.1 (tells_back s.queries (queries_of ss) table cut))
+        let V : Straight → Type 0 = λ x. Tells x.queries (take (length x.queries) table) → IsRight (verdict_of x (take (length x.queries) table)) in (
+          subst V (sym a.0.is) (right_pair a.0.p a.0.q table (same_types a.0.p a.0.q) refl a.0.old_found a.0.new_found) (tells_front s.queries (queries_of ss) table cut),
+          verdicts_right ss (drop (length s.queries) table) a.1 (tells_back s.queries (queries_of ss) table cut),
+        )
 
     -- the verdicts of the pairs of the programs are right
     pub all_right : (table : List Bool) → (length table ≡ length (queries_of (straights_of P.decls Q.decls)))

@@ -15,7 +15,8 @@ const ASSERTS_B_OF_TWO: &[u8] = b"procedure p(b: bool, c: bool) { assert b; }\n"
 
 const ASSERTS_BOTH: &[u8] = b"procedure p(b: bool, c: bool) { assert b && c; }\n";
 
-const USAGE: &[u8] = b"usage: symdiff verify OLD NEW [--settings FILE] [--workers N] [--leaves N] [--certificate FILE]\n       symdiff replay OLD NEW CERTIFICATE [--settings FILE]\n       symdiff gen N [--workers N] [--leaves N]\n";
+const USAGE: &[u8] =
+    b"usage: symdiff verify OLD NEW [--settings FILE] [--workers N] [--leaves N] [--certificate FILE]\n       symdiff replay OLD NEW CERTIFICATE [--settings FILE]\n       symdiff gen N [--workers N] [--leaves N]\n";
 
 fn words_of(alloc: Global, words: &[&str]) -> Result<Vec<String>, Fail> {
     let mut all = Vec::new(alloc);
@@ -43,14 +44,7 @@ fn run_words<R: Threads + Sync + Abort>(
     ]?;
     let mut files = MemFiles::new(alloc, files, ROOM, failing.to_vec(alloc)?)?;
     let words = words_of(alloc, words)?;
-    Ok(run(
-        rt,
-        alloc,
-        words.as_slice(),
-        &mut files,
-        sink,
-        &OpenGate,
-    ))
+    Ok(run(rt, alloc, words.as_slice(), &mut files, sink, &OpenGate))
 }
 
 /// Texts with the status and the text that `verify old new` answers.
@@ -141,8 +135,16 @@ fn an_open_cube_shows_the_new_failure(rt: HostRuntime) -> Result<(), Fail> {
     // The terms are the old `b`, the new one, their equality, the old `c`, the new one, and so on.
     let Cause::Open(cube) = &death.cause;
     let literals = cube.literals.as_slice();
-    assert!(rt; literals.iter().any(|literal| literal.term == 1 && literal.value));
-    assert!(rt; literals.iter().any(|literal| literal.term == 4 && !literal.value));
+    assert!(rt;
+        literals
+            .iter()
+            .any(|literal| literal.term == 1 && literal.value)
+    );
+    assert!(rt;
+        literals
+            .iter()
+            .any(|literal| literal.term == 4 && !literal.value)
+    );
     Ok(())
 }
 
