@@ -4,6 +4,7 @@ use Rattle.std.specs.Prelude.{Option, Some, Contains, Result, Ok, Err, IfOk, if�
 use Rattle.std.specs.List.{list_all, AllByRecursion}
 use Rattle.sd_ast.specs.declared.Program.{Program}
 use Rattle.sd_parse.specs.Text.{IsRead}
+use Rattle.sd_base.specs.Causes.{Rose}
 use Rattle.sd_rounds.specs.declared.settle.Death.{Death}
 use Rattle.symdiff.specs.declared.verdict.PairVerdict.{PairVerdict}
 use Rattle.symdiff.specs.Words.{JobNames, job_of}
@@ -73,3 +74,7 @@ module _ (words : List (List ℕ)) (held : List ℕ → Option (List ℕ)) (code
 pub all_ok : {T E : Type 0} (r : Result T E) {P Q R S : T → Type 0} → IfOk r P → IfOk r Q → IfOk r R → ((x : T) → P x → Q x → R x → S x) → IfOk r S
 all_ok (Ok x) h k l f = f x h k l
 all_ok (Err e) h k l f = tt
+
+-- a count that rose later rose
+pub rose_later : (before mid now : ℕ) → mid ≡ before → Rose mid now → Rose before now
+rose_later before mid now same rose = subst (λ (n : ℕ). Rose n now) same rose

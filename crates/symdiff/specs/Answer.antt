@@ -45,6 +45,6 @@ Headline words held pairs = ForPrograms words held (λ old new. NoNewFailure old
 abbrev pub UnknownIsFailure : List (List ℕ) → (List ℕ → Option (List ℕ)) → List PairVerdict → Type 0
 UnknownIsFailure words held pairs = ForPrograms words held (λ old new. AreNewFailures old new pairs)
 
--- the reading of one of the two files failed
+-- the words name a job, and the reading of one of its two files failed
 abbrev pub ReadRose : List (List ℕ) → (List ℕ → ℕ) → (List ℕ → ℕ) → Type 0
-ReadRose words before now = ForJob words (λ job. Rose (before job.old) (now job.old) ⊎ Rose (before job.new) (now job.new))
+ReadRose words before now = (job : JobNames) × (job_of words ≡ Some job) × (Rose (before job.old) (now job.old) ⊎ Rose (before job.new) (now job.new))

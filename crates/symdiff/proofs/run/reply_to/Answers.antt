@@ -1,6 +1,6 @@
-use Rattle.std.proofs.Common.{◌∙◌, refl}
+use Rattle.std.proofs.Common.{◌∙◌, refl, inl, inr}
 use Rattle.symdiff.specs.Answer.{old_refused, new_refused, done}
-use Rattle.symdiff.proofs.Rows.{all_ok}
+use Rattle.symdiff.proofs.Rows.{all_ok, rose_later}
 use Rattle.symdiff.proofs.run.reply_to.Goals as goal
 
 pub returns-in-Err-NotYet-clause-answer : goal.returns-in-Err-NotYet-clause-answer
@@ -20,3 +20,12 @@ pub returns-in-Ok-compare-clause-answer : goal.returns-in-Ok-compare-clause-answ
 returns-in-Ok-compare-clause-answer g c =
     done (record { old = c.in-Some.job.old.now; new = c.in-Some.job.new.now }) c.in-Ok.old c.in-Ok-read_text.new c.in-Some.ensures c.in-Ok.ensures.spelled
     (λ bytes told. c.in-Ok-read_text.ensures.spelled bytes (c.read_text.ensures.stay c.in-Some.job.new.now ∙ told)) c.in-Ok-compare.ensures.compared c.in-Ok-compare.ensures.status c.in-Ok-compare.ensures.text
+
+pub returns-in-Err-Failed-clause-read_fault : goal.returns-in-Err-Failed-clause-read_fault
+returns-in-Err-Failed-clause-read_fault g c e =
+    (record { old = c.in-Some.job.old.now; new = c.in-Some.job.new.now }, c.in-Some.ensures, inl (c.in-Err-Failed.ensures.cause (rw c.in-Err-Failed.field-0-is refl)))
+
+pub returns-in-Err-Failed-read_text-clause-read_fault : goal.returns-in-Err-Failed-read_text-clause-read_fault
+returns-in-Err-Failed-read_text-clause-read_fault g c e =
+    (record { old = c.in-Some.job.old.now; new = c.in-Some.job.new.now }, c.in-Some.ensures,
+     inr (rose_later _ _ _ ((c.in-Ok.ensures.no_fault (λ bad. cc)).0 c.in-Some.job.new.now) (c.in-Err-Failed-read_text.ensures.cause (rw c.in-Err-Failed-read_text.field-0-is refl))))
