@@ -2,3 +2,4 @@ pub mod Booleans
 pub mod Programs
 pub mod Failures
 pub mod Numbers
+pub mod Example
