@@ -1,10 +1,9 @@
 -- The query of `procedure p(b: bool) { assert b; }` and `procedure p(b: bool) { assert !!b; }` with equal inputs.
-use Rattle.std.proofs.Common.{◌≡◌, List, [], ◌∷◌, Some, refl}
+use Rattle.std.proofs.Common.{◌≡◌, [], ◌∷◌, Some, refl}
 use Rattle.sd_base.specs.declared.Place.{Place}
 use Rattle.sd_base.specs.declared.Sort.{Bool as BoolSort}
 use Rattle.sd_base.specs.Value.{Text}
 use Rattle.sd_ast.specs.declared.UnOp.TheVariants as op1
-use Rattle.sd_ast.specs.declared.Expr.{Expr}
 use Rattle.sd_ast.specs.declared.ExprKind.{ExprKind, Var as Variable}
 use Rattle.sd_ast.specs.declared.StmtKind.{Assert}
 use Rattle.sd_ast.specs.declared.Proc.{Proc}

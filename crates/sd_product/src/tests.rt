@@ -1,14 +1,12 @@
 ghost use Rattle.std.specs.Prelude.{◌≡◌, IfOk, length};
 ghost use Rattle.sd_ast.specs.Boolean.{IsBooleanProc};
 
-use std::alloc::Global;
-use std::test::Fail;
-
+use crate::{Candidate, pair_query};
 use sd_ast::{Body, Expr, ExprKind, Head, Proc, Stmt, StmtKind};
 use sd_base::{CloneOf, Name, NoMemory, Place, Sort, Var};
 use sqlite_items::Items;
-
-use crate::{Candidate, pair_query};
+use std::alloc::Global;
+use std::test::Fail;
 
 /// `procedure p(b: bool) { assert b; }`
 fn assertion(alloc: Global) -> Result<Proc, NoMemory>
