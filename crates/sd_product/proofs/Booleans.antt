@@ -10,7 +10,7 @@ use Rattle.sd_term.specs.declared.node.Head.{Head}
 use Rattle.sd_term.specs.declared.node.Head.TheVariants.{Sym, Start}
 use Rattle.sd_term.specs.Heads.{True, False, Not, And, Or, Ite}
 use Rattle.sd_term.specs.Tree.{Tree, leaf, call, head_of, parts_of, tree}
-use Rattle.sd_term.specs.Sorts.{sort_of, same_sort, is_truth_valued, IsWellSorted, AllWellSorted}
+use Rattle.sd_term.specs.Sorts.{sort_of, same_sort, is_truth_valued, AllWellSorted}
 use Rattle.sd_term.specs.Build.{part_or, not_by, not_of, constant_of, and_by, and_of, or_by, or_of, ite_by, ite_of, eq_of}
 use Rattle.sd_term.proofs.BuildSorts.{eq-well}
 use Rattle.sd_kernel.specs.OpenCube.{IsBooleanHead, PartsBoolean, IsBoolean, AllBoolean}

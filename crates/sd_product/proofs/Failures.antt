@@ -1,6 +1,6 @@
 -- What the queries of a pair of procedures are good for.
 use Rattle.std.proofs.Common.{◌≡◌, ℕ, zero, suc, List, [], ◌∷◌, ◌++◌, length, get_or, refl, sym, ap, ◌∙◌, subst, arith, append_assoc}
-use Rattle.std.specs.Prelude.{Bool, true, false, not, ◌||◌, map, pos, Option, Some, None, if◌then◌else◌, Contains}
+use Rattle.std.specs.Prelude.{Bool, true, false, not, ◌||◌, map, pos, Option, if◌then◌else◌}
 use Rattle.std.specs.List.{AllByRecursion}
 use Rattle.sd_base.specs.declared.Sort.{Sort, Bool as BoolSort}
 use Rattle.sd_base.specs.declared.Var.{Var}
@@ -14,15 +14,14 @@ use Rattle.sd_ast.specs.declared.Program.{Program}
 use Rattle.sd_ast.specs.declared.Proc.{Proc}
 use Rattle.sd_ast.specs.Boolean.{AreBooleanVars, IsBooleanProc}
 use Rattle.sd_meaning.specs.Evaluate.{Store}
-use Rattle.sd_meaning.specs.Routine.{procedure_in}
 use Rattle.sd_meaning.specs.Run.{Outcome, Ended, run}
-use Rattle.sd_meaning.specs.Inputs.{HasSorts, IsStoreOf, in_sorts, globals_in, uniques_in, AreDistinct, IsMeaning, IsInput, SameInput}
+use Rattle.sd_meaning.specs.Inputs.{HasSorts, IsStoreOf, in_sorts, globals_in, uniques_in, AreDistinct}
 use Rattle.sd_meaning.specs.NewFailure.{NewFailure}
 use Rattle.sd_term.specs.declared.Cube.{Cube}
 use Rattle.sd_term.specs.declared.node.Head.TheVariants.{Sym}
 use Rattle.sd_term.specs.Tree.{Tree, leaf}
 use Rattle.sd_term.specs.Truth.{Valuation, value, MakesTrue, IsUnsatisfiable}
-use Rattle.sd_term.specs.Build.{not_of, or_of, eq_of}
+use Rattle.sd_term.specs.Build.{not_of}
 use Rattle.sd_term.proofs.Typed.{value-sorted}
 use Rattle.sd_term.proofs.BuildValues.{not-value, or-value}
 use Rattle.sd_kernel.specs.OpenCube.{IsOpenCube}

@@ -3,3 +3,4 @@ pub mod Programs
 pub mod Failures
 pub mod Pairs
 pub mod Numbers
+pub mod Example

@@ -9,7 +9,7 @@ use Rattle.sd_term.specs.Bank.{tree_at}
 use Rattle.sd_term.specs.Build.{Extends, not_of, or_of, eq_of}
 use Rattle.sd_vcgen.specs.Body.{flag_of}
 use Rattle.sd_vcgen.specs.Numbers.{Denotes}
-use Rattle.sd_vcgen.proofs.Numbers.{below_later, extends_then}
+use Rattle.sd_vcgen.proofs.Numbers.{below_later}
 use Rattle.sd_product.specs.declared.pair.Candidate.{Candidate}
 use Rattle.sd_product.specs.Numbers.{DenoteAll}
 use Rattle.sd_product.specs.Query.{symbols, old_inputs, new_inputs, equalities, conditions, claim, query_of}

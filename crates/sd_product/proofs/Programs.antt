@@ -1,18 +1,16 @@
 -- What boolean programs have and lack.
 use Rattle.std.proofs.Common.{◌≡◌, ℕ, zero, suc, List, [], ◌∷◌, refl, sym, ap, ◌∙◌, subst}
-use Rattle.std.specs.Prelude.{Bool, true, false, Option, Some, None, slice_get, if◌then◌else◌}
+use Rattle.std.specs.Prelude.{Bool, true, false, Some, None, slice_get, if◌then◌else◌}
 use Rattle.std.specs.List.{AllByRecursion, IsDistinct}
 use Rattle.std.specs.Cmp.Lexicographic.{bytes_decides}
-use Rattle.sd_base.specs.declared.Var.{Var}
 use Rattle.sd_base.specs.Value.{Text, same_text}
 use Rattle.sd_base.specs.Meaning.{Meaning}
 use Rattle.sd_ast.specs.declared.Decl.{Decl}
 use Rattle.sd_ast.specs.declared.Decl.TheVariants.{Procedure}
-use Rattle.sd_ast.specs.declared.Impl.{Impl}
 use Rattle.sd_ast.specs.declared.Program.{Program}
 use Rattle.sd_ast.specs.declared.Proc.{Proc}
 use Rattle.sd_ast.specs.Tree.{procedure_names}
-use Rattle.sd_ast.specs.Boolean.{IsBooleanDecl, AreBooleanDecls, IsBooleanProc, IsBooleanProgram}
+use Rattle.sd_ast.specs.Boolean.{AreBooleanDecls, IsBooleanProc, IsBooleanProgram}
 use Rattle.sd_meaning.specs.Routine.{procedure_in, implementation_in}
 use Rattle.sd_meaning.specs.Inputs.{IsTrueOf, uniques_in, globals_in}
 

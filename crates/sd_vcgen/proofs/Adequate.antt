@@ -1,14 +1,10 @@
 -- A body on terms follows the body on values.
-use Rattle.std.proofs.Common.{◌≡◌, ℕ, zero, suc, ◌<◌, List, [], ◌∷◌, ◌++◌, length, refl, sym, ap, subst, ◌∙◌, arith}
-use Rattle.std.specs.Prelude.{Bool, true, false, not, ◌&&◌, ◌||◌, cond, map, Option, Some, None, unwrap_or, if◌then◌else◌, Contains, slice_index_or}
-use Rattle.std.specs.List.{AllByRecursion}
+use Rattle.std.proofs.Common.{◌≡◌, zero, suc, List, [], ◌∷◌, refl, sym, ap, subst, ◌∙◌, arith}
+use Rattle.std.specs.Prelude.{Bool, true, false, not, ◌&&◌, ◌||◌, cond, map, Option, Some, unwrap_or, if◌then◌else◌, Contains}
 use Rattle.std.specs.Cmp.Lexicographic.{bytes_decides}
-use Rattle.sd_base.specs.declared.Sort.{Sort, Bool as BoolSort}
-use Rattle.sd_base.specs.declared.Var.{Var}
-use Rattle.sd_base.specs.Value.{Text, same_text, Value, Truth, Number, Element, Map}
-use Rattle.sd_base.specs.Sorts.{HasSort}
-use Rattle.sd_base.specs.Cast.{cast}
-use Rattle.sd_base.specs.Meaning.{Meaning, Interpretation, interpretation, truth_of, index_of}
+use Rattle.sd_base.specs.declared.Sort.{Bool as BoolSort}
+use Rattle.sd_base.specs.Value.{Text, same_text, Value, Truth}
+use Rattle.sd_base.specs.Meaning.{Interpretation, truth_of, index_of}
 use Rattle.sd_ast.specs.declared.BinOp.TheVariants as op
 use Rattle.sd_ast.specs.declared.UnOp.TheVariants as op1
 use Rattle.sd_ast.specs.declared.ExprKind.{ExprKind, Truth as Literal, Var as Variable}
@@ -17,21 +13,20 @@ use Rattle.sd_ast.specs.declared.Left.{Left}
 use Rattle.sd_ast.specs.declared.Expr.{Expr}
 use Rattle.sd_ast.specs.declared.Stmt.{Stmt}
 use Rattle.sd_ast.specs.declared.Program.{Program}
-use Rattle.sd_ast.specs.Tree.{UnaryOf, BinaryOf, names_of}
-use Rattle.sd_ast.specs.Boolean.{IsBooleanExpr, IsBooleanAssign, IsBooleanStmt, AreBooleanStmts, AllBooleanStmts, AreBooleanVars}
+use Rattle.sd_ast.specs.Tree.{UnaryOf, BinaryOf}
+use Rattle.sd_ast.specs.Boolean.{IsBooleanExpr, IsBooleanAssign, IsBooleanStmt, AreBooleanStmts, AllBooleanStmts}
 use Rattle.sd_meaning.specs.Evaluate.{Store, held, variable}
 use Rattle.sd_meaning.specs.Evaluate as meaning
 use Rattle.sd_meaning.specs.Run.{Flow, Next, Breaks, Returns, Failed, Blocked, Unfinished, and_then, each, kinds_of, is_in, values_of, written, Level}
 use Rattle.sd_meaning.specs.Run as run
-use Rattle.sd_term.specs.declared.node.Head.TheVariants.{Start}
-use Rattle.sd_term.specs.Tree.{Tree, leaf}
+use Rattle.sd_term.specs.Tree.{Tree}
 use Rattle.sd_term.specs.Sorts.{sort_of}
 use Rattle.sd_term.specs.Truth.{Valuation, value}
 use Rattle.sd_term.specs.Build.{not_of, and_of, or_of, ite_of}
 use Rattle.sd_term.proofs.BuildValues.{not-value, and-value, or-value, ite-chosen}
 use Rattle.sd_term.proofs.BuildSorts.{not-sort, and-sort, or-sort, ite-sort}
-use Rattle.sd_vcgen.specs.Body.{Terms, State, constant, term_named, term_of, guard_of, assigned, set, fail, leave, assert, assign, step, steps, all_steps, named, starting, begun}
-use Rattle.sd_vcgen.proofs.Keep.{Closed, Holds, AllHold, named-keeps, term-keeps, step-keeps, steps-keep}
+use Rattle.sd_vcgen.specs.Body.{Terms, State, constant, term_named, term_of, guard_of, assigned, set, fail, leave, assert, assign, step, steps, all_steps}
+use Rattle.sd_vcgen.proofs.Keep.{Closed, Holds, named-keeps, term-keeps, step-keeps, steps-keep}
 
 abbrev pub names_in : Terms → List Text
 names_in = map (λ w. w.0)

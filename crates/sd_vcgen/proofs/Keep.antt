@@ -1,6 +1,6 @@
 -- What holds of all terms that a body is built from holds of its terms.
 use Rattle.std.proofs.Common.{List, [], ◌∷◌, ◌++◌}
-use Rattle.std.specs.Prelude.{Bool, true, false, map, Option, Some, None, if◌then◌else◌}
+use Rattle.std.specs.Prelude.{Bool, true, false, Some, if◌then◌else◌}
 use Rattle.std.specs.List.{AllByRecursion}
 use Rattle.sd_base.specs.declared.Var.{Var}
 use Rattle.sd_base.specs.Value.{Text, same_text}
@@ -14,12 +14,10 @@ use Rattle.sd_ast.specs.declared.Left.{Left}
 use Rattle.sd_ast.specs.declared.Expr.{Expr}
 use Rattle.sd_ast.specs.declared.Stmt.{Stmt}
 use Rattle.sd_ast.specs.declared.Body.{Body}
-use Rattle.sd_ast.specs.declared.Proc.{Proc}
-use Rattle.sd_ast.specs.Tree.{UnaryOf, BinaryOf, names_of}
-use Rattle.sd_term.specs.declared.node.Head.TheVariants.{Start}
-use Rattle.sd_term.specs.Tree.{Tree, leaf}
+use Rattle.sd_ast.specs.Tree.{UnaryOf, BinaryOf}
+use Rattle.sd_term.specs.Tree.{Tree}
 use Rattle.sd_term.specs.Build.{not_of, and_of, or_of, ite_of}
-use Rattle.sd_vcgen.specs.Body.{Terms, State, constant, term_named, unary, binary, term_of, guard_of, assigned, set, fail, leave, assert, assign, step, steps, all_steps, named, starting, begun, flag_at_end, flag_of}
+use Rattle.sd_vcgen.specs.Body.{Terms, State, constant, term_named, unary, binary, term_of, guard_of, assigned, set, fail, leave, assign, step, steps, all_steps, named, starting, begun, flag_at_end}
 
 -- building keeps the property
 pub record Closed (K : Tree → Type 0) : Type 0 where

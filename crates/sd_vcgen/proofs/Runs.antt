@@ -1,7 +1,6 @@
 -- The flag of a body's terms tells how each run of the procedure ends.
 use Rattle.std.proofs.Common.{◌≡◌, ℕ, zero, suc, List, [], ◌∷◌, ◌++◌, length, refl, sym, ap, subst, ◌∙◌, arith}
-use Rattle.std.specs.Prelude.{Bool, true, false, map, Option, Some, None, if◌then◌else◌, Contains}
-use Rattle.std.specs.List.{AllByRecursion}
+use Rattle.std.specs.Prelude.{Bool, true, map, Option, Some, None, if◌then◌else◌, Contains}
 use Rattle.std.proofs.lemmas.List.Elements.{Contains-append_right}
 use Rattle.sd_base.specs.declared.Sort.{Sort, Bool as BoolSort}
 use Rattle.sd_base.specs.declared.Var.{Var}
@@ -20,11 +19,10 @@ use Rattle.sd_meaning.specs.Run.{Flow, Next, Breaks, Returns, Failed, Blocked, U
 use Rattle.sd_meaning.specs.Run as run
 use Rattle.sd_term.specs.declared.node.Head.TheVariants.{Start}
 use Rattle.sd_term.specs.Tree.{Tree, leaf}
-use Rattle.sd_term.specs.Sorts.{sort_of}
 use Rattle.sd_term.specs.Truth.{Valuation, value}
 use Rattle.sd_vcgen.specs.Body.{Terms, State, constant, all_steps, named, starting, begun, flag_at_end, flag_of}
 use Rattle.sd_vcgen.specs.Law.{AreTruths, StartsAs, FlagsAreFailures}
-use Rattle.sd_vcgen.proofs.Keep.{AllHold, Holds, begun-holds}
+use Rattle.sd_vcgen.proofs.Keep.{AllHold, begun-holds}
 use Rattle.sd_vcgen.proofs.Adequate.{names_in, IsTruth, truths, truth, valued, Follows, After, live_all}
 
 -- ---- where a body begins

@@ -4,7 +4,6 @@ use Rattle.std.specs.Prelude.{Bool, true, false, Option, Some, None}
 use Rattle.std.specs.List.{AllByRecursion}
 use Rattle.sd_base.specs.declared.Sort.{Bool as BoolSort}
 use Rattle.sd_base.specs.declared.Var.{Var}
-use Rattle.sd_base.specs.Value.{Text}
 use Rattle.sd_ast.specs.declared.Body.{Body}
 use Rattle.sd_ast.specs.declared.Proc.{Proc}
 use Rattle.sd_ast.specs.Tree.{names_of}

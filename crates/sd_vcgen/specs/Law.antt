@@ -2,7 +2,7 @@
 use Rattle.std.specs.Prelude.{◌≡◌, ℕ, List, [], map, length, Some, None, if◌then◌else◌}
 use Rattle.std.specs.List.{AllByRecursion}
 use Rattle.sd_base.specs.declared.sort.Sort.{Bool as BoolSort}
-use Rattle.sd_base.specs.Value.{Text, Value}
+use Rattle.sd_base.specs.Value.{Text}
 use Rattle.sd_base.specs.Cast.{cast}
 use Rattle.sd_base.specs.Meaning.{Meaning, truth_of}
 use Rattle.sd_ast.specs.declared.Program.{Program}

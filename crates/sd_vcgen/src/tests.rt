@@ -1,15 +1,13 @@
 ghost use Rattle.std.specs.Prelude.{◌≡◌, IfOk, length};
 ghost use Rattle.sd_ast.specs.Boolean.{IsBooleanProc};
 
-use std::alloc::Global;
-use std::test::Fail;
-
+use crate::flag_term;
 use sd_ast::{Body, Expr, ExprKind, Head, Proc, Stmt, StmtKind};
 use sd_base::{CloneOf, Name, NoMemory, Place, Sort, Var};
 use sd_term::{Bank, Head as TermHead, Op, is_same_head};
 use sqlite_items::Items;
-
-use crate::flag_term;
+use std::alloc::Global;
+use std::test::Fail;
 
 /// `procedure p(b: bool) { assert b; }`
 fn assertion(alloc: Global) -> Result<Proc, NoMemory>

@@ -1,5 +1,5 @@
 use Rattle.std.proofs.Common.{◌∙◌, sym, length}
-use Rattle.sd_product.specs.Query.{old_inputs, new_inputs}
+use Rattle.sd_product.specs.Query.{old_inputs}
 use Rattle.sd_product.proofs.Numbers.{symbols_count, denote_later, old_are, new_are, facts_are}
 use Rattle.sd_product.proofs.pair.put_facts.Goals as goal
 

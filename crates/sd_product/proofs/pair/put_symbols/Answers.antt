@@ -1,5 +1,4 @@
-use Rattle.std.proofs.Common.{subst, List}
-use Rattle.sd_term.specs.Tree.{Tree}
+use Rattle.std.proofs.Common.{subst}
 use Rattle.sd_vcgen.proofs.Numbers.{extends_then}
 use Rattle.sd_product.specs.Numbers.{DenoteAll}
 use Rattle.sd_product.proofs.Numbers.{pushed, symbols_more}
