@@ -1,0 +1,9 @@
+pub mod Trees
+pub mod Firsts
+pub mod Folds
+pub mod Builds
+pub mod Numbers
+pub mod Symbols
+pub mod Typed
+pub mod BuildValues
+pub mod BuildSorts
