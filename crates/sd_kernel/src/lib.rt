@@ -1,0 +1,10 @@
+//! Checks proofs that no valuation makes all facts of a query true.
+#![tactic(auto)]
+
+mod known;
+pub mod laws;
+mod step;
+mod walk;
+
+pub use step::{Proof, Step, StepCause, Verdict};
+pub use walk::{Walk, proves};
