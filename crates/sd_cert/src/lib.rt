@@ -3,6 +3,8 @@
 
 mod digest;
 mod field;
-
+mod keyword;
+mod line;
 
 pub use digest::{Digests, digests_of};
+pub use line::{CertState, Line, read_line};
