@@ -57,7 +57,7 @@ list_all-digits : (ds : List ℕ) → list_all is_ascii_digit ds ≡ all_ascii_d
 list_all-digits [] = refl
 list_all-digits (c ∷ cs) = ap (λ b. is_ascii_digit c && b) (list_all-digits cs)
 
-own : IsNumeralModel (λ ds. all_ascii_digits ds ≡ true) (digits_value 10)
+pub own : IsNumeralModel (λ ds. all_ascii_digits ds ≡ true) (digits_value 10)
 own = numerals_by_value _ tells_all_ascii_digits
 
 differ : (a b : ℕ) → a ≢ b → (a == b) ≡ false

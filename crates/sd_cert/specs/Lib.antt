@@ -1,3 +1,4 @@
 pub mod Fields
 pub mod Keywords
 pub mod Lines
+pub mod Text

@@ -5,6 +5,7 @@ mod digest;
 mod field;
 mod keyword;
 mod line;
+mod text;
 
 pub use digest::{Digests, digests_of};
 pub use line::{CertState, Line, read_line};
