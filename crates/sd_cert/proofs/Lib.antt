@@ -1,3 +1,5 @@
 pub mod FieldLemmas
 pub mod LineLemmas
 pub mod TextLemmas
+pub mod OneLine
+pub mod OneCertificate

@@ -48,7 +48,7 @@ last_of-append d [] y ys = refl
 last_of-append d (x ∷ xs) y ys = last_of-append x xs y ys
 
 -- two ends of states are two
-open_not_refused : (xs ys : List ℕ) → xs ++ codes " open" ≡ ys ++ codes " refused" → ⊥
+pub open_not_refused : (xs ys : List ℕ) → xs ++ codes " open" ≡ ys ++ codes " refused" → ⊥
 unfolding last_of
 open_not_refused xs ys e =
     let a = last_of-append 0 xs 32 (111 ∷ 112 ∷ 101 ∷ 110 ∷ [])

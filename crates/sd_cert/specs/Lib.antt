@@ -2,3 +2,4 @@ pub mod Fields
 pub mod Keywords
 pub mod Lines
 pub mod Text
+pub mod Certificates

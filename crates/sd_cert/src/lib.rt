@@ -1,11 +1,14 @@
 //! Certificates: the table of live candidates and their proofs, as a text that anyone can check.
 #![tactic(auto)]
 
+mod certificate;
 mod digest;
 mod field;
 mod keyword;
+pub mod laws;
 mod line;
 mod text;
 
+pub use certificate::{CertPair, Certificate};
 pub use digest::{Digests, digests_of};
 pub use line::{CertState, Line, read_line};
