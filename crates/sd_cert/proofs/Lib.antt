@@ -3,3 +3,4 @@ pub mod LineLemmas
 pub mod TextLemmas
 pub mod OneLine
 pub mod OneCertificate
+pub mod DraftLemmas

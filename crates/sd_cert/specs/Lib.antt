@@ -3,3 +3,5 @@ pub mod Keywords
 pub mod Lines
 pub mod Text
 pub mod Certificates
+pub mod Phases
+pub mod Drafts

@@ -3,6 +3,8 @@
 
 mod certificate;
 mod digest;
+mod draft;
+mod extend;
 mod field;
 mod keyword;
 pub mod laws;
