@@ -4,3 +4,5 @@ pub mod TextLemmas
 pub mod OneLine
 pub mod OneCertificate
 pub mod DraftLemmas
+pub mod FaultLemmas
+pub mod AcceptLemmas

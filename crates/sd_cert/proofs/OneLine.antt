@@ -43,7 +43,7 @@ step-injective (Close a) (StepLine (Close b)) f g e = ap (λ n. StepLine (Close 
 step-injective (Split a) _ f g e = absurd (omega (arith, ap key e))
 step-injective (Close a) _ f g e = absurd (omega (arith, ap key e))
 
-line_text-injective : (l m : Line) → IsLine l → IsLine m → line_text l ≡ line_text m → l ≡ m
+pub line_text-injective : (l m : Line) → IsLine l → IsLine m → line_text l ≡ line_text m → l ≡ m
 line_text-injective (StepLine s) m f g e = step-injective s m f g e
 line_text-injective l (StepLine s) f g e = sym (step-injective s l g f (sym e))
 line_text-injective (Version a) (Version b) f g e = ap Version (decimal_injective a b f g (append_cancel_left (codes "symdiff-certificate ") (decimal a) (decimal b) e))

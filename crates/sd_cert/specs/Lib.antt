@@ -5,3 +5,4 @@ pub mod Text
 pub mod Certificates
 pub mod Phases
 pub mod Drafts
+pub mod Faults

@@ -1,5 +1,6 @@
 -- Which lines can follow one another.
 use Rattle.std.specs.Prelude.{ℕ, ◌+◌, ◌==◌, nat_lt, ◌&&◌, Bool, true, false, List, [], ◌∷◌, Option, Some, None, if◌then◌else◌}
+use Rattle.std.specs.Option.{option_and_then}
 use Rattle.sd_cert.specs.declared.line.Line.{Line}
 use Rattle.sd_cert.specs.declared.line.Line.TheVariants.{Version, Old, New, Settings, Pairs, Pair, Candidate, Step as StepLine, End}
 
@@ -24,3 +25,7 @@ after_line (in_pairs n i c) (Candidate k) = if nat_lt 0 i then Some (in_pairs n 
 after_line (in_pairs n i c) (StepLine s) = if c then Some (in_pairs n i true) else None
 after_line (in_pairs n i c) End = if i == n then Some done else None
 after_line _ _ = None
+
+abbrev pub after_lines : Phase → List Line → Option Phase
+after_lines p [] = Some p
+after_lines p (l ∷ ls) = option_and_then (λ q. after_lines q ls) (after_line p l)
