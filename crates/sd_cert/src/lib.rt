@@ -11,6 +11,7 @@ mod keyword;
 pub mod laws;
 mod line;
 mod reading;
+mod spelling;
 mod text;
 
 pub use certificate::{CertPair, Certificate};
@@ -18,3 +19,4 @@ pub use digest::{Digests, digests_of};
 pub use fault::CertError;
 pub use line::{CertState, Line, read_line};
 pub use reading::read_certificate;
+pub use spelling::spell_certificate;
