@@ -25,20 +25,20 @@ steps-pushed old now next steps i d within h k =
 pub proved-pushed : (old now next : List ℕ) (ps : List Proved) (i : ℕ) (p : Proved) → i < length ps → p ≡ get_or ps i p → now ≡ old ++ lines_text (flat_map proved_lines (take i ps)) → next ≡ now ++ lines_text (proved_lines p) → next ≡ old ++ lines_text (flat_map proved_lines (take (i + 1) ps))
 proved-pushed old now next ps i p within at h k =
     let more =
-      ap (flat_map proved_lines) (take_more ps i p within ∙ ap (λ x. take i ps ++ x ∷ []) (sym at))
-      ∙ flat_map-append proved_lines (take i ps) (p ∷ []) ∙ ap (λ ls. flat_map proved_lines (take i ps) ++ ls) (append-nil (proved_lines p))
+    ap (flat_map proved_lines) (take_more ps i p within ∙ ap (λ x. take i ps ++ x ∷ []) (sym at))
+    ∙ flat_map-append proved_lines (take i ps) (p ∷ []) ∙ ap (λ ls. flat_map proved_lines (take i ps) ++ ls) (append-nil (proved_lines p))
     in pushed old now next (flat_map proved_lines (take i ps)) (proved_lines p) h k ∙ ap (λ ls. old ++ lines_text ls) (sym more)
 
 pub pairs-pushed : (old now middle next : List ℕ) (ps : List CertPair) (i : ℕ) (p : CertPair) (proved : List Proved) → i < length ps → p ≡ get_or ps i p → proved ≡ p.proved → now ≡ old ++ lines_text (pair_lines 0 (take i ps)) → middle ≡ now ++ lines_text (Pair i p.state ∷ []) → next ≡ middle ++ lines_text (flat_map proved_lines proved) → next ≡ old ++ lines_text (pair_lines 0 (take (i + 1) ps))
 pairs-pushed old now middle next ps i p proved within at are h k m =
     let place : 0 + length (take i ps) ≡ i = omega (arith, length-take-le i ps (omega arith))
     in let more =
-      ap (pair_lines 0) (take_more ps i p within ∙ ap (λ x. take i ps ++ x ∷ []) (sym at)) ∙ pair_lines-push 0 (take i ps) p
-      ∙ ap (λ n. pair_lines 0 (take i ps) ++ Pair n p.state ∷ flat_map proved_lines p.proved) place
-      ∙ ap (λ l. pair_lines 0 (take i ps) ++ Pair i p.state ∷ flat_map proved_lines l) (sym are)
-      ∙ sym (append_assoc (pair_lines 0 (take i ps)) (Pair i p.state ∷ []) (flat_map proved_lines proved))
+    ap (pair_lines 0) (take_more ps i p within ∙ ap (λ x. take i ps ++ x ∷ []) (sym at)) ∙ pair_lines-push 0 (take i ps) p
+    ∙ ap (λ n. pair_lines 0 (take i ps) ++ Pair n p.state ∷ flat_map proved_lines p.proved) place
+    ∙ ap (λ l. pair_lines 0 (take i ps) ++ Pair i p.state ∷ flat_map proved_lines l) (sym are)
+    ∙ sym (append_assoc (pair_lines 0 (take i ps)) (Pair i p.state ∷ []) (flat_map proved_lines proved))
     in pushed old middle next (pair_lines 0 (take i ps) ++ Pair i p.state ∷ []) (flat_map proved_lines proved) (pushed old now middle (pair_lines 0 (take i ps)) (Pair i p.state ∷ []) h k) m
-      ∙ ap (λ ls. old ++ lines_text ls) (sym more)
+    ∙ ap (λ ls. old ++ lines_text ls) (sym more)
 
 pub spelled : (c : Certificate) (pairs : List CertPair) → pairs ≡ c.pairs → (t0 t1 t2 t3 t4 t5 t6 t7 : List ℕ) → t0 ≡ [] → t1 ≡ t0 ++ lines_text (Version 1 ∷ []) → t2 ≡ t1 ++ lines_text (Old c.digests.old ∷ []) → t3 ≡ t2 ++ lines_text (New c.digests.new ∷ []) → t4 ≡ t3 ++ lines_text (Settings c.digests.settings ∷ []) → t5 ≡ t4 ++ lines_text (Pairs (length pairs) ∷ []) → t6 ≡ t5 ++ lines_text (pair_lines 0 pairs) → t7 ≡ t6 ++ lines_text (End ∷ []) → t7 ≡ certificate_text c
 spelled c pairs are t0 t1 t2 t3 t4 t5 t6 t7 e0 e1 e2 e3 e4 e5 e6 e7 =

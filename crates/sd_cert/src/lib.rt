@@ -20,3 +20,6 @@ pub use fault::CertError;
 pub use line::{CertState, Line, read_line};
 pub use reading::read_certificate;
 pub use spelling::spell_certificate;
+
+#[cfg(test)]
+mod tests;

@@ -24,7 +24,11 @@ pub fn spell_certificate(alloc: Global, certificate: &Certificate) -> Result<Vec
     push_line(alloc, &mut text, Line::Version(1))?;
     push_line(alloc, &mut text, Line::Old(certificate.digests.old))?;
     push_line(alloc, &mut text, Line::New(certificate.digests.new))?;
-    push_line(alloc, &mut text, Line::Settings(certificate.digests.settings))?;
+    push_line(
+        alloc,
+        &mut text,
+        Line::Settings(certificate.digests.settings),
+    )?;
     push_line(alloc, &mut text, Line::Pairs(pairs.len() as u64))?;
     push_pairs(alloc, &mut text, pairs)?;
     push_line(alloc, &mut text, Line::End)?;
@@ -94,7 +98,12 @@ fn push_fields(alloc: Global, text: &mut Vec<u8>, line: Line) -> Result<(), NoMe
     }
 }
 
-fn push_pair(alloc: Global, text: &mut Vec<u8>, number: u32, state: CertState) -> Result<(), NoMemory>
+fn push_pair(
+    alloc: Global,
+    text: &mut Vec<u8>,
+    number: u32,
+    state: CertState,
+) -> Result<(), NoMemory>
     ensures { OnOk result (text.new.items ≡ text.old.items ++ line_text (line.Pair number state)) }
 {
     push_number(alloc, text, b"pair ", number as u64)?;
@@ -112,7 +121,12 @@ fn push_number(alloc: Global, text: &mut Vec<u8>, front: &[u8], number: u64) -> 
     push(text, digits.as_bytes())
 }
 
-fn push_digest(alloc: Global, text: &mut Vec<u8>, front: &[u8], digest: &[u8]) -> Result<(), NoMemory>
+fn push_digest(
+    alloc: Global,
+    text: &mut Vec<u8>,
+    front: &[u8],
+    digest: &[u8],
+) -> Result<(), NoMemory>
     ensures { OnOk result (text.new.items ≡ text.old.items ++ (front.now ++ encode_lower digest.now)) }
 {
     let digits = hex::encode(alloc, digest)?;

@@ -14,4 +14,4 @@ pub returns-in-Pair : goal.returns-in-Pair
 returns-in-Pair c =
     subst (λ (o : Option Line). IsReadAs line_text IsLine (front_of c.args.keyword ++ c.args.fields.now) o) (sym c.pair_line.ensures)
     (subst (λ (k : Keyword). IsReadAs line_text IsLine (front_of k ++ c.args.fields.now) (option_map (λ p. Pair p.0 p.1) c.read_pair.result)) (sym c.in-Pair.is)
-      (pair_line_is c.args.fields.now c.read_pair.result c.read_pair.ensures))
+    (pair_line_is c.args.fields.now c.read_pair.result c.read_pair.ensures))
