@@ -1,15 +1,14 @@
 -- The lines of a body, one pair further.
-use Rattle.std.proofs.Common.{◌≡◌, ℕ, ◌+◌, List, [], ◌∷◌, ◌++◌, map, length, refl, sym, ap, ◌∙◌, arith, append_assoc}
+use Rattle.std.proofs.Common.{◌≡◌, ℕ, ◌+◌, List, [], ◌∷◌, ◌++◌, length, sym, ap, ◌∙◌, arith, append_assoc}
 use Rattle.std.specs.Prelude.{Option, Some, None}
 use Rattle.std.specs.List.{flat_map}
 use Rattle.std.proofs.lemmas.List.{append-nil}
 use Rattle.sd_kernel.specs.declared.Proved.{Proved}
 use Rattle.sd_cert.specs.declared.certificate.CertPair.{CertPair}
 use Rattle.sd_cert.specs.declared.draft.OpenPair.{OpenPair}
-use Rattle.sd_cert.specs.declared.line.Line.{Line}
 use Rattle.sd_cert.specs.declared.line.Line.TheVariants.{Pair}
 use Rattle.sd_cert.specs.Certificates.{proved_lines, pair_lines}
-use Rattle.sd_cert.specs.Drafts.{proof_lines, open_lines, body_lines}
+use Rattle.sd_cert.specs.Drafts.{proof_lines, body_lines}
 
 pub pair_lines-push : (i : ℕ) (ps : List CertPair) (p : CertPair) → pair_lines i (ps ++ p ∷ []) ≡ pair_lines i ps ++ Pair (i + length ps) p.state ∷ flat_map proved_lines p.proved
 pair_lines-push i [] p =

@@ -1,5 +1,5 @@
 -- No lines are those of two certificates.
-use Rattle.std.proofs.Common.{◌≡◌, ℕ, ◌+◌, List, [], ◌∷◌, ◌++◌, map, length, refl, sym, ap, ◌∙◌, append_assoc}
+use Rattle.std.proofs.Common.{◌≡◌, ℕ, ◌+◌, List, [], ◌∷◌, ◌++◌, map, refl, sym, ap, ◌∙◌, append_assoc}
 use Rattle.std.specs.List.{flat_map}
 use Rattle.sd_kernel.specs.declared.Step.{Step}
 use Rattle.sd_kernel.specs.declared.How.{How}
@@ -9,7 +9,7 @@ use Rattle.sd_cert.specs.declared.certificate.CertPair.{CertPair}
 use Rattle.sd_cert.specs.declared.certificate.Certificate.{Certificate}
 use Rattle.sd_cert.specs.declared.line.CertState.{CertState}
 use Rattle.sd_cert.specs.declared.line.Line.{Line}
-use Rattle.sd_cert.specs.declared.line.Line.TheVariants.{Version, Old, New, Settings, Pairs, Pair, Candidate, Step as StepLine, End}
+use Rattle.sd_cert.specs.declared.line.Line.TheVariants.{Candidate, Step as StepLine, End}
 use Rattle.sd_cert.specs.Certificates.{how_lines, proved_lines, pair_lines, certificate_lines, certificate_text, IsCertificate}
 use Rattle.sd_cert.proofs.OneLine.{lines_text-injective}
 
