@@ -3,7 +3,6 @@ use Rattle.std.proofs.Common.{◌≡◌, sym, subst, ℕ, List, [], ◌∷◌}
 use Rattle.std.specs.List.{AllByRecursion}
 use Rattle.sd_ast.specs.declared.Proc.{Proc}
 use Rattle.sd_ast.specs.declared.Program.{Program}
-use Rattle.sd_ast.specs.Boolean.{IsBooleanProgram}
 use Rattle.sd_meaning.specs.NewFailure.{NewFailure}
 use Rattle.sd_parse.specs.Text.{IsRead}
 use Rattle.sd_parse.proofs.TextLemmas.{one_program}

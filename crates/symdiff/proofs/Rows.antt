@@ -1,7 +1,7 @@
 -- What follows from a row of the table of answers.
 use Rattle.std.proofs.Common.{◌≡◌, ◌∙◌, sym, ap, subst, refl, ℕ, Bool, true, false, List, [], ◌∷◌, arith}
 use Rattle.std.specs.Prelude.{Option, Some, Contains, Result, Ok, Err, IfOk, if◌then◌else◌}
-use Rattle.std.specs.List.{list_all, AllByRecursion}
+use Rattle.std.specs.List.{list_all}
 use Rattle.sd_ast.specs.declared.Program.{Program}
 use Rattle.sd_parse.specs.Text.{IsRead}
 use Rattle.sd_base.specs.Causes.{Rose}

@@ -1,8 +1,8 @@
 -- What the verdicts on two programs tell.
-use Rattle.std.proofs.Common.{◌≡◌, ◌≢◌, ◌∙◌, sym, ap, refl, subst, ℕ, suc, zero, ◌+◌, ◌<◌, Bool, true, false, List, [], ◌∷◌, ◌++◌, length, take, drop, length-append, inl, inr, arith}
-use Rattle.std.specs.Prelude.{Option, Some, None, ◌⊎◌, ◌==◌, ◌||◌, not, slice_get, if◌then◌else◌}
+use Rattle.std.proofs.Common.{◌≡◌, ◌∙◌, sym, ap, refl, subst, ℕ, suc, zero, ◌+◌, Bool, true, false, List, [], ◌∷◌, ◌++◌, length, take, drop, length-append, inl, inr, arith}
+use Rattle.std.specs.Prelude.{Option, Some, None, ◌⊎◌, not, slice_get, if◌then◌else◌}
 use Rattle.std.specs.Option.{option_map}
-use Rattle.std.specs.List.{AllByRecursion, IsDistinct, flat_map, filter_map, cons_option}
+use Rattle.std.specs.List.{AllByRecursion, IsDistinct, cons_option}
 use Rattle.std.specs.Cmp.Lexicographic.{nat_list_eq_equiv}
 use Rattle.std.proofs.lemmas.Bool.Decides.{nat_tests}
 use Rattle.std.proofs.lemmas.List.Concat.{flat_map-cons}
@@ -12,21 +12,19 @@ use Rattle.sd_ast.specs.declared.Decl.TheVariants.{Procedure, Types, Const, Func
 use Rattle.sd_ast.specs.declared.Proc.{Proc}
 use Rattle.sd_ast.specs.declared.Program.{Program}
 use Rattle.sd_ast.specs.Tree.{procedure_names}
-use Rattle.sd_ast.specs.Boolean.{IsBooleanProc, IsBooleanDecl, AreBooleanDecls, IsBooleanProgram}
+use Rattle.sd_ast.specs.Boolean.{AreBooleanDecls, IsBooleanProgram}
 use Rattle.sd_meaning.specs.Routine.{procedure_in}
 use Rattle.sd_meaning.specs.NewFailure.{NewFailure}
 use Rattle.sd_term.specs.Tree.{Tree}
-use Rattle.sd_term.specs.Truth.{IsUnsatisfiable}
 use Rattle.sd_product.specs.declared.pair.Candidate.{Candidate}
 use Rattle.sd_product.specs.declared.pair.Candidate.TheVariants.{NoCondition, EqualInputs}
 use Rattle.sd_product.specs.declared.straight.Straight.{Straight}
 use Rattle.sd_product.specs.Query.{query_of}
 use Rattle.sd_product.specs.Laws.{IsPair}
-use Rattle.sd_product.specs.Straight.{same_types, straight_of, straight_in, straights_of, queries_of}
+use Rattle.sd_product.specs.Straight.{same_types, straight_of, straights_of, queries_of}
 use Rattle.symdiff.specs.declared.verdict.PairVerdict.{PairVerdict}
-use Rattle.symdiff.specs.declared.verdict.VerdictState.{VerdictState}
 use Rattle.symdiff.specs.declared.verdict.VerdictState.TheVariants.{Safe, Unknown, Signature}
-use Rattle.symdiff.specs.Verdicts.{any_live, state_of, verdict_of, verdicts_of}
+use Rattle.symdiff.specs.Verdicts.{any_live, verdict_of, verdicts_of}
 
 -- ---- procedures by name
 

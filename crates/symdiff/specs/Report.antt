@@ -3,7 +3,6 @@ use Rattle.std.specs.Prelude.{ℕ, List, [], ◌∷◌, ◌++◌, Bool, true, fa
 use Rattle.std.specs.List.{flat_map}
 use Rattle.sd_ast.specs.declared.Decl.{Decl}
 use Rattle.sd_ast.specs.declared.Decl.TheVariants.{Axiom, Procedure}
-use Rattle.sd_ast.specs.declared.Program.{Program}
 use Rattle.sd_meaning.specs.Routine.{procedure_in}
 use Rattle.symdiff.specs.declared.verdict.PairVerdict.{PairVerdict}
 use Rattle.symdiff.specs.declared.verdict.VerdictState.{VerdictState}

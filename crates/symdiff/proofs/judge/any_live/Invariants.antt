@@ -1,4 +1,4 @@
-use Rattle.std.proofs.Common.{◌≡◌, ◌-◌, length, take, drop}
+use Rattle.std.proofs.Common.{◌≡◌, ◌-◌, take, drop}
 use Rattle.symdiff.specs.Verdicts.{any_live}
 use Rattle.symdiff.proofs.judge.any_live.Given as goal
 

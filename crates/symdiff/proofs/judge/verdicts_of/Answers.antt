@@ -1,4 +1,4 @@
-use Rattle.std.proofs.Common.{◌≡◌, ◌∙◌, sym, ap, ◌<◌, ◌≤◌, ◌+◌, ◌++◌, length, take, drop, arith}
+use Rattle.std.proofs.Common.{◌∙◌, ◌<◌, length, arith}
 use Rattle.symdiff.proofs.Tables.{pair_step, verdict_more}
 use Rattle.symdiff.proofs.judge.verdicts_of.Goals as goal
 

@@ -1,4 +1,4 @@
-use Rattle.std.proofs.Common.{◌≡◌, ◌≤◌, ◌+◌, ◌++◌, length, take, drop}
+use Rattle.std.proofs.Common.{◌≡◌, ◌+◌, ◌++◌, length, drop}
 use Rattle.sd_product.specs.Straight.{queries_of}
 use Rattle.symdiff.specs.Verdicts.{verdicts_of}
 use Rattle.symdiff.proofs.judge.verdicts_of.Given as goal

@@ -26,6 +26,8 @@ returns-in-Err-Failed-clause-read_fault g c e =
     (record { old = c.in-Some.job.old.now; new = c.in-Some.job.new.now }, c.in-Some.ensures, inl (c.in-Err-Failed.ensures.cause (rw c.in-Err-Failed.field-0-is refl)))
 
 pub returns-in-Err-Failed-read_text-clause-read_fault : goal.returns-in-Err-Failed-read_text-clause-read_fault
-returns-in-Err-Failed-read_text-clause-read_fault g c e =
-    (record { old = c.in-Some.job.old.now; new = c.in-Some.job.new.now }, c.in-Some.ensures,
-     inr (rose_later _ _ _ ((c.in-Ok.ensures.no_fault (λ bad. cc)).0 c.in-Some.job.new.now) (c.in-Err-Failed-read_text.ensures.cause (rw c.in-Err-Failed-read_text.field-0-is refl))))
+returns-in-Err-Failed-read_text-clause-read_fault g c e = (
+  record { old = c.in-Some.job.old.now; new = c.in-Some.job.new.now },
+  c.in-Some.ensures,
+  inr (rose_later _ _ _ ((c.in-Ok.ensures.no_fault (λ bad. cc)).0 c.in-Some.job.new.now) (c.in-Err-Failed-read_text.ensures.cause (rw c.in-Err-Failed-read_text.field-0-is refl))),
+)

@@ -1,6 +1,6 @@
 use Rattle.std.proofs.Common.{◌∙◌, ap, take}
 use Rattle.sd_base.specs.Outside.{appended}
-use Rattle.symdiff.proofs.Rows.{row_known, row_headline, row_unknown, none_headline, none_unknown, six_known, seven_known, eight_known, known_by}
+use Rattle.symdiff.proofs.Rows.{row_known, row_headline, row_unknown, seven_known}
 use Rattle.symdiff.proofs.run.run.Goals as goal
 
 pub returns-in-Ok-write_all-clause-known : goal.returns-in-Ok-write_all-clause-known
