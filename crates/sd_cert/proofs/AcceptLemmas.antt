@@ -1,0 +1,101 @@
+-- The lines of a certificate follow one another to the end.
+use Rattle.std.proofs.Common.{◌≡◌, ◌≢◌, ℕ, ◌+◌, ◌<◌, ◌==◌, Bool, true, false, cond, List, [], ◌∷◌, ◌++◌, map, length, refl, sym, ap, ◌∙◌, subst, arith, append_assoc, length-append, inl, inr, eq-eqb, lt-ltb}
+use Rattle.std.specs.Prelude.{Option, Some, None, Result, Ok, Err, IfOk, IfErr, ◌⊎◌, ◌&&◌, nat_lt}
+use Rattle.std.specs.Option.{option_and_then}
+use Rattle.std.proofs.lemmas.Option.{same_Some}
+use Rattle.std.specs.List.{AllByRecursion, flat_map}
+use Rattle.sd_kernel.specs.declared.Step.{Step}
+use Rattle.sd_kernel.specs.declared.How.{How}
+use Rattle.sd_kernel.specs.declared.How.TheVariants.{Steps}
+use Rattle.sd_kernel.specs.declared.Proved.{Proved}
+use Rattle.sd_cert.specs.declared.certificate.CertPair.{CertPair}
+use Rattle.sd_cert.specs.declared.certificate.Certificate.{Certificate}
+use Rattle.sd_cert.specs.declared.fault.CertError.{CertError}
+use Rattle.sd_cert.specs.declared.fault.CertError.TheVariants.{NoMemory, Version as OtherVersion, Line as BadLine}
+use Rattle.sd_cert.specs.declared.line.Line.{Line}
+use Rattle.sd_cert.specs.declared.line.Line.TheVariants.{Version, Pair, Step as StepLine, End}
+use Rattle.sd_cert.specs.Lines.{line_text, IsLine}
+use Rattle.sd_cert.specs.Text.{lines_text}
+use Rattle.sd_cert.specs.Certificates.{how_lines, proved_lines, pair_lines, certificate_lines, certificate_text, IsCertificate}
+use Rattle.sd_cert.specs.Phases.{Phase, at_version, in_pairs, done, after_line, after_lines}
+use Rattle.sd_cert.specs.Faults.{StopsAt, HasVersion, IsFault}
+use Rattle.sd_cert.proofs.TextLemmas.{no_feed, first_line-unique}
+use Rattle.sd_cert.proofs.OneLine.{line_text-injective}
+use Rattle.sd_cert.proofs.OneCertificate.{one_certificate}
+
+-- these lines lead to the end, with a candidate before them or without
+Ends : ℕ → ℕ → List Line → Type 0
+Ends n i ls = (c : Bool) → after_lines (in_pairs n i c) ls ≡ Some done
+
+steps-end : (n i : ℕ) (ss : List Step) (ls : List Line) → Ends n i ls → after_lines (in_pairs n i true) (map StepLine ss ++ ls) ≡ Some done
+unfolding Ends
+steps-end n i [] ls h = h true
+steps-end n i (s ∷ ss) ls h = steps-end n i ss ls h
+
+how-end : (n i : ℕ) (h : How) (ls : List Line) → Ends n i ls → after_lines (in_pairs n i true) (how_lines h ++ ls) ≡ Some done
+how-end n i (Steps p) ls h = steps-end n i p.steps ls h
+
+proved-end : (n i : ℕ) (ps : List Proved) (ls : List Line) → 0 < i → Ends n i ls → Ends n i (flat_map proved_lines ps ++ ls)
+unfolding Ends
+proved-end n i [] ls b h c = h c
+proved-end n i (p ∷ ps) ls b h c =
+    ap (λ t. after_lines (in_pairs n i c) t) (append_assoc (proved_lines p) (flat_map proved_lines ps) ls)
+    ∙ ap (λ t. option_and_then (λ q. after_lines q (how_lines p.how ++ (flat_map proved_lines ps ++ ls))) (cond t (Some (in_pairs n i true)) None)) (lt-ltb 0 i b)
+    ∙ how-end n i p.how (flat_map proved_lines ps ++ ls) (proved-end n i ps ls b h)
+
+pairs-end : (n i : ℕ) (ps : List CertPair) → i + length ps ≡ n → Ends n i (pair_lines i ps ++ End ∷ [])
+unfolding Ends
+pairs-end n i [] e c = ap (λ t. option_and_then (λ q. after_lines q []) (cond t (Some done) None)) (eq-eqb i n (omega arith))
+pairs-end n i (p ∷ ps) e c =
+    ap (λ t. option_and_then (λ q. after_lines q ((flat_map proved_lines p.proved ++ pair_lines (i + 1) ps) ++ End ∷ [])) (cond t (Some (in_pairs n (i + 1) false)) None)) (both (i == i) (nat_lt i n) (eq-eqb i i refl) (lt-ltb i n (omega arith)))
+    ∙ ap (after_lines (in_pairs n (i + 1) false)) (append_assoc (flat_map proved_lines p.proved) (pair_lines (i + 1) ps) (End ∷ []))
+    ∙ proved-end n (i + 1) p.proved (pair_lines (i + 1) ps ++ End ∷ []) (omega arith) (pairs-end n (i + 1) ps (omega arith)) false
+  where
+    both : (a b : Bool) → a ≡ true → b ≡ true → (a && b) ≡ true
+    both true b h k = k
+    both false b h k = h
+
+certificate-end : (c : Certificate) → after_lines at_version (certificate_lines c) ≡ Some done
+unfolding Ends
+certificate-end c = pairs-end (length c.pairs) 0 c.pairs (omega arith) false
+
+-- lines in front of other lines are a front of them
+front-of : (ls ms : List Line) (rest : List ℕ) → AllByRecursion IsLine ls → AllByRecursion IsLine ms → lines_text ls ++ rest ≡ lines_text ms → (more : List Line) × (ms ≡ ls ++ more) × (rest ≡ lines_text more) × AllByRecursion IsLine more
+front-of [] ms rest f g e = (ms, refl, e, g)
+front-of (l ∷ ls) [] rest f g e = absurd (omega (arith, ap length e, length-append (line_text l ++ 10 ∷ lines_text ls) rest, length-append (line_text l) (10 ∷ lines_text ls)))
+front-of (l ∷ ls) (m ∷ ms) rest f g e =
+    let parts = first_line-unique (line_text l) (lines_text ls ++ rest) (line_text m) (lines_text ms) (no_feed l f.0) (no_feed m g.0) (sym (append_assoc (line_text l) (10 ∷ lines_text ls) rest) ∙ e)
+    in let same : l ≡ m = line_text-injective l m f.0 g.0 parts.0
+    in let others = front-of ls ms rest f.1 g.1 parts.1
+    in (others.0, (let r = others.1 in cc), others.2, others.3)
+
+after_lines-append : (p q : Phase) (ls ms : List Line) → after_lines p ls ≡ Some q → after_lines p (ls ++ ms) ≡ after_lines q ms
+after_lines-append p q [] ms h = ap (λ o. option_and_then (λ r. after_lines r ms) o) h
+after_lines-append p q (l ∷ ls) ms h = go (after_line p l) (λ r k. after_lines-append r q ls ms k) h
+  where
+    go : (o : Option Phase) → ((r : Phase) → after_lines r ls ≡ Some q → after_lines r (ls ++ ms) ≡ after_lines q ms) → option_and_then (λ r. after_lines r ls) o ≡ Some q → option_and_then (λ r. after_lines r (ls ++ ms)) o ≡ after_lines q ms
+    go None more k = absurd (cc)
+    go (Some r) more k = more r k
+
+-- the text of a certificate stops nowhere
+no_stop : (c : Certificate) → IsCertificate c → (n : ℕ) → StopsAt (certificate_text c) n → ⊥
+no_stop c f n at =
+    let parts = front-of at.lines (certificate_lines c) at.rest at.fit f (sym at.whole)
+    in let left : after_lines at.phase parts.0 ≡ Some done = sym (after_lines-append at_version at.phase at.lines parts.0 at.before) ∙ ap (after_lines at_version) (sym parts.1) ∙ certificate-end c
+    in go parts.0 parts.2 parts.3 left
+  where
+    go : (more : List Line) → at.rest ≡ lines_text more → AllByRecursion IsLine more → after_lines at.phase more ≡ Some done → ⊥
+    go [] e f k = at.unfinished (same_Some at.phase done k) e
+    go (l ∷ ls) e f k = absurd (let s = at.stuck l (lines_text ls) f.0 e in let j = ap (option_and_then (λ q. after_lines q ls)) s in cc)
+
+no_fault : (text : List ℕ) (c : Certificate) (e : CertError) → IsCertificate c → text ≡ certificate_text c → IsFault text e → e ≡ NoMemory
+no_fault text c NoMemory f t h = refl
+no_fault text c (OtherVersion v) f t h =
+    let parts = first_line-unique (line_text (Version v)) h.0.more (line_text (Version 1)) _ (no_feed (Version v) h.0.fits) (no_feed (Version 1) f.0) (sym h.0.line ∙ t)
+    in absurd (h.1 (let s : Version v ≡ Version 1 = line_text-injective (Version v) (Version 1) h.0.fits f.0 parts.0 in cc))
+no_fault text c (BadLine n) f t h = absurd (no_stop c f n (subst (λ (x : List ℕ). StopsAt x n) t h.0))
+no_fault text c _ f t h = absurd h
+
+pub only : (text : List ℕ) (r : Result Certificate CertError) → IfOk r (λ c. IsCertificate c × (text ≡ certificate_text c)) → IfErr r (IsFault text) → (c : Certificate) → IsCertificate c → text ≡ certificate_text c → (r ≡ Ok c) ⊎ (r ≡ Err NoMemory)
+only text (Ok d) found fault c f t = inl (ap Ok (one_certificate d c found.0 f (sym found.1 ∙ t)))
+only text (Err e) found fault c f t = inr (ap Err (no_fault text c e f t fault))

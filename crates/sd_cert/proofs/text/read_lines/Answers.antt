@@ -1,0 +1,13 @@
+use Rattle.std.proofs.Common.{List, ◌++◌, sym, ap, ◌∙◌, subst}
+use Rattle.std.specs.List.{AllByRecursion}
+use Rattle.sd_cert.specs.declared.line.Line.{Line}
+use Rattle.sd_cert.specs.Lines.{IsLine}
+use Rattle.sd_cert.specs.Text.{lines_text}
+use Rattle.sd_cert.proofs.TextLemmas.{fit-push, whole-push}
+use Rattle.sd_cert.proofs.text.read_lines.Goals as goal
+
+pub lines-preserved : goal.lines-preserved
+lines-preserved c = record {
+  fit = subst (λ (ls : List Line). AllByRecursion IsLine ls) (sym c.in_ok-push.ensures.ok) (fit-push c.lines.lines c.in-Some.line c.lines.invariant.fit c.in-Some.ensures.0);
+  whole = whole-push c.args.text.now c.lines.rest.now c.in-Some.after.now c.lines.lines c.in-Some.line c.lines.invariant.whole c.in-Some.ensures.1 ∙ ap (λ ls. lines_text ls ++ c.in-Some.after.now) (sym c.in_ok-push.ensures.ok);
+}

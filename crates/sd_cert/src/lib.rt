@@ -1,0 +1,20 @@
+//! Certificates: the table of live candidates and their proofs, as a text that anyone can check.
+#![tactic(auto)]
+
+mod certificate;
+mod digest;
+mod draft;
+mod extend;
+mod fault;
+mod field;
+mod keyword;
+pub mod laws;
+mod line;
+mod reading;
+mod text;
+
+pub use certificate::{CertPair, Certificate};
+pub use digest::{Digests, digests_of};
+pub use fault::CertError;
+pub use line::{CertState, Line, read_line};
+pub use reading::read_certificate;

@@ -1,0 +1,65 @@
+//! Certificates from their bytes.
+ghost use Rattle.std.specs.Prelude.{◌≡◌, ◌⊎◌, ◌+◌, ◌<◌, ◌^◌, IfOk, IfErr};
+ghost use Rattle.sd_cert.specs.declared.certificate.Certificate.{Certificate as Spelled};
+ghost use Rattle.sd_cert.specs.declared.fault.CertError.TheVariants.{NoMemory as Memory};
+ghost use Rattle.sd_cert.specs.Certificates.{certificate_text, IsCertificate};
+ghost use Rattle.sd_cert.specs.Drafts.{draft_lines, phase_of};
+ghost use Rattle.sd_cert.specs.Phases.{at_version, after_lines};
+ghost use Rattle.sd_cert.specs.Faults.{IsFault, IsLineFault, IsPlaceFault};
+
+use crate::certificate::Certificate;
+use crate::draft::Draft;
+use crate::extend::next;
+use crate::fault::CertError;
+use crate::line::Line;
+use crate::text::read_lines;
+use std::alloc::Global;
+
+/// The certificate that the bytes spell. `Version` has the number in a first line that is one of another version, and
+/// `Line` the number of the first line, from 1, that has no form or can't stand where it stands; a line that is missing
+/// counts as one.
+pub fn read_certificate(alloc: Global, bytes: &[u8]) -> Result<Certificate, CertError>
+    ensures found { IfOk result (λ c. IsCertificate c × (bytes.now ≡ certificate_text c)) }
+    ensures only { (c : Spelled) → IsCertificate c → bytes.now ≡ certificate_text c → (result ≡ Ok c) ⊎ (result ≡ Err Memory) }
+    ensures fault { IfErr result (IsFault bytes.now) }
+{
+    read_whole(alloc, bytes)
+}
+
+fn read_whole(alloc: Global, bytes: &[u8]) -> Result<Certificate, CertError>
+    ensures found { IfOk result (λ c. IsCertificate c × (bytes.now ≡ certificate_text c)) }
+    ensures fault { IfErr result (IsFault bytes.now) }
+{
+    let (lines, rest) = read_lines(alloc, bytes)?;
+    let lines = lines.as_slice();
+    let draft = read_draft(alloc, lines)?;
+    match draft {
+        Draft::Done(certificate) if rest.is_empty() => Ok(certificate),
+        _ => Err(CertError::Line(lines.len() as u64 + 1)),
+    }
+}
+
+fn read_draft(alloc: Global, lines: &[Line]) -> Result<Draft, CertError>
+    ensures lines { IfOk result (λ draft. draft_lines draft ≡ lines.now) }
+    ensures phase { IfOk result (λ draft. after_lines at_version lines.now ≡ Some (phase_of draft)) }
+    ensures fault { IfErr result (IsLineFault lines.now) }
+{
+    let mut draft = Draft::Empty;
+    for (i, line) in lines.iter().enumerate() {
+        match next(alloc, draft, *line)? {
+            Some(longer) => draft = longer,
+            None => return Err(fault_at(i, *line)),
+        }
+    }
+    Ok(draft)
+}
+
+fn fault_at(place: usize, line: Line) -> CertError
+    requires { place + 1 < 2 ^ 64 }
+    ensures { IsPlaceFault place line result }
+{
+    match line {
+        Line::Version(version) if place == 0 => CertError::Version(version),
+        _ => CertError::Line(place as u64 + 1),
+    }
+}
