@@ -3,21 +3,16 @@ use Rattle.std.specs.Prelude.{◌≡◌, ℕ, Bool, true, List, [], ◌∷◌, �
 use Rattle.std.specs.List.{AllByRecursion}
 use Rattle.sd_term.specs.Tree.{Tree}
 use Rattle.sd_kernel.specs.OpenCube.{IsOpenCube}
-use Rattle.sd_kernel.specs.Proof.{Proves}
-use Rattle.sd_kernel.specs.declared.proved.How.{How}
-use Rattle.sd_kernel.specs.declared.proved.How.TheVariants.{Steps}
 use Rattle.sd_kernel.specs.declared.proved.Proved.{Proved}
 use Rattle.sd_rounds.specs.declared.settle.Cause.{Cause}
 use Rattle.sd_rounds.specs.declared.settle.Cause.TheVariants.{Open}
 use Rattle.sd_rounds.specs.declared.settle.Death.{Death}
-use Rattle.sd_rounds.specs.Table.{cleared, live_from, HoldAllBut}
+pub use Rattle.sd_product.specs.Inductive.{proved_of, IsHow, IsProved, IsInductive}
+use Rattle.sd_rounds.specs.Table.{cleared, HoldAllBut}
 
--- the candidates of deaths and of proofs
+-- the candidates of deaths
 abbrev pub dead_of : List Death → List ℕ
 dead_of = map (λ d. d.candidate)
-
-abbrev pub proved_of : List Proved → List ℕ
-proved_of = map (λ p. p.candidate)
 
 -- why the candidate with this query could die
 abbrev pub IsCause : List Tree → Cause → Type 0
@@ -35,20 +30,6 @@ pub record IsLegalDeath (queries : List (List Tree)) (count : ℕ) (before : Lis
 abbrev pub AreLegal : List (List Tree) → ℕ → List ℕ → List Death → Type 0
 AreLegal queries count before [] = Unit {0}
 AreLegal queries count before (d ∷ ds) = IsLegalDeath queries count before d × AreLegal queries count (before ++ d.candidate ∷ []) ds
-
--- what a live candidate with this query stands on
-abbrev pub IsHow : List Tree → How → Type 0
-IsHow facts (Steps proof) = Proves facts proof.steps
-
-pub record IsProved (queries : List (List Tree)) (p : Proved) : Type 0 where
-  pub facts : List Tree
-  pub query : slice_get queries p.candidate ≡ Some facts
-  pub how : IsHow facts p.how
-
--- each live candidate has one entry, in ascending order, with a proof of its query
-pub record IsInductive (queries : List (List Tree)) (table : List Bool) (proofs : List Proved) : Type 0 where
-  pub numbers : proved_of proofs ≡ live_from 0 table
-  pub proved : AllByRecursion (IsProved queries) proofs
 
 -- The first candidates, which have these queries, are settled in a table of so many candidates.
 pub record AreSettled (count : ℕ) (queries : List (List Tree)) (table : List Bool) (deaths : List Death) (proofs : List Proved) : Type 0 where

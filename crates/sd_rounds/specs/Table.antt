@@ -1,17 +1,12 @@
 -- The table of live candidates while candidates die.
-use Rattle.std.specs.Prelude.{◌≡◌, ℕ, suc, ◌<◌, Bool, true, false, List, [], ◌∷◌, Some, length, slice_get, slice_set, Contains}
+use Rattle.std.specs.Prelude.{◌≡◌, ℕ, ◌<◌, Bool, true, false, List, [], ◌∷◌, Some, length, slice_get, slice_set, Contains}
 use Rattle.sd_cand.specs.Words.{words_of}
+pub use Rattle.sd_product.specs.Inductive.{live_from}
 
 -- the table after these candidates died
 abbrev pub cleared : List Bool → List ℕ → List Bool
 cleared table [] = table
 cleared table (c ∷ cs) = cleared (slice_set table c false) cs
-
--- the numbers of the live candidates of a table that begins with this number
-abbrev pub live_from : ℕ → List Bool → List ℕ
-live_from n [] = []
-live_from n (true ∷ bs) = n ∷ live_from (suc n) bs
-live_from n (false ∷ bs) = live_from (suc n) bs
 
 -- the words are those of a table of so many candidates that holds each one which did not die before
 pub record HoldAllBut (count : ℕ) (dead : List ℕ) (words : List ℕ) : Type 0 where
