@@ -6,3 +6,4 @@ pub mod OneCertificate
 pub mod DraftLemmas
 pub mod FaultLemmas
 pub mod AcceptLemmas
+pub mod Listing

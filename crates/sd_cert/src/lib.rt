@@ -7,10 +7,13 @@ mod draft;
 mod extend;
 mod fault;
 mod field;
+mod judge;
 mod keyword;
 pub mod laws;
 mod line;
 mod reading;
+mod refusal;
+mod table;
 mod text;
 
 pub use certificate::{CertPair, Certificate};
