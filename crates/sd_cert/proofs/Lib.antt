@@ -7,3 +7,6 @@ pub mod DraftLemmas
 pub mod FaultLemmas
 pub mod AcceptLemmas
 pub mod Listing
+pub mod RefusalLemmas
+pub mod JudgeLemmas
+pub mod ReplayLemmas

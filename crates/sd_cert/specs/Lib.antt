@@ -10,3 +10,4 @@ pub mod Accepts
 pub mod Refusals
 pub mod BadSteps
 pub mod Tables
+pub mod ReplayFaults

@@ -1,10 +1,10 @@
 -- Which lines of a certificate are not those of the pairs and digests.
-use Rattle.std.specs.Prelude.{ℕ, ◌+◌, ◌==◌, nat_lt, nat_le, min, ◌&&◌, Bool, true, false, List, [], ◌∷◌, length, Option, Some, None, slice_get}
+use Rattle.std.specs.Prelude.{ℕ, ◌+◌, ◌==◌, nat_lt, nat_le, min, ◌&&◌, Bool, true, false, List, [], ◌∷◌, length, Option, Some, None, slice_get, ◌-◌, take}
 use Rattle.std.specs.Cmp.Lexicographic.{pointwise}
 use Rattle.sd_product.specs.declared.straight.Straight.{Straight}
 use Rattle.sd_cert.specs.declared.digest.Digests.{Digests}
 use Rattle.sd_cert.specs.declared.fault.CertError.{CertError}
-use Rattle.sd_cert.specs.declared.fault.CertError.TheVariants.{OtherOld, OtherNew, OtherSettings, Pair as OtherPair}
+use Rattle.sd_cert.specs.declared.fault.CertError.TheVariants.{OtherOld, OtherNew, OtherSettings, Line as BadLine, Pair as OtherPair}
 use Rattle.sd_cert.specs.declared.line.CertState.{CertState}
 use Rattle.sd_cert.specs.declared.line.CertState.TheVariants.{Open, Refused}
 use Rattle.sd_cert.specs.declared.line.Line.{Line}
@@ -57,3 +57,12 @@ abbrev pub first_refusal : List Straight → Digests → Spot → List Line → 
 first_refusal pairs digests spot [] = None
 first_refusal pairs digests spot (l ∷ ls) =
     or_next (refusal pairs digests spot l) (first_refusal pairs digests (spot_after spot l) ls)
+
+abbrev pub refusal_or : Option CertError → CertError → CertError
+refusal_or None e = e
+refusal_or (Some first) e = first
+
+-- why a line before the bad one is refused, or else why the bad one is bad
+abbrev pub first_fault : List Straight → Digests → List Line → CertError → CertError
+first_fault pairs digests lines (BadLine n) = refusal_or (first_refusal pairs digests first_spot (take (n - 1) lines)) (BadLine n)
+first_fault pairs digests lines e = e

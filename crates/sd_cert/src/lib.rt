@@ -13,6 +13,7 @@ pub mod laws;
 mod line;
 mod reading;
 mod refusal;
+mod replaying;
 mod table;
 mod text;
 
@@ -21,3 +22,4 @@ pub use digest::{Digests, digests_of};
 pub use fault::CertError;
 pub use line::{CertState, Line, read_line};
 pub use reading::read_certificate;
+pub use replaying::{Replayed, replay};
