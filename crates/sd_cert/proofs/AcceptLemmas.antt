@@ -55,7 +55,7 @@ pairs-end n i (p ∷ ps) e c =
     both true b h k = k
     both false b h k = h
 
-certificate-end : (c : Certificate) → after_lines at_version (certificate_lines c) ≡ Some done
+pub certificate-end : (c : Certificate) → after_lines at_version (certificate_lines c) ≡ Some done
 unfolding Ends
 certificate-end c = pairs-end (length c.pairs) 0 c.pairs (omega arith) false
 

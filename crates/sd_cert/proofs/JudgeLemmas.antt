@@ -44,7 +44,7 @@ all-append : {A : Type 0} (P : A → Type 0) (xs ys : List A) → AllByRecursion
 all-append P [] ys f g = g
 all-append P (x ∷ xs) ys f g = (f.0, all-append P xs ys f.1 g)
 
-all-front : {A : Type 0} (P : A → Type 0) (xs ys : List A) → AllByRecursion P (xs ++ ys) → AllByRecursion P xs
+pub all-front : {A : Type 0} (P : A → Type 0) (xs ys : List A) → AllByRecursion P (xs ++ ys) → AllByRecursion P xs
 all-front P [] ys f = tt
 all-front P (x ∷ xs) ys f = (f.0, all-front P xs ys f.1)
 

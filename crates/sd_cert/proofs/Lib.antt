@@ -10,3 +10,4 @@ pub mod Listing
 pub mod RefusalLemmas
 pub mod JudgeLemmas
 pub mod ReplayLemmas
+pub mod ReplayFaultLemmas

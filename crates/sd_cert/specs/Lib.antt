@@ -11,3 +11,4 @@ pub mod Refusals
 pub mod BadSteps
 pub mod Tables
 pub mod ReplayFaults
+pub mod OneTable

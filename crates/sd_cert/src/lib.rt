@@ -13,6 +13,7 @@ pub mod laws;
 mod line;
 mod reading;
 mod refusal;
+pub mod replay_laws;
 mod replaying;
 mod table;
 mod text;

@@ -115,6 +115,7 @@ pub fn replay(
 ) -> Result<Replayed, CertError>
     ensures accepted { IfOk result (λ r. Accepts pairs.now digests.now certificate.now r.table) }
     ensures refused_only { IfErr result (λ e. e ≢ Memory → (t : List Bool) → Accepts pairs.now digests.now certificate.now t → ⊥) }
+    ensures refused { IfErr result (IsReplayFault pairs.now digests.now certificate.now) }
 {
     if pairs.len() > u32::MAX as usize {
         return Err(CertError::NoMemory);
