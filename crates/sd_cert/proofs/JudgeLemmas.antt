@@ -71,13 +71,14 @@ module _ (all : List (List Tree)) where
   unfolding IsFrom
   entries-proved queries n line least [] f a h = tt
   entries-proved queries n line least (p ∷ ps) f a h =
-      let parts = next-none (entry_fault queries line p) _ h in
-      ( record {
+      let parts = next-none (entry_fault queries line p) _ h in (
+        record {
           facts = get_or queries p.candidate [];
           query = f p.candidate a.1;
           how = how-proves (line + 1) (get_or queries p.candidate []) p.how parts.0;
-        }
-      , entries-proved queries n (line + length (proved_lines p)) (p.candidate + 1) ps f a.2 parts.1 )
+        },
+        entries-proved queries n (line + length (proved_lines p)) (p.candidate + 1) ps f a.2 parts.1,
+      )
 
   proved-entries : (queries : List (List Tree)) (n line least : ℕ) (ps : List Proved) → IsFrom n queries → Ascend least (length queries) (proved_of ps) → AllByRecursion (IsProved all) (map (numbered_from n) ps) → entries_fault queries line ps ≡ None
   unfolding IsFrom
@@ -94,8 +95,8 @@ module _ (all : List (List Tree)) where
   pairs-proved-from n line (s ∷ ss) (p ∷ ps) f a h =
       let parts = next-none (entries_fault s.queries (line + 1) p.proved) _ h in
       all-append (IsProved all) (map (numbered_from n) p.proved) (proofs_from (n + length s.queries) ss ps)
-        (entries-proved s.queries n (line + 1) 0 p.proved (front-from n s.queries (queries_of ss) f) (ascend-all s p a.0) parts.0)
-        (pairs-proved-from (n + length s.queries) _ ss ps (back-from n s.queries (queries_of ss) f) a.1 parts.1)
+      (entries-proved s.queries n (line + 1) 0 p.proved (front-from n s.queries (queries_of ss) f) (ascend-all s p a.0) parts.0)
+      (pairs-proved-from (n + length s.queries) _ ss ps (back-from n s.queries (queries_of ss) f) a.1 parts.1)
 
   proved-pairs-from : (n line : ℕ) (ss : List Straight) (ps : List CertPair) → IsFrom n (queries_of ss) → FitsPairs ss ps → AllByRecursion (IsProved all) (proofs_from n ss ps) → pairs_fault line ss ps ≡ None
   proved-pairs-from n line [] [] f a h = refl
@@ -105,8 +106,8 @@ module _ (all : List (List Tree)) where
       let first = map (numbered_from n) p.proved in
       let others = proofs_from (n + length s.queries) ss ps in
       none-next (entries_fault s.queries (line + 1) p.proved) _
-        (proved-entries s.queries n (line + 1) 0 p.proved (front-from n s.queries (queries_of ss) f) (ascend-all s p a.0) (all-front (IsProved all) first others h))
-        (proved-pairs-from (n + length s.queries) _ ss ps (back-from n s.queries (queries_of ss) f) a.1 (all-back (IsProved all) first others h))
+      (proved-entries s.queries n (line + 1) 0 p.proved (front-from n s.queries (queries_of ss) f) (ascend-all s p a.0) (all-front (IsProved all) first others h))
+      (proved-pairs-from (n + length s.queries) _ ss ps (back-from n s.queries (queries_of ss) f) a.1 (all-back (IsProved all) first others h))
 
 all-from : (all : List (List Tree)) → IsFrom all 0 all
 unfolding IsFrom

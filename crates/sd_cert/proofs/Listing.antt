@@ -38,8 +38,8 @@ decide-live table n numbers within d =
     let count : 0 + length (take n table) ≡ n = omega (arith, length-take-le n table (omega arith))
     in record {
       below =
-        ap (live_from 0) (take_more table n true within ∙ ap (λ b. take n table ++ b ∷ []) (d.above n (omega arith)))
-        ∙ live_from-true 0 (take n table) ∙ ap (λ k. live_from 0 (take n table) ++ k ∷ []) count ∙ ap (λ ks. ks ++ n ∷ []) d.below;
+          ap (live_from 0) (take_more table n true within ∙ ap (λ b. take n table ++ b ∷ []) (d.above n (omega arith)))
+          ∙ live_from-true 0 (take n table) ∙ ap (λ k. live_from 0 (take n table) ++ k ∷ []) count ∙ ap (λ ks. ks ++ n ∷ []) d.below;
       above = λ k h. d.above k (omega arith);
     }
 
@@ -79,10 +79,10 @@ module _ (entries : List Proved) (i : ℕ) (e : Proved) (within : i < length ent
       let more : take (i + 1) entries ≡ take i entries ++ e ∷ [] = take_more entries i e within ∙ ap (λ x. take i entries ++ x ∷ []) (sym is)
       in append_assoc numbers (map (λ k. first + k) (proved_of (take i entries))) ((first + e.candidate) ∷ [])
       ∙ ap (λ t. numbers ++ t)
-        (sym
-          (ap (λ ps. map (λ k. first + k) (proved_of ps)) more
-          ∙ ap (λ ks. map (λ k. first + k) ks) (map-append (λ (p : Proved). p.candidate) (take i entries) (e ∷ []))
-          ∙ map-append (λ k. first + k) (proved_of (take i entries)) (e.candidate ∷ [])))
+      (sym
+      (ap (λ ps. map (λ k. first + k) (proved_of ps)) more
+      ∙ ap (λ ks. map (λ k. first + k) ks) (map-append (λ (p : Proved). p.candidate) (take i entries) (e ∷ []))
+      ∙ map-append (λ k. first + k) (proved_of (take i entries)) (e.candidate ∷ [])))
 
 pub listed-all : (entries : List Proved) (i first : ℕ) (numbers : List ℕ) → length entries ≤ i → numbers ++ map (λ k. first + k) (proved_of (take i entries)) ≡ numbers ++ map (λ k. first + k) (proved_of entries)
 listed-all entries i first numbers h = ap (λ ps. numbers ++ map (λ k. first + k) (proved_of ps)) (take_all i entries h)
@@ -103,7 +103,7 @@ module _ (pairs : List Straight) (claims : List CertPair) (i : ℕ) (s : Straigh
   pub fits-step : FitsPairs (drop i pairs) (drop i claims) → FitsPair s p × FitsPairs (drop (i + 1) pairs) (drop (i + 1) claims)
   fits-step fits =
       subst (λ (cs : List CertPair). FitsPairs (s ∷ drop (i + 1) pairs) cs) claims-here
-        (subst (λ (ss : List Straight). FitsPairs ss (drop i claims)) pairs-here fits)
+      (subst (λ (ss : List Straight). FitsPairs ss (drop i claims)) pairs-here fits)
 
   pub queries-step : (first total : ℕ) → first + length (queries_of (drop i pairs)) ≡ total → (first + length s.queries) + length (queries_of (drop (i + 1) pairs)) ≡ total
   queries-step first total h =
@@ -114,11 +114,11 @@ module _ (pairs : List Straight) (claims : List CertPair) (i : ℕ) (s : Straigh
       let others = proofs_from (first + length s.queries) (drop (i + 1) pairs) (drop (i + 1) claims)
       in append_assoc numbers (map (λ k. first + k) (proved_of p.proved)) (proved_of others)
       ∙ ap (λ t. numbers ++ t)
-        (sym
-          (ap (λ ss. proved_of (proofs_from first ss (drop i claims))) pairs-here
-          ∙ ap (λ cs. proved_of (proofs_from first (s ∷ drop (i + 1) pairs) cs)) claims-here
-          ∙ map-append (λ (q : Proved). q.candidate) (map (numbered_from first) p.proved) others
-          ∙ ap (λ ks. ks ++ proved_of others) (numbers-from first p.proved)))
+      (sym
+      (ap (λ ss. proved_of (proofs_from first ss (drop i claims))) pairs-here
+      ∙ ap (λ cs. proved_of (proofs_from first (s ∷ drop (i + 1) pairs) cs)) claims-here
+      ∙ map-append (λ (q : Proved). q.candidate) (map (numbered_from first) p.proved) others
+      ∙ ap (λ ks. ks ++ proved_of others) (numbers-from first p.proved)))
       ∙ h
 
 no-claims : (n : ℕ) (ss : List Straight) → proofs_from n ss [] ≡ []

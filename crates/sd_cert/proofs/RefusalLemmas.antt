@@ -125,12 +125,13 @@ module _ (pairs : List Straight) (d : Digests) where
       let found = found-at pairs i s ss e in
       let parts = next-none _ _ h in
       let left = entries-ascend i 0 p.proved (pair_lines (i + 1) ps ++ End ∷ []) (sym (ap (first_refusal pairs d (at-spot i 0)) (below i p ps)) ∙ parts.1) in
-      let test : has_state (Some s) p.state ≡ true = sym (ap (λ o. has_state o p.state) found.0) ∙ unless-none _ (OtherPair i) parts.0 in
-      ( record {
+      let test : has_state (Some s) p.state ≡ true = sym (ap (λ o. has_state o p.state) found.0) ∙ unless-none _ (OtherPair i) parts.0 in (
+        record {
           state = state-is s p.state test;
           numbers = subst (λ (o : Option Straight). Ascend 0 (candidate_count o) (proved_of p.proved)) found.0 left.0;
-        }
-      , pairs-fit (at-spot i left.1.0) (i + 1) ss ps (ap (λ k. drop k pairs) (add-one i) ∙ found.1) (omega arith) left.1.1 )
+        },
+        pairs-fit (at-spot i left.1.0) (i + 1) ss ps (ap (λ k. drop k pairs) (add-one i) ∙ found.1) (omega arith) left.1.1,
+      )
 
   pairs-pass : (spot : Spot) (i : ℕ) (ss : List Straight) (ps : List CertPair) → drop i pairs ≡ ss → FitsPairs ss ps → first_refusal pairs d spot (pair_lines i ps ++ End ∷ []) ≡ None
   unfolding at-spot
@@ -142,8 +143,8 @@ module _ (pairs : List Straight) (d : Digests) where
       let test : has_state (slice_get pairs i) p.state ≡ true = ap (λ o. has_state o p.state) found.0 ∙ is-state s p.state f.0.state in
       let numbers = subst (λ (o : Option Straight). Ascend 0 (candidate_count o) (proved_of p.proved)) (sym found.0) f.0.numbers in
       none-next _ (OtherPair i) _ test
-        (ap (first_refusal pairs d (at-spot i 0)) (below i p ps)
-        ∙ entries-pass i 0 p.proved (pair_lines (i + 1) ps ++ End ∷ []) numbers (λ m. pairs-pass (at-spot i m) (i + 1) ss ps (ap (λ k. drop k pairs) (add-one i) ∙ found.1) f.1))
+      (ap (first_refusal pairs d (at-spot i 0)) (below i p ps)
+      ∙ entries-pass i 0 p.proved (pair_lines (i + 1) ps ++ End ∷ []) numbers (λ m. pairs-pass (at-spot i m) (i + 1) ss ps (ap (λ k. drop k pairs) (add-one i) ∙ found.1) f.1))
 
   -- ---- certificates
 
@@ -156,9 +157,10 @@ module _ (pairs : List Straight) (d : Digests) where
       let same_old : c.digests.old ≡ d.old = bytes-are _ _ (unless-none _ OtherOld old.0) in
       let same_new : c.digests.new ≡ d.new = bytes-are _ _ (unless-none _ OtherNew new.0) in
       let same_settings : c.digests.settings ≡ d.settings = bytes-are _ _ (unless-none _ OtherSettings settings.0) in
-      let same_count : length c.pairs ≡ length pairs = eqb-true _ _ (unless-none _ (OtherPair (min (length c.pairs) (length pairs))) count.0) in
-      ( λ i. record { old = same_old i; new = same_new i; settings = same_settings i }
-      , pairs-fit first_spot 0 pairs c.pairs refl (sym same_count) count.1 )
+      let same_count : length c.pairs ≡ length pairs = eqb-true _ _ (unless-none _ (OtherPair (min (length c.pairs) (length pairs))) count.0) in (
+        λ i. record { old = same_old i; new = same_new i; settings = same_settings i },
+        pairs-fit first_spot 0 pairs c.pairs refl (sym same_count) count.1,
+      )
 
   fits-count : (ss : List Straight) (ps : List CertPair) → FitsPairs ss ps → length ps ≡ length ss
   fits-count [] [] f = refl
@@ -169,7 +171,7 @@ module _ (pairs : List Straight) (d : Digests) where
   pub certificate-passes : (c : Certificate) → c.digests ≡ d → FitsPairs pairs c.pairs → first_refusal pairs d first_spot (certificate_lines c) ≡ None
   certificate-passes c e f =
       none-next _ OtherOld _ (are-bytes _ _ (ap (λ (x : Digests). x.old) e))
-        (none-next _ OtherNew _ (are-bytes _ _ (ap (λ (x : Digests). x.new) e))
-          (none-next _ OtherSettings _ (are-bytes _ _ (ap (λ (x : Digests). x.settings) e))
-            (none-next _ (OtherPair (min (length c.pairs) (length pairs))) _ (eq-eqb _ _ (fits-count pairs c.pairs f))
-              (pairs-pass first_spot 0 pairs c.pairs refl f))))
+      (none-next _ OtherNew _ (are-bytes _ _ (ap (λ (x : Digests). x.new) e))
+      (none-next _ OtherSettings _ (are-bytes _ _ (ap (λ (x : Digests). x.settings) e))
+      (none-next _ (OtherPair (min (length c.pairs) (length pairs))) _ (eq-eqb _ _ (fits-count pairs c.pairs f))
+      (pairs-pass first_spot 0 pairs c.pairs refl f))))

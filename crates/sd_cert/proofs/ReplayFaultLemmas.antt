@@ -127,14 +127,14 @@ split-refused pairs d spot (l ∷ ls) e h = go (refusal pairs d spot l) refl (sp
           work = more.work;
         }
     go (Some x) is others k = record {
-        front = [];
-        line = l;
-        after = ls;
-        whole = refl;
-        passed = refl;
-        refused = ap (λ o. or_next o None) is ∙ k;
-        work = refusal-work pairs d spot l e (is ∙ k);
-      }
+      front = [];
+      line = l;
+      after = ls;
+      whole = refl;
+      passed = refl;
+      refused = ap (λ o. or_next o None) is ∙ k;
+      work = refusal-work pairs d spot l e (is ∙ k);
+    }
 
 front-stands : (p q : Phase) (xs ys : List Line) → after_lines p (xs ++ ys) ≡ Some q → (r : Phase) × (after_lines p xs ≡ Some r)
 front-stands p q [] ys h = (p, refl)
@@ -166,8 +166,8 @@ module _ (pairs : List Straight) (d : Digests) (text : List ℕ) where
         phase = stands.0;
         fit = all-front IsLine upto s.after (subst (λ (ls : List Line). AllByRecursion IsLine ls) parts fit);
         whole =
-          whole ∙ ap (λ ls. lines_text ls ++ rest) parts ∙ ap (λ t. t ++ rest) (lines_text-append upto s.after)
-          ∙ append_assoc (lines_text upto) (lines_text s.after) rest;
+            whole ∙ ap (λ ls. lines_text ls ++ rest) parts ∙ ap (λ t. t ++ rest) (lines_text-append upto s.after)
+            ∙ append_assoc (lines_text upto) (lines_text s.after) rest;
         stand = stands.1;
         passed = s.passed;
         refused = s.refused;
@@ -194,7 +194,7 @@ prefix-of [] ms rest others f g stop e = refl
 prefix-of (l ∷ ls) [] rest others f g stop e = absurd (stop l (lines_text ls ++ rest) f.0 (sym e ∙ append_assoc (line_text l) (10 ∷ lines_text ls) rest))
 prefix-of (l ∷ ls) (m ∷ ms) rest others f g stop e =
     let parts = first_line-unique (line_text l) (lines_text ls ++ rest) (line_text m) (lines_text ms ++ others) (no_feed l f.0) (no_feed m g.0)
-      (sym (append_assoc (line_text l) (10 ∷ lines_text ls) rest) ∙ e ∙ append_assoc (line_text m) (10 ∷ lines_text ms) others) in
+    (sym (append_assoc (line_text l) (10 ∷ lines_text ls) rest) ∙ e ∙ append_assoc (line_text m) (10 ∷ lines_text ms) others) in
     let same : l ≡ m = line_text-injective l m f.0 g.0 parts.0 in
     let more : ls ≡ take (length ls) ms = prefix-of ls ms rest others f.1 g.1 stop parts.1 in
     λ i. same i ∷ more i

@@ -75,11 +75,7 @@ pub(crate) fn judge_pairs(
     let mut at = line;
     for (i, claim) in claims.iter().enumerate() {
         let first = further(at, 1)?;
-        at = judge_entries(
-            pairs[i].queries.as_slice(),
-            claim.proved.as_slice(),
-            first,
-        )?;
+        at = judge_entries(pairs[i].queries.as_slice(), claim.proved.as_slice(), first)?;
     }
     Ok(())
 }

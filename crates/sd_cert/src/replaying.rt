@@ -58,12 +58,7 @@ fn lines_before(lines: &[Line], number: u64) -> &[Line]
 }
 
 /// Why a line before the bad one is refused, or else why the bad one is bad.
-fn first_fault(
-    pairs: &[Straight],
-    digests: &Digests,
-    lines: &[Line],
-    fault: CertError,
-) -> CertError
+fn first_fault(pairs: &[Straight], digests: &Digests, lines: &[Line], fault: CertError) -> CertError
     requires { length pairs.now < 2 ^ 32 }
     ensures { result ≡ first_fault pairs.now digests.now lines.now fault }
 {

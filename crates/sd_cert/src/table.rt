@@ -43,7 +43,13 @@ fn clear_until(table: &mut LiveTable, from: u32, to: u32)
 
 /// Leaves of a pair, whose candidates are numbered from `first` on, the listed candidates live. All candidates below
 /// `decided` are decided, and in the end those below the answer are.
-fn list_entries(table: &mut LiveTable, entries: &[Proved], first: u32, count: u32, decided: u32) -> u32
+fn list_entries(
+    table: &mut LiveTable,
+    entries: &[Proved],
+    first: u32,
+    count: u32,
+    decided: u32,
+) -> u32
     requires ascend { Ascend 0 count (proved_of entries.now) }
     requires order { decided ≤ first }
     requires within { first + count ≤ length table.old }

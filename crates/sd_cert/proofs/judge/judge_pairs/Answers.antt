@@ -14,7 +14,7 @@ judge_entries-requires c =
     let all = ascend-all c.index-pairs-i.result c.index-claims-i.result step.0 in
     let same : length c.index-pairs-i.result.queries ≡ length (get_or c.args.pairs.now c.loop-i.i c.index-pairs-i.result).queries = ap (λ (s : Straight). length s.queries) c.index-pairs-i.is in
     subst (λ (n : ℕ). Ascend 0 n (proved_of c.as_slice-in-loop-i.result.now)) (same ∙ ap length (sym c.as_slice.ensures))
-      (subst (λ (ps : List Proved). Ascend 0 (length c.index-pairs-i.result.queries) (proved_of ps)) (sym c.as_slice-in-loop-i.ensures) all)
+    (subst (λ (ps : List Proved). Ascend 0 (length c.index-pairs-i.result.queries) (proved_of ps)) (sym c.as_slice-in-loop-i.ensures) all)
 
 pub returns : goal.returns
 returns c = c.loop-i.invariant.0 ∙ no-fault-left c.loop-i.at (drop c.loop-i.i c.args.pairs.now) c.args.claims.now c.loop-i.i (omega arith)

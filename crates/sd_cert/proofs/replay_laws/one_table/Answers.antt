@@ -27,7 +27,7 @@ one_table : ShowsOneTable
 one_table pairs d bytes t u a b =
     let same : a.certificate ≡ b.certificate = one_certificate a.certificate b.certificate a.form b.form (sym a.text ∙ b.text)
     in same-table 0 t u (a.size ∙ sym b.size)
-      (sym a.inductive.numbers ∙ ap (λ (c : Certificate). proved_of (proofs_from 0 pairs c.pairs)) same ∙ b.inductive.numbers)
+    (sym a.inductive.numbers ∙ ap (λ (c : Certificate). proved_of (proofs_from 0 pairs c.pairs)) same ∙ b.inductive.numbers)
 
 pub returns : goal.returns
 returns c = one_table

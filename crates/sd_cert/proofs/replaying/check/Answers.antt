@@ -28,4 +28,4 @@ pub returns-in-None-clause-fault : goal.returns-in-None-clause-fault
 returns-in-None-clause-fault c =
     let fits = certificate-fits c.args.pairs.now c.args.digests.now c.args.certificate.now (ap (first_refusal c.args.pairs.now c.args.digests.now first_spot) (sym c.requires.lines) ∙ sym c.in-None.ensures) in
     each-err (λ e. (e ≡ NoMemory) ⊎ (pairs_fault 6 c.args.pairs.now c.args.certificate.now.pairs ≡ Some e)) (IsCertificateFault c.args.pairs.now c.args.digests.now c.args.certificate.now) c.accept.result
-      (λ e h. accept-fault c.args.pairs.now c.args.digests.now c.args.certificate.now e fits.0 fits.1 h) c.accept.ensures.fault
+    (λ e h. accept-fault c.args.pairs.now c.args.digests.now c.args.certificate.now e fits.0 fits.1 h) c.accept.ensures.fault

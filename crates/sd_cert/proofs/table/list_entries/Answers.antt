@@ -30,16 +30,17 @@ loop-entry-preserved c =
     let e = c.entry-item.result in
     let step = ascend-step c.args.entries.now i e (omega arith) c.entry-item.is c.loop-entry.invariant.1.0 c.args.count c.loop-entry.invariant.1.2 in
     let size : length c.clear_until.new.table ≡ length c.args.table.now = c.clear_until.ensures.size ∙ c.loop-entry.invariant.0 in
-    let within : c.args.first + e.candidate < length c.clear_until.new.table = omega (arith, step.1, size) in
-    ( size
-    , (e.candidate + 1, omega arith, step.2)
-    , omega (arith, step.1)
-    , λ numbers d. subst (λ (ks : List ℕ). IsDecided c.clear_until.new.table (c.args.first + e.candidate + 1) ks)
-        (listed-more c.args.entries.now i e (omega arith) c.entry-item.is numbers c.args.first)
-        (decide-live c.clear_until.new.table (c.args.first + e.candidate) _ within (c.clear_until.ensures.decided _ (c.loop-entry.invariant.3 numbers d))) )
+    let within : c.args.first + e.candidate < length c.clear_until.new.table = omega (arith, step.1, size) in (
+      size,
+      (e.candidate + 1, omega arith, step.2),
+      omega (arith, step.1),
+      λ numbers d. subst (λ (ks : List ℕ). IsDecided c.clear_until.new.table (c.args.first + e.candidate + 1) ks)
+          (listed-more c.args.entries.now i e (omega arith) c.entry-item.is numbers c.args.first)
+          (decide-live c.clear_until.new.table (c.args.first + e.candidate) _ within (c.clear_until.ensures.decided _ (c.loop-entry.invariant.3 numbers d))),
+    )
 
 pub returns-clause-decided : goal.returns-clause-decided
 returns-clause-decided c numbers d =
     subst (λ (ks : List ℕ). IsDecided c.loop-entry.table c.loop-entry.next ks)
-      (listed-all c.args.entries.now c.loop-entry.entry-index c.args.first numbers (omega arith))
-      (c.loop-entry.invariant.3 numbers d)
+    (listed-all c.args.entries.now c.loop-entry.entry-index c.args.first numbers (omega arith))
+    (c.loop-entry.invariant.3 numbers d)

@@ -16,7 +16,7 @@ list_entries-decided-requires-clause-ascend c =
     let all = ascend-all c.index-pairs-i.result c.index-claims-i.result step.0 in
     let same : length c.index-pairs-i.result.queries ≡ length (get_or c.args.pairs.now c.loop-i.i c.index-pairs-i.result).queries = ap (λ (s : Straight). length s.queries) c.index-pairs-i.is in
     subst (λ (n : ℕ). Ascend 0 n (proved_of c.as_slice.result.now)) (same ∙ sym c.len-count.ensures)
-      (subst (λ (ps : List Proved). Ascend 0 (length c.index-pairs-i.result.queries) (proved_of ps)) (sym c.as_slice.ensures) all)
+    (subst (λ (ps : List Proved). Ascend 0 (length c.index-pairs-i.result.queries) (proved_of ps)) (sym c.as_slice.ensures) all)
 
 pub loop-i-preserved : goal.loop-i-preserved
 loop-i-preserved c =
@@ -29,15 +29,18 @@ loop-i-preserved c =
     let long : length pairs ≡ length claims = fits-length pairs claims c.requires in
     let count : length s.queries ≡ c.len-count.result = ap (λ (s : Straight). length s.queries) c.index-pairs-i.is ∙ sym c.len-count.ensures in
     let step = fits-step pairs claims i s p (omega arith) (omega arith) c.index-pairs-i.is c.index-claims-i.is c.loop-i.invariant.3 in
-    let numbers = c.loop-i.invariant.4.0 in
-    ( c.list_entries-decided.ensures.size ∙ c.loop-i.invariant.0
-    , ap (λ n. (first + n) + length (queries_of (drop (i + 1) pairs))) (sym count) ∙ queries-step pairs claims i s p (omega arith) (omega arith) c.index-pairs-i.is c.index-claims-i.is first c.in_ok-total.total c.loop-i.invariant.1
-    , c.list_entries-decided.ensures.order
-    , step.1
-    , ( numbers ++ map (λ k. first + k) (proved_of p.proved)
-      , subst (λ (ps : List Proved). IsDecided c.list_entries-decided.new.table c.list_entries-decided.result (numbers ++ map (λ k. first + k) (proved_of ps))) c.as_slice.ensures (c.list_entries-decided.ensures.decided numbers c.loop-i.invariant.4.1)
-      , ap (λ n. (numbers ++ map (λ k. first + k) (proved_of p.proved)) ++ proved_of (proofs_from (first + n) (drop (i + 1) pairs) (drop (i + 1) claims))) (sym count)
-        ∙ numbers-step pairs claims i s p (omega arith) (omega arith) c.index-pairs-i.is c.index-claims-i.is numbers (proved_of (proofs_from 0 pairs claims)) first c.loop-i.invariant.4.2 ) )
+    let numbers = c.loop-i.invariant.4.0 in (
+      c.list_entries-decided.ensures.size ∙ c.loop-i.invariant.0,
+      ap (λ n. (first + n) + length (queries_of (drop (i + 1) pairs))) (sym count) ∙ queries-step pairs claims i s p (omega arith) (omega arith) c.index-pairs-i.is c.index-claims-i.is first c.in_ok-total.total c.loop-i.invariant.1,
+      c.list_entries-decided.ensures.order,
+      step.1,
+      (
+        numbers ++ map (λ k. first + k) (proved_of p.proved),
+        subst (λ (ps : List Proved). IsDecided c.list_entries-decided.new.table c.list_entries-decided.result (numbers ++ map (λ k. first + k) (proved_of ps))) c.as_slice.ensures (c.list_entries-decided.ensures.decided numbers c.loop-i.invariant.4.1),
+        ap (λ n. (numbers ++ map (λ k. first + k) (proved_of p.proved)) ++ proved_of (proofs_from (first + n) (drop (i + 1) pairs) (drop (i + 1) claims))) (sym count)
+            ∙ numbers-step pairs claims i s p (omega arith) (omega arith) c.index-pairs-i.is c.index-claims-i.is numbers (proved_of (proofs_from 0 pairs claims)) first c.loop-i.invariant.4.2,
+      ),
+    )
 
 pub returns-clause-live : goal.returns-clause-live
 returns-clause-live c =
