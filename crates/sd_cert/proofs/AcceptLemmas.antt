@@ -1,5 +1,5 @@
 -- The lines of a certificate follow one another to the end.
-use Rattle.std.proofs.Common.{◌≡◌, ◌≢◌, ℕ, ◌+◌, ◌<◌, ◌==◌, Bool, true, false, cond, List, [], ◌∷◌, ◌++◌, map, length, refl, sym, ap, ◌∙◌, subst, arith, append_assoc, length-append, inl, inr, eq-eqb, lt-ltb}
+use Rattle.std.proofs.Common.{◌≡◌, ℕ, ◌+◌, ◌<◌, ◌==◌, Bool, true, false, cond, List, [], ◌∷◌, ◌++◌, map, length, refl, sym, ap, ◌∙◌, subst, arith, append_assoc, length-append, inl, inr, eq-eqb, lt-ltb}
 use Rattle.std.specs.Prelude.{Option, Some, None, Result, Ok, Err, IfOk, IfErr, ◌⊎◌, ◌&&◌, nat_lt}
 use Rattle.std.specs.Option.{option_and_then}
 use Rattle.std.proofs.lemmas.Option.{same_Some}
@@ -13,12 +13,12 @@ use Rattle.sd_cert.specs.declared.certificate.Certificate.{Certificate}
 use Rattle.sd_cert.specs.declared.fault.CertError.{CertError}
 use Rattle.sd_cert.specs.declared.fault.CertError.TheVariants.{NoMemory, Version as OtherVersion, Line as BadLine}
 use Rattle.sd_cert.specs.declared.line.Line.{Line}
-use Rattle.sd_cert.specs.declared.line.Line.TheVariants.{Version, Pair, Step as StepLine, End}
+use Rattle.sd_cert.specs.declared.line.Line.TheVariants.{Version, Step as StepLine, End}
 use Rattle.sd_cert.specs.Lines.{line_text, IsLine}
 use Rattle.sd_cert.specs.Text.{lines_text}
 use Rattle.sd_cert.specs.Certificates.{how_lines, proved_lines, pair_lines, certificate_lines, certificate_text, IsCertificate}
 use Rattle.sd_cert.specs.Phases.{Phase, at_version, in_pairs, done, after_line, after_lines}
-use Rattle.sd_cert.specs.Faults.{StopsAt, HasVersion, IsFault}
+use Rattle.sd_cert.specs.Faults.{StopsAt, IsFault}
 use Rattle.sd_cert.proofs.TextLemmas.{no_feed, first_line-unique}
 use Rattle.sd_cert.proofs.OneLine.{line_text-injective}
 use Rattle.sd_cert.proofs.OneCertificate.{one_certificate}

@@ -35,10 +35,11 @@ after_lines-push p (m ∷ ls) l = go (after_line p m) (λ q. after_lines-push q 
 
 module _ (lines : List Line) (i : ℕ) (d : Line) (reading : Draft) (within : i < length lines) (same : draft_lines reading ≡ take i lines) (phase : after_lines at_version (take i lines) ≡ Some (phase_of reading)) where
   pub draft-step : (longer : Draft) → Goes reading (get_or lines i d) (Some longer) → (draft_lines longer ≡ take (i + 1) lines) × (after_lines at_version (take (i + 1) lines) ≡ Some (phase_of longer))
-  draft-step longer g =
-      ( g.0 ∙ ap (λ ls. ls ++ get_or lines i d ∷ []) same ∙ sym (take_more lines i d within)
-      , ap (after_lines at_version) (take_more lines i d within) ∙ after_lines-push at_version (take i lines) (get_or lines i d)
-        ∙ ap (option_and_then (λ q. after_line q (get_or lines i d))) phase ∙ g.1 )
+  draft-step longer g = (
+    g.0 ∙ ap (λ ls. ls ++ get_or lines i d ∷ []) same ∙ sym (take_more lines i d within),
+    ap (after_lines at_version) (take_more lines i d within) ∙ after_lines-push at_version (take i lines) (get_or lines i d)
+        ∙ ap (option_and_then (λ q. after_line q (get_or lines i d))) phase ∙ g.1,
+  )
 
 -- a first line of a version that can be followed is that of this version
 follows_version : (v : ℕ) (ls : List Line) (p : Phase) → after_lines at_version (Version v ∷ ls) ≡ Some p → v ≡ 1
@@ -63,21 +64,24 @@ stuck_fault lines i d reading NoMemory within phase stuck place = tt
 stuck_fault lines i d reading (OtherVersion v) within phase stuck place =
     let first : 0 < length lines = omega arith
     in let begins = same_Some at_version (phase_of reading) (ap (λ k. after_lines at_version (take k lines)) (sym place.0) ∙ phase)
-    in ( drop 1 lines
-       , drop_more lines 0 d first ∙ ap (λ l. l ∷ drop 1 lines) (ap (λ k. get_or lines k d) (sym place.0) ∙ place.1)
-       , stuck_version v (ap (λ p. after_line p (Version v)) begins ∙ ap (after_line (phase_of reading)) (sym place.1) ∙ stuck) )
-stuck_fault lines i d reading (BadLine n) within phase stuck place =
-    ( record {
-        front = take i lines;
-        line = get_or lines i d;
-        after = drop (i + 1) lines;
-        phase = phase_of reading;
-        whole = sym (take-append-drop i lines) ∙ ap (λ t. take i lines ++ t) (drop_more lines i d within);
-        before = phase;
-        stuck = stuck;
-        number = place.0 ∙ ap (λ k. k + 1) (sym (length-take-le i lines (omega arith)));
-      }
-    , λ v after e. bad_version lines i d (phase_of reading) phase place.1 v after e )
+    in (
+      drop 1 lines,
+      drop_more lines 0 d first ∙ ap (λ l. l ∷ drop 1 lines) (ap (λ k. get_or lines k d) (sym place.0) ∙ place.1),
+      stuck_version v (ap (λ p. after_line p (Version v)) begins ∙ ap (after_line (phase_of reading)) (sym place.1) ∙ stuck),
+    )
+stuck_fault lines i d reading (BadLine n) within phase stuck place = (
+  record {
+    front = take i lines;
+    line = get_or lines i d;
+    after = drop (i + 1) lines;
+    phase = phase_of reading;
+    whole = sym (take-append-drop i lines) ∙ ap (λ t. take i lines ++ t) (drop_more lines i d within);
+    before = phase;
+    stuck = stuck;
+    number = place.0 ∙ ap (λ k. k + 1) (sym (length-take-le i lines (omega arith)));
+  },
+  λ v after e. bad_version lines i d (phase_of reading) phase place.1 v after e,
+)
 stuck_fault lines i d reading _ within phase stuck place = absurd place
 
 pub not_done : (reading : Draft) → ((c : Certificate) → reading ≡ draft.Done c → ⊥) → phase_of reading ≡ done → ⊥
@@ -88,23 +92,24 @@ version_is_first : (text : List ℕ) (lines : List Line) (rest : List ℕ) → H
 version_is_first text [] rest has v version = absurd (has.stop (Version v) version.more version.fits (sym has.whole ∙ version.line))
 version_is_first text (l ∷ ls) rest has v version =
     let parts = first_line-unique (line_text l) (lines_text ls ++ rest) (line_text (Version v)) version.more (no_feed l has.fit.0) (no_feed (Version v) version.fits)
-      (sym (append_assoc (line_text l) (10 ∷ lines_text ls) rest) ∙ sym has.whole ∙ version.line)
+    (sym (append_assoc (line_text l) (10 ∷ lines_text ls) rest) ∙ sym has.whole ∙ version.line)
     in (ls, ap (λ m. m ∷ ls) (line_text-injective l (Version v) has.fit.0 version.fits parts.0))
 
 pub end_fault : (text : List ℕ) (lines : List Line) (rest : List ℕ) (reading : Draft) → HasLines text lines rest → after_lines at_version lines ≡ Some (phase_of reading) → (phase_of reading ≡ done → rest ≡ [] → ⊥) → IsFault text (BadLine (length lines + 1))
-end_fault text lines rest reading has phase unfinished =
-    ( record {
-        lines = lines;
-        rest = rest;
-        phase = phase_of reading;
-        fit = has.fit;
-        whole = has.whole;
-        before = phase;
-        stuck = λ l more f e. absurd (has.stop l more f e);
-        unfinished = unfinished;
-        number = refl;
-      }
-    , λ v version. let first = version_is_first text lines rest has v version in follows_version v first.0 (phase_of reading) (ap (after_lines at_version) (sym first.1) ∙ phase) )
+end_fault text lines rest reading has phase unfinished = (
+  record {
+    lines = lines;
+    rest = rest;
+    phase = phase_of reading;
+    fit = has.fit;
+    whole = has.whole;
+    before = phase;
+    stuck = λ l more f e. absurd (has.stop l more f e);
+    unfinished = unfinished;
+    number = refl;
+  },
+  λ v version. let first = version_is_first text lines rest has v version in follows_version v first.0 (phase_of reading) (ap (after_lines at_version) (sym first.1) ∙ phase),
+)
 
 fit-front : (xs ys : List Line) → AllByRecursion IsLine (xs ++ ys) → AllByRecursion IsLine xs
 fit-front [] ys h = tt
@@ -125,25 +130,26 @@ stops text lines rest n has at =
       phase = at.phase;
       fit = fit-front at.front (at.line ∷ at.after) fit;
       whole =
-        has.whole ∙ ap (λ ls. lines_text ls ++ rest) at.whole ∙ ap (λ t. t ++ rest) (lines_text-append at.front (at.line ∷ at.after))
-        ∙ append_assoc (lines_text at.front) (line_text at.line ++ 10 ∷ lines_text at.after) rest
-        ∙ ap (λ t. lines_text at.front ++ t) (append_assoc (line_text at.line) (10 ∷ lines_text at.after) rest);
+          has.whole ∙ ap (λ ls. lines_text ls ++ rest) at.whole ∙ ap (λ t. t ++ rest) (lines_text-append at.front (at.line ∷ at.after))
+          ∙ append_assoc (lines_text at.front) (line_text at.line ++ 10 ∷ lines_text at.after) rest
+          ∙ ap (λ t. lines_text at.front ++ t) (append_assoc (line_text at.line) (10 ∷ lines_text at.after) rest);
       before = at.before;
       stuck = λ l more f e.
-        let parts = first_line-unique (line_text at.line) (lines_text at.after ++ rest) (line_text l) more (no_feed at.line one) (no_feed l f) e
-        in ap (after_line at.phase) (sym (line_text-injective at.line l one f parts.0)) ∙ at.stuck;
+          let parts = first_line-unique (line_text at.line) (lines_text at.after ++ rest) (line_text l) more (no_feed at.line one) (no_feed l f) e
+          in ap (after_line at.phase) (sym (line_text-injective at.line l one f parts.0)) ∙ at.stuck;
       unfinished = λ d e. absurd (omega (arith, ap length e, length-append (line_text at.line) (10 ∷ (lines_text at.after ++ rest))));
       number = at.number;
     }
 
 pub line_fault : (text : List ℕ) (lines : List Line) (rest : List ℕ) (e : CertError) → HasLines text lines rest → IsLineFault lines e → IsFault text e
 line_fault text lines rest NoMemory has f = tt
-line_fault text lines rest (OtherVersion v) has f =
-    ( record {
-        more = lines_text f.0 ++ rest;
-        fits = (subst (λ (ls : List Line). AllByRecursion IsLine ls) f.1 has.fit).0;
-        line = has.whole ∙ ap (λ ls. lines_text ls ++ rest) f.1 ∙ append_assoc (line_text (Version v)) (10 ∷ lines_text f.0) rest;
-      }
-    , f.2 )
+line_fault text lines rest (OtherVersion v) has f = (
+  record {
+    more = lines_text f.0 ++ rest;
+    fits = (subst (λ (ls : List Line). AllByRecursion IsLine ls) f.1 has.fit).0;
+    line = has.whole ∙ ap (λ ls. lines_text ls ++ rest) f.1 ∙ append_assoc (line_text (Version v)) (10 ∷ lines_text f.0) rest;
+  },
+  f.2,
+)
 line_fault text lines rest (BadLine n) has f = (stops text lines rest n has f.0, λ v version. let first = version_is_first text lines rest has v version in f.1 v first.0 first.1)
 line_fault text lines rest _ has f = absurd f

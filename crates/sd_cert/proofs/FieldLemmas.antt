@@ -1,5 +1,5 @@
 -- Reading a field gives what its spelling came from, and nothing else.
-use Rattle.std.proofs.Common.{◌≡◌, ◌≢◌, ℕ, zero, suc, ◌+◌, ◌*◌, ◌^◌, ◌<◌, ◌≤◌, ◌==◌, Bool, true, false, cond, eqb, List, [], ◌∷◌, ◌++◌, length, get_or, refl, sym, ap, ◌∙◌, subst, arith, Bor}
+use Rattle.std.proofs.Common.{◌≡◌, ◌≢◌, ℕ, zero, suc, ◌^◌, ◌<◌, ◌==◌, Bool, true, false, cond, eqb, List, [], ◌∷◌, ◌++◌, length, get_or, refl, sym, ap, ◌∙◌, subst, arith, Bor}
 use Rattle.std.specs.Prelude.{Option, Some, None, Result, Ok, Err, MatchOption}
 use Rattle.std.specs.Option.{option_copied}
 use Rattle.std.specs.Result.{OkIff, result_ok}
@@ -95,12 +95,14 @@ number_is {E = E} text all z r h = go r (parse_digits own 64 text r h d)
     d = sym (list_all-digits text) ∙ all
 
     go : (r : Result ℕ E) → OkIff r ((0 < length text) × (digits_value 10 text < 2 ^ 64)) (digits_value 10 text) → IsReadAs decimal (λ n. n < 2 ^ 64) text (result_ok r)
-    go (Ok x) k =
-        ( (omega (arith, k.0.1, k.1), sym (decimal-digits_value own text d k.0.0 (one_digit text k.0.0 z) k.0.1) ∙ ap decimal (sym k.1))
-        , λ n f e. ap Some (k.1 ∙ ap (digits_value 10) e ∙ digits_value-decimal own n f) )
-    go (Err e) k =
-        ( tt
-        , λ n f s. absurd (k (subst (λ (t : List ℕ). 0 < length t) (sym s) (decimal_nonempty n f), omega (arith, ap (digits_value 10) s ∙ digits_value-decimal own n f, f))) )
+    go (Ok x) k = (
+      (omega (arith, k.0.1, k.1), sym (decimal-digits_value own text d k.0.0 (one_digit text k.0.0 z) k.0.1) ∙ ap decimal (sym k.1)),
+      λ n f e. ap Some (k.1 ∙ ap (digits_value 10) e ∙ digits_value-decimal own n f),
+    )
+    go (Err e) k = (
+      tt,
+      λ n f s. absurd (k (subst (λ (t : List ℕ). 0 < length t) (sym s) (decimal_nonempty n f), omega (arith, ap (digits_value 10) s ∙ digits_value-decimal own n f, f))),
+    )
 
 pub digits-utf8 : (text : List ℕ) → list_all is_ascii_digit text ≡ true → IsUtf8 text
 digits-utf8 text h = IsUtf8-from_ascii text (IsAscii-from_digits text (own.to text (sym (list_all-digits text) ∙ h)))
@@ -131,8 +133,10 @@ digest_is text out spelling r h e s same =
     let ok = decoded text out r h e
     in let long = decode_sized-ok text 32 out ok
     in let parts = decode_of-ok text out (sym (decode_sized-twice text 32 long) ∙ ok)
-    in ( (record { size = omega (arith, long, parts.2); bytes = parts.3 }, (slice_eq-Decides Decides-eqb text spelling (pointwise eqb text spelling) refl).0 same ∙ s)
-       , λ d f t. let again = digest_decodes text d f t in cc )
+    in (
+      (record { size = omega (arith, long, parts.2); bytes = parts.3 }, (slice_eq-Decides Decides-eqb text spelling (pointwise eqb text spelling) refl).0 same ∙ s),
+      λ d f t. let again = digest_decodes text d f t in cc,
+    )
 
 pub digest_differs : (text out spelling : List ℕ) (r : Result (Unit {0}) FromHexError) → Decodes text r out → is_err r ≡ false → spelling ≡ encode_lower out → pointwise eqb text spelling ≡ false → (d : List ℕ) → IsDigest d → text ≡ encode_lower d → ⊥
 digest_differs text out spelling r h e s other d f t =

@@ -11,3 +11,4 @@ pub mod RefusalLemmas
 pub mod JudgeLemmas
 pub mod ReplayLemmas
 pub mod ReplayFaultLemmas
+pub mod SpellLemmas

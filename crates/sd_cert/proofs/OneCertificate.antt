@@ -1,5 +1,5 @@
 -- No lines are those of two certificates.
-use Rattle.std.proofs.Common.{◌≡◌, ℕ, ◌+◌, List, [], ◌∷◌, ◌++◌, map, length, refl, sym, ap, ◌∙◌, append_assoc}
+use Rattle.std.proofs.Common.{◌≡◌, ℕ, ◌+◌, List, [], ◌∷◌, ◌++◌, map, refl, sym, ap, ◌∙◌, append_assoc}
 use Rattle.std.specs.List.{flat_map}
 use Rattle.sd_kernel.specs.declared.Step.{Step}
 use Rattle.sd_kernel.specs.declared.How.{How}
@@ -9,7 +9,7 @@ use Rattle.sd_cert.specs.declared.certificate.CertPair.{CertPair}
 use Rattle.sd_cert.specs.declared.certificate.Certificate.{Certificate}
 use Rattle.sd_cert.specs.declared.line.CertState.{CertState}
 use Rattle.sd_cert.specs.declared.line.Line.{Line}
-use Rattle.sd_cert.specs.declared.line.Line.TheVariants.{Version, Old, New, Settings, Pairs, Pair, Candidate, Step as StepLine, End}
+use Rattle.sd_cert.specs.declared.line.Line.TheVariants.{Candidate, Step as StepLine, End}
 use Rattle.sd_cert.specs.Certificates.{how_lines, proved_lines, pair_lines, certificate_lines, certificate_text, IsCertificate}
 use Rattle.sd_cert.proofs.OneLine.{lines_text-injective}
 
@@ -64,7 +64,7 @@ all_proved-one (p ∷ ps) [] xs (Candidate k ∷ ys) f g e = absurd g
 all_proved-one (p ∷ ps) [] xs _ f g e = absurd (cc)
 all_proved-one (p ∷ ps) (q ∷ qs) xs ys f g e =
     let one = proved-one p q (flat_map proved_lines ps ++ xs) (flat_map proved_lines qs ++ ys) (proved-after ps xs f) (proved-after qs ys g)
-      (sym (append_assoc (proved_lines p) (flat_map proved_lines ps) xs) ∙ e ∙ append_assoc (proved_lines q) (flat_map proved_lines qs) ys)
+    (sym (append_assoc (proved_lines p) (flat_map proved_lines ps) xs) ∙ e ∙ append_assoc (proved_lines q) (flat_map proved_lines qs) ys)
     in let rest = all_proved-one ps qs xs ys f g one.1
     in (let a = one.0 in let b = rest.0 in cc, rest.1)
 
@@ -81,7 +81,7 @@ pairs-one i (p ∷ ps) (q ∷ qs) e =
     let state : p.state ≡ q.state = cc
     in let tail : (flat_map proved_lines p.proved ++ pair_lines (i + 1) ps) ++ End ∷ [] ≡ (flat_map proved_lines q.proved ++ pair_lines (i + 1) qs) ++ End ∷ [] = cc
     in let both = all_proved-one p.proved q.proved (pair_lines (i + 1) ps ++ End ∷ []) (pair_lines (i + 1) qs ++ End ∷ []) (pairs-after (i + 1) ps) (pairs-after (i + 1) qs)
-      (sym (append_assoc (flat_map proved_lines p.proved) (pair_lines (i + 1) ps) (End ∷ [])) ∙ tail ∙ append_assoc (flat_map proved_lines q.proved) (pair_lines (i + 1) qs) (End ∷ []))
+    (sym (append_assoc (flat_map proved_lines p.proved) (pair_lines (i + 1) ps) (End ∷ [])) ∙ tail ∙ append_assoc (flat_map proved_lines q.proved) (pair_lines (i + 1) qs) (End ∷ []))
     in let make : CertState → List Proved → CertPair = λ s l. record { state = s; proved = l }
     in let first : p ≡ q = ap (λ s. make s p.proved) state ∙ ap (make q.state) both.0
     in let rest : ps ≡ qs = pairs-one (i + 1) ps qs both.1
@@ -97,4 +97,4 @@ one_certificate c d f g e =
     in let pairs : c.pairs ≡ d.pairs = pairs-one 0 c.pairs d.pairs tail
     in let make : List ℕ → List ℕ → List ℕ → List CertPair → Certificate = λ o n s l. record { digests = record { old = o; new = n; settings = s }; pairs = l }
     in ap (λ o. make o c.digests.new c.digests.settings c.pairs) old ∙ ap (λ n. make d.digests.old n c.digests.settings c.pairs) new
-      ∙ ap (λ s. make d.digests.old d.digests.new s c.pairs) settings ∙ ap (make d.digests.old d.digests.new d.digests.settings) pairs
+    ∙ ap (λ s. make d.digests.old d.digests.new s c.pairs) settings ∙ ap (make d.digests.old d.digests.new d.digests.settings) pairs

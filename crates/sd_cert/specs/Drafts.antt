@@ -1,5 +1,5 @@
 -- The lines of a draft, and what comes next.
-use Rattle.std.specs.Prelude.{◌≡◌, ℕ, ◌+◌, Bool, true, false, List, [], ◌∷◌, ◌++◌, map, length, Option, Some, None, MatchOption, is_some, if◌then◌else◌}
+use Rattle.std.specs.Prelude.{◌≡◌, ℕ, ◌+◌, Bool, false, List, [], ◌∷◌, ◌++◌, map, length, Option, Some, None, MatchOption, is_some, if◌then◌else◌}
 use Rattle.std.specs.List.{flat_map}
 use Rattle.sd_cert.specs.declared.digest.Digests.{Digests}
 use Rattle.sd_cert.specs.declared.certificate.CertPair.{CertPair}
@@ -9,7 +9,7 @@ use Rattle.sd_cert.specs.declared.draft.Body.{Body}
 use Rattle.sd_cert.specs.declared.draft.Draft.{Draft}
 use Rattle.sd_cert.specs.declared.draft.Draft.TheVariants as draft
 use Rattle.sd_cert.specs.declared.line.Line.{Line}
-use Rattle.sd_cert.specs.declared.line.Line.TheVariants.{Version, Old, New, Settings, Pairs, Pair, Candidate, Step as StepLine, End}
+use Rattle.sd_cert.specs.declared.line.Line.TheVariants.{Version, Old, New, Settings, Pairs, Pair, Candidate, Step as StepLine}
 use Rattle.sd_cert.specs.Certificates.{proved_lines, pair_lines, certificate_lines}
 use Rattle.sd_cert.specs.Phases.{Phase, at_version, at_old, at_new, at_settings, at_pairs, in_pairs, done, after_line}
 

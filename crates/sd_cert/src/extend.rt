@@ -91,7 +91,12 @@ fn close_pair(pairs: Items<CertPair>, last: Option<OpenPair>) -> Result<Items<Ce
     Ok(pairs)
 }
 
-fn next_pair(alloc: Global, body: Body, number: u32, state: CertState) -> Result<Option<Draft>, NoMemory>
+fn next_pair(
+    alloc: Global,
+    body: Body,
+    number: u32,
+    state: CertState,
+) -> Result<Option<Draft>, NoMemory>
     ensures { IfOk result (GoesOn body (line.Pair number state)) }
 {
     let pairs = close_pair(body.pairs, body.last)?;

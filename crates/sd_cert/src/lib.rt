@@ -13,8 +13,8 @@ pub mod laws;
 mod line;
 mod reading;
 mod refusal;
-pub mod replay_laws;
 mod replaying;
+mod spelling;
 mod table;
 mod text;
 
@@ -24,3 +24,7 @@ pub use fault::CertError;
 pub use line::{CertState, Line, read_line};
 pub use reading::read_certificate;
 pub use replaying::{Replayed, replay};
+pub use spelling::spell_certificate;
+
+#[cfg(test)]
+mod tests;

@@ -1,4 +1,4 @@
-use Rattle.std.proofs.Common.{sym, ap, ◌∙◌}
+use Rattle.std.proofs.Common.{ap, ◌∙◌}
 use Rattle.sd_cert.specs.Certificates.{pair_lines}
 use Rattle.sd_cert.proofs.DraftLemmas.{closed_lines, no_last}
 use Rattle.sd_cert.proofs.extend.close_pair.Goals as goal

@@ -18,7 +18,7 @@ pub returns-in-Ok : goal.returns-in-Ok
 returns-in-Ok c =
     subst (λ (o : Option ℕ). IsReadAs decimal (λ n. n < 2 ^ 64) c.args.text.now o) (sym c.ok.ensures.value)
     (number_is c.args.text.now (sym c.are_digits.ensures ∙ c.if-not-are_digits.false) (sym c.has_leading_zero.ensures ∙ c.if-has_leading_zero.false) c.parse.result
-      (subst (λ (t : List ℕ). ParsesUnsigned 64 10 t c.parse.result) c.in-Ok.ensures.cases.0 c.parse.ensures.value.0))
+    (subst (λ (t : List ℕ). ParsesUnsigned 64 10 t c.parse.result) c.in-Ok.ensures.cases.0 c.parse.ensures.value.0))
 
 pub returns-in-Err : goal.returns-in-Err
 returns-in-Err c =

@@ -1,4 +1,4 @@
-use Rattle.std.proofs.Common.{ℕ, ◌++◌, sym, subst}
+use Rattle.std.proofs.Common.{◌++◌, sym, subst}
 use Rattle.std.specs.Prelude.{Option}
 use Rattle.std.specs.Option.{option_map}
 use Rattle.sd_cert.specs.declared.keyword.Keyword.{Keyword}
@@ -14,4 +14,4 @@ pub returns-in-Pair : goal.returns-in-Pair
 returns-in-Pair c =
     subst (λ (o : Option Line). IsReadAs line_text IsLine (front_of c.args.keyword ++ c.args.fields.now) o) (sym c.pair_line.ensures)
     (subst (λ (k : Keyword). IsReadAs line_text IsLine (front_of k ++ c.args.fields.now) (option_map (λ p. Pair p.0 p.1) c.read_pair.result)) (sym c.in-Pair.is)
-      (pair_line_is c.args.fields.now c.read_pair.result c.read_pair.ensures))
+    (pair_line_is c.args.fields.now c.read_pair.result c.read_pair.ensures))

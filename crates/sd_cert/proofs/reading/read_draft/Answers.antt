@@ -14,5 +14,5 @@ returns-in-None-clause-fault c =
 pub loop-i-preserved : goal.loop-i-preserved
 loop-i-preserved c =
     let r = draft-step c.args.lines.now c.loop-i.i (Version 0) c.loop-i.draft c.loop-i-test.true c.loop-i.invariant.lines c.loop-i.invariant.phase c.in-Some.longer
-      (subst (λ (o : Option Draft). Goes c.loop-i.draft (get_or c.args.lines.now c.loop-i.i (Version 0)) o) c.in-Some.is c.in_ok-longer.ensures)
+    (subst (λ (o : Option Draft). Goes c.loop-i.draft (get_or c.args.lines.now c.loop-i.i (Version 0)) o) c.in-Some.is c.in_ok-longer.ensures)
     in record { lines = r.0; phase = r.1 }

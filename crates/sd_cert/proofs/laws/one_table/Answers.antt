@@ -7,7 +7,7 @@ use Rattle.sd_cert.specs.declared.certificate.Certificate.{Certificate}
 use Rattle.sd_cert.specs.Accepts.{Accepts, proofs_from}
 use Rattle.sd_cert.specs.OneTable.{ShowsOneTable}
 use Rattle.sd_cert.proofs.OneCertificate.{one_certificate}
-use Rattle.sd_cert.proofs.replay_laws.one_table.Goals as goal
+use Rattle.sd_cert.proofs.laws.one_table.Goals as goal
 
 first-live : (n : ℕ) (bs : List Bool) (k : ℕ) (ks : List ℕ) → live_from n bs ≡ k ∷ ks → n ≤ k
 first-live n [] k ks h = absurd (cc)

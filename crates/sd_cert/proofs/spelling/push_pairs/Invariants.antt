@@ -1,0 +1,7 @@
+use Rattle.std.proofs.Common.{◌≡◌, ◌++◌, take}
+use Rattle.sd_cert.specs.Text.{lines_text}
+use Rattle.sd_cert.specs.Certificates.{pair_lines}
+use Rattle.sd_cert.proofs.spelling.push_pairs.Given as goal
+
+abbrev pub invariant-loop-i : goal.invariant-loop-i
+invariant-loop-i l = l.text.items ≡ l.initial.text.items ++ lines_text (pair_lines 0 (take l.i l.pairs))
