@@ -1,11 +1,11 @@
 -- No step of a certificate that fits the pairs is bad just where its entries are proofs.
-use Rattle.std.proofs.Common.{◌≡◌, ℕ, zero, suc, ◌+◌, ◌<◌, ◌≤◌, List, [], ◌∷◌, ◌++◌, map, length, get_or, refl, sym, ap, ◌∙◌, subst, arith, length-append}
+use Rattle.std.proofs.Common.{◌≡◌, ℕ, ◌+◌, ◌<◌, List, [], ◌∷◌, ◌++◌, map, length, get_or, refl, sym, ap, ◌∙◌, subst, arith, length-append}
 use Rattle.std.specs.Prelude.{Option, Some, None, slice_get}
-use Rattle.std.specs.List.{flat_map, AllByRecursion}
+use Rattle.std.specs.List.{AllByRecursion}
 use Rattle.std.proofs.lemmas.Option.{same_Some, slice_get-get_or}
 use Rattle.std.proofs.lemmas.List.{get_or_append_left, get_or-append-add}
 use Rattle.sd_term.specs.Tree.{Tree}
-use Rattle.sd_kernel.specs.Proof.{Proves, verdict}
+use Rattle.sd_kernel.specs.Proof.{verdict}
 use Rattle.sd_kernel.proofs.Refuted.{verdict-exact}
 use Rattle.sd_kernel.specs.declared.step.Verdict.{Verdict}
 use Rattle.sd_kernel.specs.declared.step.Verdict.TheVariants.{Accepted, Rejected}

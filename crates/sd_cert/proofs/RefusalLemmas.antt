@@ -1,5 +1,5 @@
 -- No line of a certificate is refused just where it fits the digests and the pairs.
-use Rattle.std.proofs.Common.{◌≡◌, ℕ, zero, suc, ◌+◌, ◌<◌, ◌≤◌, ◌==◌, Bool, true, false, cond, List, [], ◌∷◌, ◌++◌, map, length, drop, refl, sym, ap, ◌∙◌, subst, arith, append_assoc, eqb-true, eq-eqb, leb-true, le-leb, ltb-true, lt-ltb, add-one}
+use Rattle.std.proofs.Common.{◌≡◌, ℕ, zero, suc, ◌+◌, Bool, true, false, List, [], ◌∷◌, ◌++◌, map, length, drop, refl, sym, ap, ◌∙◌, subst, arith, append_assoc, eqb-true, eq-eqb, leb-true, le-leb, ltb-true, lt-ltb, add-one}
 use Rattle.std.specs.Prelude.{Option, Some, None, slice_get, ◌&&◌, nat_lt, nat_le, min}
 use Rattle.std.specs.List.{flat_map}
 use Rattle.std.proofs.lemmas.Slice.Eq.{slice_eq-Decides}
@@ -21,7 +21,7 @@ use Rattle.sd_cert.specs.declared.line.Line.{Line}
 use Rattle.sd_cert.specs.declared.line.Line.TheVariants.{Step as StepLine, End}
 use Rattle.sd_cert.specs.declared.refusal.Spot.{Spot}
 use Rattle.sd_cert.specs.Certificates.{how_lines, proved_lines, pair_lines, certificate_lines}
-use Rattle.sd_cert.specs.Accepts.{state_of, candidates_of, Ascend, FitsPair, FitsPairs}
+use Rattle.sd_cert.specs.Accepts.{state_of, Ascend, FitsPairs}
 use Rattle.sd_cert.specs.Refusals.{unless, or_next, same_bytes, has_state, candidate_count, first_spot, first_refusal}
 
 -- ---- tests

@@ -1,6 +1,6 @@
 -- The first line that is refused, and the first bad step.
-use Rattle.std.proofs.Common.{◌≡◌, ◌≢◌, ℕ, zero, suc, ◌+◌, ◌-◌, ◌<◌, Bool, true, false, List, [], ◌∷◌, ◌++◌, length, get_or, take, refl, sym, ap, ◌∙◌, subst, arith, append_assoc, inl, inr}
-use Rattle.std.specs.Prelude.{Option, Some, None, Result, Ok, Err, IfErr, ◌⊎◌}
+use Rattle.std.proofs.Common.{◌≡◌, ℕ, ◌+◌, ◌-◌, Bool, true, false, List, [], ◌∷◌, ◌++◌, length, get_or, take, refl, sym, ap, ◌∙◌, subst, arith, append_assoc, inl, inr}
+use Rattle.std.specs.Prelude.{Option, Some, None}
 use Rattle.std.specs.Option.{option_and_then}
 use Rattle.std.specs.List.{AllByRecursion}
 use Rattle.std.proofs.lemmas.List.{append-nil}
@@ -25,11 +25,10 @@ use Rattle.sd_cert.specs.Lines.{line_text, IsLine}
 use Rattle.sd_cert.specs.Text.{lines_text, BeginsWithoutLine, HasLines}
 use Rattle.sd_cert.specs.Phases.{Phase, at_version, done, after_line, after_lines}
 use Rattle.sd_cert.specs.Certificates.{certificate_lines, certificate_text, IsCertificate}
-use Rattle.sd_cert.specs.Faults.{StopsAt, IsFault}
-use Rattle.sd_cert.specs.Accepts.{FitsPairs}
+use Rattle.sd_cert.specs.Faults.{IsFault}
 use Rattle.sd_cert.specs.Refusals.{unless, or_next, refusal, spot_after, first_spot, first_refusal, refusal_or, first_fault}
 use Rattle.sd_cert.specs.BadSteps.{verdict_fault, how_fault, entry_fault, entries_fault, pairs_fault}
-use Rattle.sd_cert.specs.ReplayFaults.{IsRefused, PassBefore, HasBadStep, IsReplayFault, IsCertificateFault}
+use Rattle.sd_cert.specs.ReplayFaults.{IsRefused, HasBadStep, IsReplayFault, IsCertificateFault}
 use Rattle.sd_cert.proofs.TextLemmas.{no_feed, first_line-unique, lines_text-append}
 use Rattle.sd_cert.proofs.OneLine.{line_text-injective}
 use Rattle.sd_cert.proofs.AcceptLemmas.{certificate-end}

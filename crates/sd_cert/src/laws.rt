@@ -12,5 +12,4 @@ pub fn one_spelling()
 /// The bytes of a certificate are accepted with one table.
 pub fn one_table()
     ensures { ShowsOneTable }
-{
-}
+{}

@@ -95,9 +95,24 @@ fn the_first_fault_of_a_replay(rt: HostRuntime) -> Result<(), CertError> {
     let other = replay(alloc, &pairs, &digests_of(b"", b"new", b""), ONE);
     assert!(rt; matches!(other, Err(CertError::OtherNew)));
     let cut = &ONE[..ONE.len() - 4];
-    assert!(rt; matches!(replay(alloc, &pairs, &digests, cut), Err(CertError::Line(9))));
-    assert!(rt; matches!(replay(alloc, &pairs, &digests, EMPTY), Err(CertError::Pair(0))));
+    assert!(rt;
+        matches!(
+            replay(alloc, &pairs, &digests, cut),
+            Err(CertError::Line(9))
+        )
+    );
+    assert!(rt;
+        matches!(
+            replay(alloc, &pairs, &digests, EMPTY),
+            Err(CertError::Pair(0))
+        )
+    );
     let text = UNPROVED;
-    assert!(rt; matches!(replay(alloc, &pairs, &digests, text), Err(CertError::Step(8, StepCause::Shape))));
+    assert!(rt;
+        matches!(
+            replay(alloc, &pairs, &digests, text),
+            Err(CertError::Step(8, StepCause::Shape))
+        )
+    );
     Ok(())
 }

@@ -1,10 +1,8 @@
 -- The bytes spell one certificate, and tables with the same live candidates are one.
-use Rattle.std.proofs.Common.{◌≡◌, ◌≢◌, ℕ, suc, ◌<◌, ◌≤◌, Bool, true, false, List, [], ◌∷◌, length, refl, sym, ap, ◌∙◌, arith}
-use Rattle.sd_product.specs.declared.straight.Straight.{Straight}
+use Rattle.std.proofs.Common.{◌≡◌, ℕ, suc, ◌≤◌, Bool, true, false, List, [], ◌∷◌, length, refl, sym, ap, ◌∙◌, arith}
 use Rattle.sd_product.specs.Inductive.{proved_of, live_from}
-use Rattle.sd_cert.specs.declared.digest.Digests.{Digests}
 use Rattle.sd_cert.specs.declared.certificate.Certificate.{Certificate}
-use Rattle.sd_cert.specs.Accepts.{Accepts, proofs_from}
+use Rattle.sd_cert.specs.Accepts.{proofs_from}
 use Rattle.sd_cert.specs.OneTable.{ShowsOneTable}
 use Rattle.sd_cert.proofs.OneCertificate.{one_certificate}
 use Rattle.sd_cert.proofs.laws.one_table.Goals as goal

@@ -1,9 +1,9 @@
 -- The listed candidates are the live ones, and their entries are proofs.
-use Rattle.std.proofs.Common.{◌≡◌, ap, subst, sym, ◌∙◌, List}
+use Rattle.std.proofs.Common.{◌≡◌, ap, sym, ◌∙◌, List}
 use Rattle.std.specs.Prelude.{None}
-use Rattle.sd_product.specs.Inductive.{proved_of, live_from}
+use Rattle.sd_product.specs.Inductive.{proved_of}
 use Rattle.sd_cert.specs.declared.certificate.CertPair.{CertPair}
-use Rattle.sd_cert.specs.Accepts.{FitsPairs, proofs_from}
+use Rattle.sd_cert.specs.Accepts.{proofs_from}
 use Rattle.sd_cert.specs.BadSteps.{pairs_fault}
 use Rattle.sd_cert.proofs.JudgeLemmas.{pairs-proved}
 use Rattle.sd_cert.proofs.replaying.accept.Goals as goal

@@ -1,11 +1,8 @@
 -- Where no line is refused the certificate fits.
 use Rattle.std.proofs.Common.{◌≡◌, ap, sym, ◌∙◌}
-use Rattle.std.specs.Prelude.{None, Some, ◌⊎◌}
-use Rattle.sd_cert.specs.declared.fault.CertError.{CertError}
+use Rattle.std.specs.Prelude.{Some, ◌⊎◌}
 use Rattle.sd_cert.specs.declared.fault.CertError.TheVariants.{NoMemory}
-use Rattle.sd_cert.specs.Accepts.{FitsPairs}
 use Rattle.sd_cert.specs.BadSteps.{pairs_fault}
-use Rattle.sd_cert.specs.Certificates.{certificate_lines}
 use Rattle.sd_cert.specs.Refusals.{first_spot, first_refusal}
 use Rattle.sd_cert.specs.ReplayFaults.{IsCertificateFault}
 use Rattle.sd_cert.proofs.RefusalLemmas.{certificate-fits}

@@ -1,5 +1,5 @@
 -- What was read and checked is accepted, and what is refused is not.
-use Rattle.std.proofs.Common.{◌≡◌, ◌≢◌, Bool, List, ◌∙◌, sym, ap, subst}
+use Rattle.std.proofs.Common.{◌≢◌, Bool, List, ◌∙◌, sym, ap, subst}
 use Rattle.sd_cert.specs.declared.fault.CertError.{CertError}
 use Rattle.sd_cert.specs.Refusals.{first_fault}
 use Rattle.sd_cert.specs.declared.fault.CertError.TheVariants.{NoMemory}

@@ -1,5 +1,5 @@
 -- One candidate more is dead.
-use Rattle.std.proofs.Common.{◌≡◌, ◌<◌, ◌+◌, Bool, List, length, sym, ap, ◌∙◌, subst, arith}
+use Rattle.std.proofs.Common.{◌<◌, ◌+◌, Bool, List, length, sym, ap, ◌∙◌, subst, arith}
 use Rattle.std.proofs.Math.ListN.{length-set}
 use Rattle.sd_cert.specs.Tables.{IsDecided}
 use Rattle.sd_cert.proofs.Listing.{decide-dead}

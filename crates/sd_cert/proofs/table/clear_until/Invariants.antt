@@ -1,5 +1,5 @@
 -- The candidates up to here are decided as those of the first number.
-use Rattle.std.proofs.Common.{◌≡◌, ℕ, ◌≤◌, List, length}
+use Rattle.std.proofs.Common.{◌≡◌, ℕ, List, length}
 use Rattle.sd_cert.specs.Tables.{IsDecided}
 use Rattle.sd_cert.proofs.table.clear_until.Given as goal
 

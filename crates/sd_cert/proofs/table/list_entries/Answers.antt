@@ -1,5 +1,5 @@
 -- One entry more is listed.
-use Rattle.std.proofs.Common.{◌≡◌, ℕ, ◌<◌, ◌≤◌, ◌+◌, ◌^◌, List, length, sym, ap, ◌∙◌, subst, arith, Fits, w32}
+use Rattle.std.proofs.Common.{◌≡◌, ℕ, ◌<◌, ◌+◌, List, length, ◌∙◌, subst, arith}
 use Rattle.sd_cert.specs.Tables.{IsDecided}
 use Rattle.sd_cert.proofs.Listing.{decide-live, ascend-step, listed-more, listed-all}
 use Rattle.sd_cert.proofs.table.list_entries.Goals as goal

@@ -1,8 +1,8 @@
 -- The entries of one pair more are listed.
-use Rattle.std.proofs.Common.{◌≡◌, ℕ, ◌<◌, ◌≤◌, ◌+◌, ◌++◌, map, List, length, sym, ap, ◌∙◌, subst, arith, drop, get_or}
+use Rattle.std.proofs.Common.{◌≡◌, ℕ, ◌+◌, ◌++◌, map, List, length, sym, ap, ◌∙◌, subst, arith, drop, get_or}
 use Rattle.sd_product.specs.declared.straight.Straight.{Straight}
 use Rattle.sd_kernel.specs.declared.Proved.{Proved}
-use Rattle.sd_product.specs.Inductive.{proved_of, live_from}
+use Rattle.sd_product.specs.Inductive.{proved_of}
 use Rattle.sd_product.specs.Straight.{queries_of}
 use Rattle.sd_cert.specs.Accepts.{Ascend, proofs_from}
 use Rattle.sd_cert.specs.Tables.{IsDecided}
