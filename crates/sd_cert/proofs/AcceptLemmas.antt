@@ -55,12 +55,12 @@ pairs-end n i (p ∷ ps) e c =
     both true b h k = k
     both false b h k = h
 
-certificate-end : (c : Certificate) → after_lines at_version (certificate_lines c) ≡ Some done
+pub certificate-end : (c : Certificate) → after_lines at_version (certificate_lines c) ≡ Some done
 unfolding Ends
 certificate-end c = pairs-end (length c.pairs) 0 c.pairs (omega arith) false
 
 -- lines in front of other lines are a front of them
-front-of : (ls ms : List Line) (rest : List ℕ) → AllByRecursion IsLine ls → AllByRecursion IsLine ms → lines_text ls ++ rest ≡ lines_text ms → (more : List Line) × (ms ≡ ls ++ more) × (rest ≡ lines_text more) × AllByRecursion IsLine more
+pub front-of : (ls ms : List Line) (rest : List ℕ) → AllByRecursion IsLine ls → AllByRecursion IsLine ms → lines_text ls ++ rest ≡ lines_text ms → (more : List Line) × (ms ≡ ls ++ more) × (rest ≡ lines_text more) × AllByRecursion IsLine more
 front-of [] ms rest f g e = (ms, refl, e, g)
 front-of (l ∷ ls) [] rest f g e = absurd (omega (arith, ap length e, length-append (line_text l ++ 10 ∷ lines_text ls) rest, length-append (line_text l) (10 ∷ lines_text ls)))
 front-of (l ∷ ls) (m ∷ ms) rest f g e =

@@ -6,4 +6,9 @@ pub mod OneCertificate
 pub mod DraftLemmas
 pub mod FaultLemmas
 pub mod AcceptLemmas
+pub mod Listing
+pub mod RefusalLemmas
+pub mod JudgeLemmas
+pub mod ReplayLemmas
+pub mod ReplayFaultLemmas
 pub mod SpellLemmas

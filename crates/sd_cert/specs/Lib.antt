@@ -6,3 +6,9 @@ pub mod Certificates
 pub mod Phases
 pub mod Drafts
 pub mod Faults
+pub mod Accepts
+pub mod Refusals
+pub mod BadSteps
+pub mod Tables
+pub mod ReplayFaults
+pub mod OneTable

@@ -7,11 +7,15 @@ mod draft;
 mod extend;
 mod fault;
 mod field;
+mod judge;
 mod keyword;
 pub mod laws;
 mod line;
 mod reading;
+mod refusal;
+mod replaying;
 mod spelling;
+mod table;
 mod text;
 
 pub use certificate::{CertPair, Certificate};
@@ -19,6 +23,7 @@ pub use digest::{Digests, digests_of};
 pub use fault::CertError;
 pub use line::{CertState, Line, read_line};
 pub use reading::read_certificate;
+pub use replaying::{Replayed, replay};
 pub use spelling::spell_certificate;
 
 #[cfg(test)]

@@ -1,0 +1,217 @@
+-- The first line that is refused, and the first bad step.
+use Rattle.std.proofs.Common.{◌≡◌, ℕ, ◌+◌, ◌-◌, Bool, true, false, List, [], ◌∷◌, ◌++◌, length, get_or, take, refl, sym, ap, ◌∙◌, subst, arith, append_assoc, inl, inr}
+use Rattle.std.specs.Prelude.{Option, Some, None}
+use Rattle.std.specs.Option.{option_and_then}
+use Rattle.std.specs.List.{AllByRecursion}
+use Rattle.std.proofs.lemmas.List.{append-nil}
+use Rattle.std.proofs.lemmas.Option.{same_Some}
+use Rattle.sd_term.specs.Tree.{Tree}
+use Rattle.sd_kernel.specs.Proof.{verdict}
+use Rattle.sd_kernel.specs.declared.step.Verdict.{Verdict}
+use Rattle.sd_kernel.specs.declared.step.Verdict.TheVariants.{Accepted, Rejected}
+use Rattle.sd_kernel.specs.declared.How.{How}
+use Rattle.sd_kernel.specs.declared.How.TheVariants.{Steps}
+use Rattle.sd_kernel.specs.declared.Proved.{Proved}
+use Rattle.sd_product.specs.declared.straight.Straight.{Straight}
+use Rattle.sd_cert.specs.declared.digest.Digests.{Digests}
+use Rattle.sd_cert.specs.declared.certificate.CertPair.{CertPair}
+use Rattle.sd_cert.specs.declared.certificate.Certificate.{Certificate}
+use Rattle.sd_cert.specs.declared.fault.CertError.{CertError}
+use Rattle.sd_cert.specs.declared.fault.CertError.TheVariants.{NoMemory, Version as OtherVersion, Line as BadLine, OtherOld, OtherNew, OtherSettings, Pair as OtherPair, Step as BadStep}
+use Rattle.sd_cert.specs.declared.line.Line.{Line}
+use Rattle.sd_cert.specs.declared.line.Line.TheVariants.{Version, Old, New, Settings, Pairs, Pair, Candidate, Step as StepLine, End}
+use Rattle.sd_cert.specs.declared.refusal.Spot.{Spot}
+use Rattle.sd_cert.specs.Lines.{line_text, IsLine}
+use Rattle.sd_cert.specs.Text.{lines_text, BeginsWithoutLine, HasLines}
+use Rattle.sd_cert.specs.Phases.{Phase, at_version, done, after_line, after_lines}
+use Rattle.sd_cert.specs.Certificates.{certificate_lines, certificate_text, IsCertificate}
+use Rattle.sd_cert.specs.Faults.{IsFault}
+use Rattle.sd_cert.specs.Refusals.{unless, or_next, refusal, spot_after, first_spot, first_refusal, refusal_or, first_fault}
+use Rattle.sd_cert.specs.BadSteps.{verdict_fault, how_fault, entry_fault, entries_fault, pairs_fault}
+use Rattle.sd_cert.specs.ReplayFaults.{IsRefused, HasBadStep, IsReplayFault, IsCertificateFault}
+use Rattle.sd_cert.proofs.TextLemmas.{no_feed, first_line-unique, lines_text-append}
+use Rattle.sd_cert.proofs.OneLine.{line_text-injective}
+use Rattle.sd_cert.proofs.AcceptLemmas.{certificate-end}
+use Rattle.sd_cert.proofs.JudgeLemmas.{all-front}
+
+-- ---- bad steps
+
+-- the error is of a step
+IsOfStep : CertError → Type 0
+IsOfStep (BadStep n cause) = Unit {0}
+IsOfStep _ = ⊥
+
+IsOfSteps : Option CertError → Type 0
+IsOfSteps None = Unit {0}
+IsOfSteps (Some e) = IsOfStep e
+
+next-steps : (a b : Option CertError) → IsOfSteps a → IsOfSteps b → IsOfSteps (or_next a b)
+next-steps None b f g = g
+next-steps (Some e) b f g = f
+
+verdict-steps : (line : ℕ) (r : Verdict) → IsOfSteps (verdict_fault line r)
+unfolding IsOfSteps IsOfStep
+verdict-steps line Accepted = tt
+verdict-steps line (Rejected n cause) = tt
+
+how-steps : (line : ℕ) (facts : List Tree) (h : How) → IsOfSteps (how_fault line facts h)
+how-steps line facts (Steps p) = verdict-steps line (verdict facts p.steps)
+
+entries-steps : (queries : List (List Tree)) (ps : List Proved) (line : ℕ) → IsOfSteps (entries_fault queries line ps)
+unfolding IsOfSteps
+entries-steps queries [] line = tt
+entries-steps queries (p ∷ ps) line = next-steps (entry_fault queries line p) _ (how-steps (line + 1) (get_or queries p.candidate []) p.how) (entries-steps queries ps _)
+
+pairs-steps : (ss : List Straight) (ps : List CertPair) (line : ℕ) → IsOfSteps (pairs_fault line ss ps)
+unfolding IsOfSteps
+pairs-steps [] ps line = tt
+pairs-steps (s ∷ ss) [] line = tt
+pairs-steps (s ∷ ss) (p ∷ ps) line = next-steps (entries_fault s.queries (line + 1) p.proved) _ (entries-steps s.queries p.proved (line + 1)) (pairs-steps ss ps _)
+
+step-fault : (pairs : List Straight) (d : Digests) (text : List ℕ) (e : CertError) → IsOfSteps (Some e) → HasBadStep pairs d text e → IsReplayFault pairs d text e
+unfolding IsOfSteps IsOfStep
+step-fault pairs d text (BadStep n cause) f h = h
+step-fault pairs d text _ f h = absurd f
+
+-- ---- refused lines
+
+-- the error is of a line that is refused
+IsOfWork : CertError → Type 0
+IsOfWork OtherOld = Unit {0}
+IsOfWork OtherNew = Unit {0}
+IsOfWork OtherSettings = Unit {0}
+IsOfWork (OtherPair i) = Unit {0}
+IsOfWork _ = ⊥
+
+unless-work : (b : Bool) (o e : CertError) → IsOfWork o → unless b o ≡ Some e → IsOfWork e
+unless-work true o e f h = absurd (cc)
+unless-work false o e f h = subst IsOfWork (same_Some o e h) f
+
+refusal-work : (pairs : List Straight) (d : Digests) (spot : Spot) (l : Line) (e : CertError) → refusal pairs d spot l ≡ Some e → IsOfWork e
+unfolding IsOfWork
+refusal-work pairs d spot (Version n) e h = absurd (cc)
+refusal-work pairs d spot (Old o) e h = unless-work _ OtherOld e tt h
+refusal-work pairs d spot (New o) e h = unless-work _ OtherNew e tt h
+refusal-work pairs d spot (Settings o) e h = unless-work _ OtherSettings e tt h
+refusal-work pairs d spot (Pairs n) e h = unless-work _ (OtherPair _) e tt h
+refusal-work pairs d spot (Pair i s) e h = unless-work _ (OtherPair i) e tt h
+refusal-work pairs d spot (Candidate k) e h = unless-work _ (OtherPair _) e tt h
+refusal-work pairs d spot (StepLine s) e h = absurd (cc)
+refusal-work pairs d spot End e h = absurd (cc)
+
+-- the lines up to the first that is refused
+record Split (pairs : List Straight) (d : Digests) (spot : Spot) (lines : List Line) (e : CertError) : Type 0 where
+  front : List Line
+  line : Line
+  after : List Line
+  whole : lines ≡ front ++ line ∷ after
+  passed : first_refusal pairs d spot front ≡ None
+  refused : first_refusal pairs d spot (front ++ line ∷ []) ≡ Some e
+  work : IsOfWork e
+
+split-refused : (pairs : List Straight) (d : Digests) (spot : Spot) (ls : List Line) (e : CertError) → first_refusal pairs d spot ls ≡ Some e → Split pairs d spot ls e
+split-refused pairs d spot [] e h = absurd (cc)
+split-refused pairs d spot (l ∷ ls) e h = go (refusal pairs d spot l) refl (split-refused pairs d (spot_after spot l) ls e) h
+  where
+    go : (o : Option CertError) → refusal pairs d spot l ≡ o → (first_refusal pairs d (spot_after spot l) ls ≡ Some e → Split pairs d (spot_after spot l) ls e) → or_next o (first_refusal pairs d (spot_after spot l) ls) ≡ Some e → Split pairs d spot (l ∷ ls) e
+    go None is others k =
+        let more = others k in
+        record {
+          front = l ∷ more.front;
+          line = more.line;
+          after = more.after;
+          whole = ap (λ t. l ∷ t) more.whole;
+          passed = ap (λ o. or_next o (first_refusal pairs d (spot_after spot l) more.front)) is ∙ more.passed;
+          refused = ap (λ o. or_next o (first_refusal pairs d (spot_after spot l) (more.front ++ more.line ∷ []))) is ∙ more.refused;
+          work = more.work;
+        }
+    go (Some x) is others k = record {
+      front = [];
+      line = l;
+      after = ls;
+      whole = refl;
+      passed = refl;
+      refused = ap (λ o. or_next o None) is ∙ k;
+      work = refusal-work pairs d spot l e (is ∙ k);
+    }
+
+front-stands : (p q : Phase) (xs ys : List Line) → after_lines p (xs ++ ys) ≡ Some q → (r : Phase) × (after_lines p xs ≡ Some r)
+front-stands p q [] ys h = (p, refl)
+front-stands p q (x ∷ xs) ys h = go (after_line p x) (λ r. front-stands r q xs ys) h
+  where
+    go : (o : Option Phase) → ((r : Phase) → after_lines r (xs ++ ys) ≡ Some q → (t : Phase) × (after_lines r xs ≡ Some t)) → option_and_then (λ r. after_lines r (xs ++ ys)) o ≡ Some q → (r : Phase) × (option_and_then (λ r. after_lines r xs) o ≡ Some r)
+    go None more k = absurd (cc)
+    go (Some r) more k = more r k
+
+work-fault : (pairs : List Straight) (d : Digests) (text : List ℕ) (e : CertError) → IsOfWork e → IsRefused pairs d text e → IsReplayFault pairs d text e
+unfolding IsOfWork
+work-fault pairs d text OtherOld f h = h
+work-fault pairs d text OtherNew f h = h
+work-fault pairs d text OtherSettings f h = h
+work-fault pairs d text (OtherPair i) f h = h
+work-fault pairs d text _ f h = absurd f
+
+module _ (pairs : List Straight) (d : Digests) (text : List ℕ) where
+  refused-fault : (lines : List Line) (rest : List ℕ) (phase : Phase) (e : CertError) → AllByRecursion IsLine lines → text ≡ lines_text lines ++ rest → after_lines at_version lines ≡ Some phase → first_refusal pairs d first_spot lines ≡ Some e → IsReplayFault pairs d text e
+  refused-fault lines rest phase e fit whole stand h =
+      let s = split-refused pairs d first_spot lines e h in
+      let upto = s.front ++ s.line ∷ [] in
+      let parts : lines ≡ upto ++ s.after = s.whole ∙ sym (append_assoc s.front (s.line ∷ []) s.after) in
+      let stands = front-stands at_version phase upto s.after (ap (after_lines at_version) (sym parts) ∙ stand) in
+      work-fault pairs d text e s.work record {
+        front = s.front;
+        line = s.line;
+        rest = lines_text s.after ++ rest;
+        phase = stands.0;
+        fit = all-front IsLine upto s.after (subst (λ (ls : List Line). AllByRecursion IsLine ls) parts fit);
+        whole =
+            whole ∙ ap (λ ls. lines_text ls ++ rest) parts ∙ ap (λ t. t ++ rest) (lines_text-append upto s.after)
+            ∙ append_assoc (lines_text upto) (lines_text s.after) rest;
+        stand = stands.1;
+        passed = s.passed;
+        refused = s.refused;
+      }
+
+  pub certificate-fault : (c : Certificate) (e : CertError) → IsCertificate c → text ≡ certificate_text c → IsCertificateFault pairs d c e → IsReplayFault pairs d text e
+  certificate-fault c e f t (inl m) = subst (λ (x : CertError). IsReplayFault pairs d text x) (sym m) tt
+  certificate-fault c e f t (inr (inl h)) = refused-fault (certificate_lines c) [] done e f (t ∙ sym (append-nil (certificate_text c))) (certificate-end c) h
+  certificate-fault c e f t (inr (inr h)) =
+      step-fault pairs d text e (subst IsOfSteps h.2 (pairs-steps pairs c.pairs 6)) record {
+        certificate = c;
+        form = f;
+        whole = t;
+        same_digests = h.0;
+        fits = h.1;
+        step = h.2;
+      }
+
+-- ---- lines that were read
+
+-- lines in front of a text are a front of those that were read
+prefix-of : (ls ms : List Line) (rest others : List ℕ) → AllByRecursion IsLine ls → AllByRecursion IsLine ms → BeginsWithoutLine others → lines_text ls ++ rest ≡ lines_text ms ++ others → ls ≡ take (length ls) ms
+prefix-of [] ms rest others f g stop e = refl
+prefix-of (l ∷ ls) [] rest others f g stop e = absurd (stop l (lines_text ls ++ rest) f.0 (sym e ∙ append_assoc (line_text l) (10 ∷ lines_text ls) rest))
+prefix-of (l ∷ ls) (m ∷ ms) rest others f g stop e =
+    let parts = first_line-unique (line_text l) (lines_text ls ++ rest) (line_text m) (lines_text ms ++ others) (no_feed l f.0) (no_feed m g.0)
+    (sym (append_assoc (line_text l) (10 ∷ lines_text ls) rest) ∙ e ∙ append_assoc (line_text m) (10 ∷ lines_text ms) others) in
+    let same : l ≡ m = line_text-injective l m f.0 g.0 parts.0 in
+    let more : ls ≡ take (length ls) ms = prefix-of ls ms rest others f.1 g.1 stop parts.1 in
+    λ i. same i ∷ more i
+
+module _ (pairs : List Straight) (d : Digests) (text : List ℕ) (lines : List Line) (rest : List ℕ) (has : HasLines text lines rest) where
+  before-is : (n : ℕ) (ls : List Line) (others : List ℕ) → AllByRecursion IsLine ls → text ≡ lines_text ls ++ others → n ≡ length ls + 1 → ls ≡ take (n - 1) lines
+  before-is n ls others f w e =
+      let count : length ls ≡ n - 1 = omega arith in
+      prefix-of ls lines others rest f has.fit has.stop (sym w ∙ has.whole) ∙ ap (λ k. take k lines) count
+
+  line-fault : (n : ℕ) → IsFault text (BadLine n) → (o : Option CertError) → first_refusal pairs d first_spot (take (n - 1) lines) ≡ o → IsReplayFault pairs d text (refusal_or o (BadLine n))
+  line-fault n fault None is = (fault, λ ls others f w e. ap (first_refusal pairs d first_spot) (before-is n ls others f w e) ∙ is)
+  line-fault n fault (Some e) is =
+      let at = fault.0 in
+      refused-fault pairs d text at.lines at.rest at.phase e at.fit at.whole at.before (ap (first_refusal pairs d first_spot) (before-is n at.lines at.rest at.fit at.whole at.number) ∙ is)
+
+  pub reading-fault : (fault : CertError) → IsFault text fault → IsReplayFault pairs d text (first_fault pairs d lines fault)
+  reading-fault NoMemory f = tt
+  reading-fault (OtherVersion v) f = f
+  reading-fault (BadLine n) f = line-fault n f (first_refusal pairs d first_spot (take (n - 1) lines)) refl
+  reading-fault _ f = absurd f

@@ -1,0 +1,110 @@
+//! Lines that are not those of the pairs and digests.
+ghost use Rattle.std.specs.Prelude.{◌≡◌, ◌<◌, ◌^◌, ◌+◌, length, slice_get};
+ghost use Rattle.sd_cert.specs.Refusals.{unless, has_state, candidate_count, spot_after, refusal, first_spot, first_refusal};
+
+use crate::digest::Digests;
+use crate::fault::CertError;
+use crate::line::{CertState, Line};
+use sd_product::Straight;
+
+/// Where a line stands: below the line of a pair, with the least number that its next candidate can have.
+#[derive(Clone, Copy, Debug)]
+pub(crate) struct Spot {
+    pub pair: u32,
+    pub least: u64,
+}
+
+fn unless(holds: bool, fault: CertError) -> Option<CertError>
+    ensures { result ≡ unless holds fault }
+{
+    if holds { None } else { Some(fault) }
+}
+
+/// Whether the pair with this number has this state.
+fn has_state(pairs: &[Straight], pair: u32, state: CertState) -> bool
+    ensures { result ≡ has_state (slice_get pairs.now pair) state }
+{
+    match pairs.get(pair as usize) {
+        Some(found) => match state {
+            CertState::Open => !found.refused,
+            CertState::Refused => found.refused,
+        },
+        None => false,
+    }
+}
+
+/// How many candidates the pair with this number has.
+fn candidate_count(pairs: &[Straight], pair: u32) -> u64
+    ensures { result ≡ candidate_count (slice_get pairs.now pair) }
+{
+    match pairs.get(pair as usize) {
+        Some(found) => {
+            if found.refused {
+                0
+            } else {
+                found.queries.len() as u64
+            }
+        }
+        None => 0,
+    }
+}
+
+/// Why a line is refused.
+fn refusal(pairs: &[Straight], digests: &Digests, spot: Spot, line: Line) -> Option<CertError>
+    requires { length pairs.now < 2 ^ 32 }
+    ensures { result ≡ refusal pairs.now digests.now spot line }
+{
+    match line {
+        Line::Old(old) => unless(old == digests.old, CertError::OtherOld),
+        Line::New(new) => unless(new == digests.new, CertError::OtherNew),
+        Line::Settings(settings) => {
+            unless(settings == digests.settings, CertError::OtherSettings)
+        }
+        Line::Pairs(count) => {
+            let own = pairs.len() as u64;
+            unless(count == own, CertError::Pair(count.min(own) as u32))
+        }
+        Line::Pair(pair, state) => unless(has_state(pairs, pair, state), CertError::Pair(pair)),
+        Line::Candidate(candidate) => {
+            let number = candidate as u64;
+            let count = candidate_count(pairs, spot.pair);
+            unless(
+                spot.least <= number && number < count,
+                CertError::Pair(spot.pair),
+            )
+        }
+        _ => None,
+    }
+}
+
+fn spot_after(spot: Spot, line: Line) -> Spot
+    ensures { result ≡ spot_after spot line }
+{
+    match line {
+        Line::Pair(pair, _) => Spot { pair, least: 0 },
+        Line::Candidate(candidate) => Spot {
+            pair: spot.pair,
+            least: candidate as u64 + 1,
+        },
+        _ => spot,
+    }
+}
+
+/// Why the first of these lines that is refused is refused, if one is.
+pub(crate) fn first_refusal(
+    pairs: &[Straight],
+    digests: &Digests,
+    lines: &[Line],
+) -> Option<CertError>
+    requires { length pairs.now < 2 ^ 32 }
+    ensures { result ≡ first_refusal pairs.now digests.now first_spot lines.now }
+{
+    let mut spot = Spot { pair: 0, least: 0 };
+    for line in lines {
+        if let Some(fault) = refusal(pairs, digests, spot, *line) {
+            return Some(fault);
+        }
+        spot = spot_after(spot, *line);
+    }
+    None
+}

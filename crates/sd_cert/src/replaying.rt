@@ -1,0 +1,123 @@
+//! Certificates against the pairs and digests that they are of.
+ghost use Rattle.std.specs.Prelude.{◌≡◌, ◌≢◌, ◌⊎◌, ◌-◌, ◌<◌, ◌^◌, None, Some, Bool, List, IfOk, IfErr, length, take};
+ghost use Rattle.sd_product.specs.Straight.{queries_of};
+ghost use Rattle.sd_product.specs.Inductive.{IsInductive};
+ghost use Rattle.sd_cert.specs.declared.fault.CertError.TheVariants.{NoMemory as Memory};
+ghost use Rattle.sd_cert.specs.Accepts.{Accepts, FitsPairs, proofs_from};
+ghost use Rattle.sd_cert.specs.BadSteps.{pairs_fault};
+ghost use Rattle.sd_cert.specs.Certificates.{certificate_lines};
+ghost use Rattle.sd_cert.specs.Refusals.{first_fault};
+ghost use Rattle.sd_cert.specs.ReplayFaults.{IsCertificateFault, IsReplayFault};
+
+use crate::certificate::Certificate;
+use crate::digest::Digests;
+use crate::fault::CertError;
+use crate::judge::judge_pairs;
+use crate::line::Line;
+use crate::reading::read_certificate;
+use crate::refusal::first_refusal;
+use crate::table::list_live;
+use crate::text::read_lines;
+use sd_cand::LiveTable;
+use sd_product::Straight;
+use std::alloc::Global;
+
+/// What a certificate that was accepted shows.
+#[derive(Drop)]
+pub struct Replayed {
+    /// The live candidates, numbered through all pairs.
+    pub table: LiveTable,
+}
+
+/// The table of a certificate that fits the pairs, if its proofs are good.
+fn accept(
+    alloc: Global,
+    pairs: &[Straight],
+    certificate: &Certificate,
+) -> Result<Replayed, CertError>
+    requires { FitsPairs pairs.now certificate.now.pairs }
+    ensures size { IfOk result (λ r. length r.table ≡ length (queries_of pairs.now)) }
+    ensures inductive { IfOk result (λ r. IsInductive (queries_of pairs.now) r.table (proofs_from 0 pairs.now certificate.now.pairs)) }
+    ensures fault { IfErr result (λ e. (e ≡ Memory) ⊎ (pairs_fault 6 pairs.now certificate.now.pairs ≡ Some e)) }
+{
+    judge_pairs(pairs, certificate.pairs.as_slice(), 6)?;
+    let table = list_live(alloc, pairs, certificate.pairs.as_slice())?;
+    Ok(Replayed { table })
+}
+
+/// The lines before the one with this number, from 1.
+fn lines_before(lines: &[Line], number: u64) -> &[Line]
+    ensures { result.now ≡ take (number - 1) lines.now }
+{
+    let count = number.saturating_sub(1);
+    if count < lines.len() as u64 {
+        &lines[..count as usize]
+    } else {
+        lines
+    }
+}
+
+/// Why a line before the bad one is refused, or else why the bad one is bad.
+fn first_fault(pairs: &[Straight], digests: &Digests, lines: &[Line], fault: CertError) -> CertError
+    requires { length pairs.now < 2 ^ 32 }
+    ensures { result ≡ first_fault pairs.now digests.now lines.now fault }
+{
+    match fault {
+        CertError::Line(number) => {
+            match first_refusal(pairs, digests, lines_before(lines, number)) {
+                Some(first) => first,
+                None => fault,
+            }
+        }
+        _ => fault,
+    }
+}
+
+/// The table of a certificate with these lines, if none of them is refused and its proofs are good.
+fn check(
+    alloc: Global,
+    pairs: &[Straight],
+    digests: &Digests,
+    lines: &[Line],
+    certificate: &Certificate,
+) -> Result<Replayed, CertError>
+    requires count { length pairs.now < 2 ^ 32 }
+    requires lines { lines.now ≡ certificate_lines certificate.now }
+    ensures digests { IfOk result (λ _. certificate.now.digests ≡ digests.now) }
+    ensures fits { IfOk result (λ _. FitsPairs pairs.now certificate.now.pairs) }
+    ensures size { IfOk result (λ r. length r.table ≡ length (queries_of pairs.now)) }
+    ensures inductive { IfOk result (λ r. IsInductive (queries_of pairs.now) r.table (proofs_from 0 pairs.now certificate.now.pairs)) }
+    ensures fault { IfErr result (IsCertificateFault pairs.now digests.now certificate.now) }
+{
+    match first_refusal(pairs, digests, lines) {
+        Some(fault) => Err(fault),
+        None => accept(alloc, pairs, certificate),
+    }
+}
+
+/// The table that a certificate shows to stand on proofs, if it is one of these digests and pairs. It trusts nothing
+/// about who made the certificate, and its answer for the pairs doesn't rest on the digests.
+///
+/// The first bad line is answered: `Version` and `Line` as `read_certificate` has them; `OtherOld`, `OtherNew` and
+/// `OtherSettings` for another digest; `Pair` for a number of pairs other than theirs, with the lesser of the two, and
+/// for a pair's wrong state and a candidate that the pair doesn't have or that isn't above the one before, with the
+/// pair's number. Only where no line is bad are the steps judged, and `Step` has the line of the first bad step.
+pub fn replay(
+    alloc: Global,
+    pairs: &[Straight],
+    digests: &Digests,
+    certificate: &[u8],
+) -> Result<Replayed, CertError>
+    ensures accepted { IfOk result (λ r. Accepts pairs.now digests.now certificate.now r.table) }
+    ensures refused_only { IfErr result (λ e. e ≢ Memory → (t : List Bool) → Accepts pairs.now digests.now certificate.now t → ⊥) }
+    ensures refused { IfErr result (IsReplayFault pairs.now digests.now certificate.now) }
+{
+    if pairs.len() > u32::MAX as usize {
+        return Err(CertError::NoMemory);
+    }
+    let (lines, _) = read_lines(alloc, certificate)?;
+    match read_certificate(alloc, certificate) {
+        Ok(read) => check(alloc, pairs, digests, lines.as_slice(), &read),
+        Err(fault) => Err(first_fault(pairs, digests, lines.as_slice(), fault)),
+    }
+}
