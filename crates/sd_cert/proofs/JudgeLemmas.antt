@@ -40,7 +40,7 @@ how-proves line facts (Steps p) k = (verdict-exact facts p.steps (verdict facts 
 proves-how : (line : ℕ) (facts : List Tree) (h : How) → IsHow facts h → how_fault line facts h ≡ None
 proves-how line facts (Steps p) k = ap (verdict_fault line) ((verdict-exact facts p.steps (verdict facts p.steps) refl).1 k)
 
-all-append : {A : Type 0} (P : A → Type 0) (xs ys : List A) → AllByRecursion P xs → AllByRecursion P ys → AllByRecursion P (xs ++ ys)
+pub all-append : {A : Type 0} (P : A → Type 0) (xs ys : List A) → AllByRecursion P xs → AllByRecursion P ys → AllByRecursion P (xs ++ ys)
 all-append P [] ys f g = g
 all-append P (x ∷ xs) ys f g = (f.0, all-append P xs ys f.1 g)
 

@@ -12,3 +12,4 @@ pub mod JudgeLemmas
 pub mod ReplayLemmas
 pub mod ReplayFaultLemmas
 pub mod SpellLemmas
+pub mod WrittenLemmas

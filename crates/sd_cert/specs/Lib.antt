@@ -2,6 +2,7 @@ pub mod Fields
 pub mod Keywords
 pub mod Lines
 pub mod Text
+pub mod Added
 pub mod Certificates
 pub mod Phases
 pub mod Drafts
@@ -12,3 +13,4 @@ pub mod BadSteps
 pub mod Tables
 pub mod ReplayFaults
 pub mod OneTable
+pub mod Written

@@ -2,6 +2,7 @@
 ghost use Rattle.std.specs.Prelude.{◌≡◌};
 ghost use Rattle.sd_cert.specs.declared.certificate.Certificate.{Certificate};
 ghost use Rattle.sd_cert.specs.OneTable.{ShowsOneTable};
+ghost use Rattle.sd_cert.specs.Written.{WrittenIsAccepted};
 ghost use Rattle.sd_cert.specs.Certificates.{certificate_text, IsCertificate};
 
 /// No bytes spell two certificates.
@@ -12,4 +13,9 @@ pub fn one_spelling()
 /// The bytes of a certificate are accepted with one table.
 pub fn one_table()
     ensures { ShowsOneTable }
+{}
+
+/// What is written of the proofs of a table is accepted with this table.
+pub fn written_is_accepted()
+    ensures { WrittenIsAccepted }
 {}

@@ -17,6 +17,7 @@ mod replaying;
 mod spelling;
 mod table;
 mod text;
+mod writing;
 
 pub use certificate::{CertPair, Certificate};
 pub use digest::{Digests, digests_of};
@@ -25,6 +26,7 @@ pub use line::{CertState, Line, read_line};
 pub use reading::read_certificate;
 pub use replaying::{Replayed, replay};
 pub use spelling::spell_certificate;
+pub use writing::write_certificate;
 
 #[cfg(test)]
 mod tests;

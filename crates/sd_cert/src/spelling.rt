@@ -4,9 +4,9 @@ ghost use Rattle.std.specs.List.{flat_map};
 ghost use Rattle.std.specs.Fmt.{decimal};
 ghost use Rattle.hex.specs.Hex.{encode_lower};
 ghost use Rattle.sd_cert.specs.declared.line.Line.TheVariants as line;
-ghost use Rattle.sd_cert.specs.Lines.{line_text, state_text};
-ghost use Rattle.sd_cert.specs.Text.{lines_text};
-ghost use Rattle.sd_cert.specs.Certificates.{proved_lines, pair_lines, certificate_text};
+ghost use Rattle.sd_cert.specs.Lines.{line_text, state_text, IsLine};
+ghost use Rattle.sd_cert.specs.Added.{IsAdded};
+ghost use Rattle.sd_cert.specs.Certificates.{proved_lines, pair_lines, certificate_text, IsCertificate};
 
 use crate::certificate::{CertPair, Certificate};
 use crate::line::{CertState, Line};
@@ -17,7 +17,8 @@ use std::alloc::Global;
 /// The one text that spells a certificate.
 pub fn spell_certificate(alloc: Global, certificate: &Certificate) -> Result<Vec<u8>, NoMemory>
     requires { length certificate.now.pairs < 2 ^ 32 }
-    ensures { IfOk result (λ text. text.items ≡ certificate_text certificate.now) }
+    ensures form { IfOk result (λ _. IsCertificate certificate.now) }
+    ensures text { IfOk result (λ text. text.items ≡ certificate_text certificate.now) }
 {
     let mut text = Vec::new(alloc);
     let pairs = certificate.pairs.as_slice();
@@ -37,7 +38,7 @@ pub fn spell_certificate(alloc: Global, certificate: &Certificate) -> Result<Vec
 
 fn push_pairs(alloc: Global, text: &mut Vec<u8>, pairs: &[CertPair]) -> Result<(), NoMemory>
     requires { length pairs.now < 2 ^ 32 }
-    ensures { OnOk result (text.new.items ≡ text.old.items ++ lines_text (pair_lines 0 pairs.now)) }
+    ensures { OnOk result (IsAdded (pair_lines 0 pairs.now) text.old.items text.new.items) }
 {
     for (i, pair) in pairs.iter().enumerate() {
         push_line(alloc, text, Line::Pair(i as u32, pair.state))?;
@@ -47,7 +48,7 @@ fn push_pairs(alloc: Global, text: &mut Vec<u8>, pairs: &[CertPair]) -> Result<(
 }
 
 fn push_all_proved(alloc: Global, text: &mut Vec<u8>, all: &[Proved]) -> Result<(), NoMemory>
-    ensures { OnOk result (text.new.items ≡ text.old.items ++ lines_text (flat_map proved_lines all.now)) }
+    ensures { OnOk result (IsAdded (flat_map proved_lines all.now) text.old.items text.new.items) }
 {
     for proved in all {
         push_proved(alloc, text, proved)?;
@@ -56,7 +57,7 @@ fn push_all_proved(alloc: Global, text: &mut Vec<u8>, all: &[Proved]) -> Result<
 }
 
 fn push_proved(alloc: Global, text: &mut Vec<u8>, proved: &Proved) -> Result<(), NoMemory>
-    ensures { OnOk result (text.new.items ≡ text.old.items ++ lines_text (proved_lines proved.now)) }
+    ensures { OnOk result (IsAdded (proved_lines proved.now) text.old.items text.new.items) }
 {
     push_line(alloc, text, Line::Candidate(proved.candidate))?;
     match &proved.how {
@@ -65,7 +66,7 @@ fn push_proved(alloc: Global, text: &mut Vec<u8>, proved: &Proved) -> Result<(),
 }
 
 fn push_steps(alloc: Global, text: &mut Vec<u8>, steps: &[Step]) -> Result<(), NoMemory>
-    ensures { OnOk result (text.new.items ≡ text.old.items ++ lines_text (map line.Step steps.now)) }
+    ensures { OnOk result (IsAdded (map line.Step steps.now) text.old.items text.new.items) }
 {
     for step in steps {
         push_line(alloc, text, Line::Step(*step))?;
@@ -74,7 +75,7 @@ fn push_steps(alloc: Global, text: &mut Vec<u8>, steps: &[Step]) -> Result<(), N
 }
 
 fn push_line(alloc: Global, text: &mut Vec<u8>, line: Line) -> Result<(), NoMemory>
-    ensures { OnOk result (text.new.items ≡ text.old.items ++ lines_text (line ∷ [])) }
+    ensures { OnOk result (IsAdded (line ∷ []) text.old.items text.new.items) }
 {
     push_fields(alloc, text, line)?;
     text.push(b'\n')?;
@@ -82,7 +83,8 @@ fn push_line(alloc: Global, text: &mut Vec<u8>, line: Line) -> Result<(), NoMemo
 }
 
 fn push_fields(alloc: Global, text: &mut Vec<u8>, line: Line) -> Result<(), NoMemory>
-    ensures { OnOk result (text.new.items ≡ text.old.items ++ line_text line) }
+    ensures fit { IfOk result (λ _. IsLine line) }
+    ensures text { OnOk result (text.new.items ≡ text.old.items ++ line_text line) }
 {
     match line {
         Line::Version(version) => push_number(alloc, text, b"symdiff-certificate ", version),

@@ -1,6 +1,8 @@
-use crate::{CertError, digests_of, read_certificate, replay, spell_certificate};
+use crate::{
+    CertError, digests_of, read_certificate, replay, spell_certificate, write_certificate,
+};
 use sd_base::{Name, NoMemory};
-use sd_kernel::StepCause;
+use sd_kernel::{How, Proof, Proved, Step, StepCause};
 use sd_product::Straight;
 use sd_term::{Bank, Head, Op, Query};
 use sqlite_items::Items;
@@ -84,6 +86,22 @@ fn a_certificate_shows_its_table(rt: HostRuntime) -> Result<(), CertError> {
     let shown = replay(alloc, &pairs, &digests_of(b"", b"", b""), ONE)?;
     assert_eq!(rt; shown.table.count(), 2);
     assert!(rt; !shown.table.get(0) && shown.table.get(1));
+    Ok(())
+}
+
+#[test]
+fn what_is_written_of_a_proof(rt: HostRuntime) -> Result<(), CertError> {
+    let alloc = rt.alloc();
+    let pairs = [one_pair(alloc)?];
+    let Ok(steps) = Items::from_slice(alloc, &[Step::Close(0)]) else {
+        return Err(CertError::NoMemory);
+    };
+    let proofs = [Proved {
+        candidate: 1,
+        how: How::Steps(Proof { steps }),
+    }];
+    let written = write_certificate(alloc, &pairs, &digests_of(b"", b"", b""), &proofs)?;
+    assert!(rt; written.as_slice() == ONE);
     Ok(())
 }
 

@@ -1,37 +1,31 @@
 -- What a run answers, and why.
-use Rattle.std.specs.Prelude.{◌≡◌, ◌⊎◌, ℕ, List, [], Option, None, Some, if◌then◌else◌}
-use Rattle.std.specs.List.{list_all}
+use Rattle.std.specs.Prelude.{◌≡◌, ◌⊎◌, ◌<◌, ℕ, List, Option, None, Some, length}
 use Rattle.sd_base.specs.Outside.{WhereTold}
 use Rattle.sd_base.specs.Causes.{Rose}
 use Rattle.sd_ast.specs.declared.Program.{Program}
 use Rattle.sd_parse.specs.Text.{IsRead}
-use Rattle.sd_rounds.specs.declared.settle.Death.{Death}
-use Rattle.symdiff.specs.Words.{JobNames, job_of}
-use Rattle.symdiff.specs.Texts.{SpellsNone}
-use Rattle.symdiff.specs.Verdicts.{Compared, NoNewFailure, AreNewFailures}
-use Rattle.symdiff.specs.Report.{report, usage_text, old_not_yet, new_not_yet, is_safe}
+use Rattle.sd_cert.specs.declared.fault.CertError.{CertError}
+use Rattle.symdiff.specs.Words.{Task, verify, replay, JobNames, job_of}
+use Rattle.symdiff.specs.Texts.{SpellsNone, Holds, Texts, AreRead}
+use Rattle.symdiff.specs.Outcome.{Outcome, message, IsComparison, IsReplay, IsRefused}
+use Rattle.symdiff.specs.Verdicts.{NoNewFailure, AreNewFailures}
+use Rattle.symdiff.specs.Report.{usage_text, old_not_yet, new_not_yet, certificate_size}
+use Rattle.symdiff.specs.CertificateErrors.{certificate_error}
 use Rattle.symdiff.specs.declared.verdict.PairVerdict.{PairVerdict}
-
--- 0 where every pair is safe, else 1
-abbrev pub status_of : List PairVerdict → ℕ
-status_of verdicts = if list_all (λ v. is_safe v.state) verdicts then 0 else 1
 
 -- what holds of the job that the words name, if they name one
 abbrev pub ForJob : List (List ℕ) → (JobNames → Type 0) → Type 0
 ForJob words P = (job : JobNames) → job_of words ≡ Some job → P job
 
--- nothing is said of pairs
-pub record NoPairs (pairs : List PairVerdict) (table : List ℕ) (deaths : List Death) : Type 0 where
-  pub no_pair : pairs ≡ []
-  pub no_word : table ≡ []
-  pub no_death : deaths ≡ []
-
 -- A row for each answer, with its cause, its text, and what is said of the pairs. Of files that aren't told nothing is said.
-pub data Answer (words : List (List ℕ)) (held : List ℕ → Option (List ℕ)) (code : ℕ) (text : List ℕ) (pairs : List PairVerdict) (table : List ℕ) (deaths : List Death) : Type 0 where
-  no_job : job_of words ≡ None → code ≡ 2 → text ≡ usage_text → NoPairs pairs table deaths → Answer words held code text pairs table deaths
-  old_refused : (job : JobNames) → job_of words ≡ Some job → WhereTold (held job.old) SpellsNone → code ≡ 3 → text ≡ old_not_yet → NoPairs pairs table deaths → Answer words held code text pairs table deaths
-  new_refused : (job : JobNames) (old : Program) → job_of words ≡ Some job → WhereTold (held job.old) (λ bytes. IsRead bytes old) → WhereTold (held job.new) SpellsNone → code ≡ 3 → text ≡ new_not_yet → NoPairs pairs table deaths → Answer words held code text pairs table deaths
-  done : (job : JobNames) (old new : Program) → job_of words ≡ Some job → WhereTold (held job.old) (λ bytes. IsRead bytes old) → WhereTold (held job.new) (λ bytes. IsRead bytes new) → Compared old new pairs table deaths → code ≡ status_of pairs → text ≡ report old.decls new.decls pairs → Answer words held code text pairs table deaths
+pub data Answer (words : List (List ℕ)) (held : List ℕ → Option (List ℕ)) (o : Outcome) : Type 0 where
+  no_job : job_of words ≡ None → o ≡ message 2 usage_text → Answer words held o
+  old_refused : (job : JobNames) → job_of words ≡ Some job → WhereTold (held job.old) SpellsNone → o ≡ message 3 old_not_yet → Answer words held o
+  new_refused : (job : JobNames) (old : Program) → job_of words ≡ Some job → WhereTold (held job.old) (λ bytes. IsRead bytes old) → WhereTold (held job.new) SpellsNone → o ≡ message 3 new_not_yet → Answer words held o
+  compared : (job : JobNames) (t : Texts) (name : Option (List ℕ)) → job_of words ≡ Some job → job.task ≡ verify name → AreRead held job t → IsComparison name t o → Answer words held o
+  too_long : (job : JobNames) (t : Texts) (name : List ℕ) → job_of words ≡ Some job → job.task ≡ replay name → AreRead held job t → WhereTold (held name) (λ bytes. 9223372036854775807 < length bytes) → o ≡ message 9 certificate_size → Answer words held o
+  certificate_refused : (job : JobNames) (t : Texts) (name bytes : List ℕ) (e : CertError) → job_of words ≡ Some job → job.task ≡ replay name → AreRead held job t → Holds (held name) bytes → IsRefused bytes t e → o ≡ message 5 (certificate_error e) → Answer words held o
+  replayed : (job : JobNames) (t : Texts) (name bytes : List ℕ) → job_of words ≡ Some job → job.task ≡ replay name → AreRead held job t → Holds (held name) bytes → IsReplay bytes t o → Answer words held o
 
 -- what holds of the two programs that the told files of the job spell
 abbrev pub ForPrograms : List (List ℕ) → (List ℕ → Option (List ℕ)) → (Program → Program → Type 0) → Type 0
@@ -45,6 +39,15 @@ Headline words held pairs = ForPrograms words held (λ old new. NoNewFailure old
 abbrev pub UnknownIsFailure : List (List ℕ) → (List ℕ → Option (List ℕ)) → List PairVerdict → Type 0
 UnknownIsFailure words held pairs = ForPrograms words held (λ old new. AreNewFailures old new pairs)
 
--- the words name a job, and the reading of one of its two files failed
+-- the count of a certificate that is to be read rose
+abbrev pub CertificateRose : Task → (List ℕ → ℕ) → (List ℕ → ℕ) → Type 0
+CertificateRose (verify name) before now = ⊥
+CertificateRose (replay name) before now = Rose (before name) (now name)
+
+-- the words name a job, and the reading of one of its files failed
 abbrev pub ReadRose : List (List ℕ) → (List ℕ → ℕ) → (List ℕ → ℕ) → Type 0
-ReadRose words before now = (job : JobNames) × (job_of words ≡ Some job) × (Rose (before job.old) (now job.old) ⊎ Rose (before job.new) (now job.new))
+ReadRose words before now = (job : JobNames) × (job_of words ≡ Some job) × (Rose (before job.old) (now job.old) ⊎ (Rose (before job.new) (now job.new) ⊎ CertificateRose job.task before now))
+
+-- the words name a file for the certificate, and the writing of it failed
+abbrev pub CertificateWriteRose : List (List ℕ) → (List ℕ → ℕ) → (List ℕ → ℕ) → Type 0
+CertificateWriteRose words before now = (job : JobNames) × (name : List ℕ) × (job_of words ≡ Some job) × (job.task ≡ verify (Some name)) × Rose (before name) (now name)

@@ -1,5 +1,10 @@
 pub mod Words
+pub mod Jobs
 pub mod Texts
 pub mod Report
+pub mod CertificateErrors
 pub mod Verdicts
+pub mod Outcome
+pub mod Replies
 pub mod Answer
+pub mod Writing

@@ -6,7 +6,7 @@ use Rattle.sd_ast.specs.declared.Decl.TheVariants.{Axiom, Procedure}
 use Rattle.sd_meaning.specs.Routine.{procedure_in}
 use Rattle.symdiff.specs.declared.verdict.PairVerdict.{PairVerdict}
 use Rattle.symdiff.specs.declared.verdict.VerdictState.{VerdictState}
-use Rattle.symdiff.specs.declared.verdict.VerdictState.TheVariants.{Safe, Unknown, Signature}
+use Rattle.symdiff.specs.declared.verdict.VerdictState.TheVariants.{Safe, Unknown, Unproved, Signature}
 
 abbrev pub line_end : List ℕ
 line_end = 10 ∷ []
@@ -15,6 +15,7 @@ line_end = 10 ∷ []
 abbrev pub beginning : VerdictState → List ℕ
 beginning Safe = codes "safe "
 beginning Unknown = codes "unknown "
+beginning Unproved = codes "unproved "
 beginning Signature = codes "refused "
 
 abbrev pub ending : VerdictState → List ℕ
@@ -33,8 +34,10 @@ abbrev pub is_safe : VerdictState → Bool
 is_safe Safe = true
 is_safe _ = false
 
+-- no claim on the flags of the pair was shown
 abbrev pub is_unknown : VerdictState → Bool
 is_unknown Unknown = true
+is_unknown Unproved = true
 is_unknown _ = false
 
 abbrev pub is_refused : VerdictState → Bool
@@ -64,3 +67,6 @@ old_not_yet = codes "error: old not yet" ++ line_end
 
 abbrev pub new_not_yet : List ℕ
 new_not_yet = codes "error: new not yet" ++ line_end
+
+abbrev pub certificate_size : List ℕ
+certificate_size = codes "error: certificate size" ++ line_end

@@ -22,11 +22,17 @@ fn any_live(table: &LiveTable, first: u32, end: u32) -> bool
     false
 }
 
-/// What is said of a pair whose candidates are these.
-fn state_of(pair: &Straight, table: &LiveTable, first: u32, end: u32) -> VerdictState
+/// What is said of a pair whose candidates are these. Where none is live it is `otherwise`.
+fn state_of(
+    pair: &Straight,
+    table: &LiveTable,
+    first: u32,
+    end: u32,
+    otherwise: VerdictState,
+) -> VerdictState
     requires ordered { first + length pair.now.queries ≡ end }
     requires within { end ≤ length table.now }
-    ensures { result ≡ state_of pair.now (take (length pair.now.queries) (drop first table.now)) }
+    ensures { result ≡ state_of otherwise pair.now (take (length pair.now.queries) (drop first table.now)) }
 {
     if pair.refused {
         return VerdictState::Signature;
@@ -34,7 +40,7 @@ fn state_of(pair: &Straight, table: &LiveTable, first: u32, end: u32) -> Verdict
     if any_live(table, first, end) {
         return VerdictState::Safe;
     }
-    VerdictState::Unknown
+    otherwise
 }
 
 /// The verdict of a pair whose candidates are these.
@@ -44,15 +50,16 @@ fn verdict(
     table: &LiveTable,
     first: u32,
     end: u32,
+    otherwise: VerdictState,
 ) -> Result<PairVerdict, NoMemory>
     requires ordered { first + length pair.now.queries ≡ end }
     requires within { end ≤ length table.now }
-    ensures { IfOk result (λ v. v ≡ verdict_of pair.now (take (length pair.now.queries) (drop first table.now))) }
+    ensures { IfOk result (λ v. v ≡ verdict_of otherwise pair.now (take (length pair.now.queries) (drop first table.now))) }
 {
     Ok(PairVerdict {
         old: pair.old.clone_of(alloc)?,
         new: pair.new.clone_of(alloc)?,
-        state: state_of(pair, table, first, end),
+        state: state_of(pair, table, first, end, otherwise),
         equal: false,
     })
 }
@@ -70,20 +77,21 @@ fn end_of(pair: &Straight, first: u32) -> Result<u32, NoMemory>
     }
 }
 
-/// The verdict of each pair, from the table of all candidates.
+/// The verdict of each pair, from the table of all candidates. A pair without a live one is said to be `otherwise`.
 pub fn verdicts_of(
     alloc: Global,
     pairs: &[Straight],
     table: &LiveTable,
+    otherwise: VerdictState,
 ) -> Result<Vec<PairVerdict>, NoMemory>
     requires { length table.now ≡ length (queries_of pairs.now) }
-    ensures { IfOk result (λ verdicts. verdicts.items ≡ verdicts_of pairs.now table.now) }
+    ensures { IfOk result (λ verdicts. verdicts.items ≡ verdicts_of otherwise pairs.now table.now) }
 {
     let mut verdicts = Vec::new(alloc);
     let mut first = 0;
     'pairs: for pair in pairs {
         let end = end_of(pair, first)?;
-        verdicts.push(verdict(alloc, pair, table, first, end)?)?;
+        verdicts.push(verdict(alloc, pair, table, first, end, otherwise)?)?;
         first = end;
     }
     Ok(verdicts)

@@ -14,6 +14,7 @@ fn beginning(state: VerdictState) -> &'static [u8]
     match state {
         VerdictState::Safe => b"safe ",
         VerdictState::Unknown => b"unknown ",
+        VerdictState::Unproved => b"unproved ",
         VerdictState::Signature => b"refused ",
     }
 }

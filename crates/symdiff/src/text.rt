@@ -1,15 +1,21 @@
 ghost use Rattle.std.specs.Prelude.{◌≡◌, ◌≢◌, IfOk, IsErrOf, Err};
 ghost use Rattle.sd_base.specs.Causes.{Rose, NeverFall, AllSame};
 ghost use Rattle.sd_base.specs.Outside.{WhereTold, AllStay};
-ghost use Rattle.sd_ast.specs.Boolean.{IsBooleanProgram};
 ghost use Rattle.sd_parse.specs.Text.{IsRead};
-ghost use Rattle.symdiff.specs.Texts.{SpellsNone};
+ghost use Rattle.symdiff.specs.Texts.{SpellsNone, Holds};
 
 use sd_ast::Program;
 use sd_base::limits::TEXT_BYTES;
 use sd_base::{Files, ReadFault, read_up_to};
 use sd_parse::{ReadError, read_program};
 use std::alloc::Global;
+
+/// A text that was read, and the program that it spells.
+#[derive(Drop)]
+pub struct Text {
+    pub bytes: Vec<u8>,
+    pub program: Program,
+}
 
 /// Why a file gave no program.
 #[derive(Clone, Copy, Debug, PartialEq, Eq)]
@@ -22,9 +28,9 @@ pub enum TextFault {
 }
 
 /// Reads a file and the program that it spells.
-pub fn read_text<F: Files>(alloc: Global, files: &mut F, name: &str) -> Result<Program, TextFault>
-    ensures spelled { IfOk result (λ program. WhereTold (F.held files.old name.now) (λ bytes. IsRead bytes program)) }
-    ensures typed { IfOk result IsBooleanProgram }
+pub fn read_text<F: Files>(alloc: Global, files: &mut F, name: &str) -> Result<Text, TextFault>
+    ensures held { IfOk result (λ text. Holds (F.held files.old name.now) text.bytes.items) }
+    ensures spelled { IfOk result (λ text. IsRead text.bytes.items text.program) }
     ensures refused { IsErrOf result TextFault.NotYet → WhereTold (F.held files.old name.now) SpellsNone }
     ensures cause { IsErrOf result TextFault.Failed → Rose (F.read_faults files.old name.now) (F.read_faults files.new name.now) }
     ensures stay { AllStay F.held files.old files.new }
@@ -38,7 +44,7 @@ pub fn read_text<F: Files>(alloc: Global, files: &mut F, name: &str) -> Result<P
         Err(ReadFault::Memory) => return Err(TextFault::Memory),
     };
     match read_program(alloc, bytes.as_slice()) {
-        Ok(program) => Ok(program),
+        Ok(program) => Ok(Text { bytes, program }),
         Err(ReadError::NotYet) => Err(TextFault::NotYet),
         Err(ReadError::NoMemory) => Err(TextFault::Memory),
     }

@@ -9,6 +9,8 @@ pub enum VerdictState {
     Safe,
     /// No claim on the flags of the pair was proved.
     Unknown,
+    /// The certificate has no claim on the flags of the pair.
+    Unproved,
     /// The types of the parameters differ.
     Signature,
 }
@@ -23,11 +25,11 @@ impl VerdictState {
         matches!(self, VerdictState::Safe)
     }
 
-    /// Whether the pair is unknown.
+    /// Whether no claim on the flags of the pair was shown.
     pub fn is_unknown(self) -> bool
         ensures { result ≡ is_unknown self }
     {
-        matches!(self, VerdictState::Unknown)
+        matches!(self, VerdictState::Unknown | VerdictState::Unproved)
     }
 
     /// Whether the pair is refused.

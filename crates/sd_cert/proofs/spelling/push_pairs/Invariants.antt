@@ -1,7 +1,7 @@
-use Rattle.std.proofs.Common.{◌≡◌, ◌++◌, take}
-use Rattle.sd_cert.specs.Text.{lines_text}
+use Rattle.std.proofs.Common.{take}
+use Rattle.sd_cert.specs.Added.{IsAdded}
 use Rattle.sd_cert.specs.Certificates.{pair_lines}
 use Rattle.sd_cert.proofs.spelling.push_pairs.Given as goal
 
 abbrev pub invariant-loop-i : goal.invariant-loop-i
-invariant-loop-i l = l.text.items ≡ l.initial.text.items ++ lines_text (pair_lines 0 (take l.i l.pairs))
+invariant-loop-i l = IsAdded (pair_lines 0 (take l.i l.pairs)) l.initial.text.items l.text.items

@@ -1,0 +1,43 @@
+-- The texts and the reply of the code, as they are spoken of.
+use Rattle.std.specs.Prelude.{◌≡◌, ◌⊎◌, ◌<◌, ℕ, List, Option, None, Some, length}
+use Rattle.sd_kernel.specs.declared.proved.Proved.{Proved}
+use Rattle.sd_product.specs.declared.straight.Straight.{Straight}
+use Rattle.sd_cert.specs.declared.fault.CertError.{CertError}
+use Rattle.sd_cert.specs.Written.{IsWritten}
+use Rattle.sd_base.specs.Outside.{WhereTold}
+use Rattle.symdiff.specs.declared.text.Text.{Text}
+use Rattle.symdiff.specs.declared.reply.NamedCertificate.{NamedCertificate}
+use Rattle.symdiff.specs.declared.reply.Reply.{Reply}
+use Rattle.symdiff.specs.Texts.{Holds, Texts, digests_of}
+use Rattle.symdiff.specs.Outcome.{Outcome, message, IsReplay, IsRefused}
+use Rattle.symdiff.specs.Report.{certificate_size}
+use Rattle.symdiff.specs.CertificateErrors.{certificate_error}
+
+abbrev pub texts_of : Text → Text → Texts
+texts_of old new = record { old_bytes = old.bytes.items; new_bytes = new.bytes.items; old = old.program; new = new.program }
+
+abbrev pub named : Option NamedCertificate → Option (List ℕ × List ℕ)
+named None = None
+named (Some file) = Some (file.name.now, file.text.items)
+
+abbrev pub outcome_of : Reply → Outcome
+outcome_of reply = record { status = reply.status; text = reply.text.items; pairs = reply.pairs.items; table = reply.table.items; deaths = reply.deaths.items; certificate = named reply.certificate }
+
+-- the certificate is made where a file is named for it
+abbrev pub IsMade : Texts → List Straight → List Proved → Option (List ℕ) → Option (List ℕ × List ℕ) → Type 0
+IsMade t pairs proofs None None = Unit {0}
+IsMade t pairs proofs (Some name) (Some file) = (file.0 ≡ name) × IsWritten pairs (digests_of t) proofs file.1
+IsMade t pairs proofs _ _ = ⊥
+
+-- what is answered to bytes that are refused as a certificate
+abbrev pub refusal : CertError → Outcome
+refusal e = message 5 (certificate_error e)
+
+-- the bytes were replayed as a certificate of two texts, or they are none
+abbrev pub IsJudged : List ℕ → Texts → Outcome → Type 0
+IsJudged bytes t o = IsReplay bytes t o ⊎ ((e : CertError) × IsRefused bytes t e × (o ≡ refusal e))
+
+-- the bytes that are held are beyond the limit, or they were judged
+abbrev pub IsReplayReply : Option (List ℕ) → Texts → Outcome → Type 0
+IsReplayReply told t o =
+    (WhereTold told (λ bytes. 9223372036854775807 < length bytes) × (o ≡ message 9 certificate_size)) ⊎ ((bytes : List ℕ) × Holds told bytes × IsJudged bytes t o)

@@ -1,0 +1,80 @@
+//! The replay of a certificate of two texts.
+ghost use Rattle.std.specs.Prelude.{◌≡◌, ◌≢◌, IfOk, IsErrOf, Err};
+ghost use Rattle.sd_base.specs.Causes.{Rose, AllSame};
+ghost use Rattle.sd_base.specs.Outside.{AllStay};
+ghost use Rattle.sd_parse.specs.Text.{IsRead};
+ghost use Rattle.symdiff.specs.Replies.{outcome_of, texts_of, refusal, IsJudged, IsReplayReply};
+
+use crate::certificate_error::certificate_error;
+use crate::reply::{Reply, Stop, message, report_on};
+use crate::text::Text;
+use crate::verdict::VerdictState;
+use sd_base::{Files, NoMemory, ReadFault, read_up_to};
+use sd_cert::{CertError, digests_of, replay};
+use sd_product::straight_pairs;
+use std::alloc::Global;
+
+/// The bytes of a certificate that are read at most.
+const CERTIFICATE_BYTES: usize = 9223372036854775807;
+
+/// The reply to bytes that are refused as a certificate.
+fn refuse<'a>(alloc: Global, fault: CertError) -> Result<Reply<'a>, NoMemory>
+    ensures { IfOk result (λ reply. outcome_of reply ≡ refusal fault) }
+{
+    let line = certificate_error(alloc, fault)?;
+    message(alloc, 5, line.as_slice())
+}
+
+/// Judges the bytes of a certificate of two texts.
+fn judge<'a>(
+    alloc: Global,
+    old: &Text,
+    new: &Text,
+    bytes: &[u8],
+) -> Result<Reply<'a>, NoMemory>
+    requires old_read { IsRead old.now.bytes.items old.now.program }
+    requires new_read { IsRead new.now.bytes.items new.now.program }
+    ensures { IfOk result (λ reply. IsJudged bytes.now (texts_of old.now new.now) (outcome_of reply)) }
+{
+    let straights = straight_pairs(alloc, &old.program, &new.program)?;
+    let straights = straights.as_slice();
+    let digests = digests_of(old.bytes.as_slice(), new.bytes.as_slice(), b"");
+    match replay(alloc, straights, &digests, bytes) {
+        Ok(replayed) => report_on(
+            alloc,
+            old,
+            new,
+            straights,
+            &replayed.table,
+            VerdictState::Unproved,
+        ),
+        Err(CertError::NoMemory) => Err(NoMemory),
+        Err(fault) => refuse(alloc, fault),
+    }
+}
+
+/// Reads a certificate and judges it.
+pub fn replay_file<'a, F: Files>(
+    alloc: Global,
+    files: &mut F,
+    old: &Text,
+    new: &Text,
+    name: &str,
+) -> Result<Reply<'a>, Stop>
+    requires old_read { IsRead old.now.bytes.items old.now.program }
+    requires new_read { IsRead new.now.bytes.items new.now.program }
+    ensures reply { IfOk result (λ reply. IsReplayReply (F.held files.old name.now) (texts_of old.now new.now) (outcome_of reply)) }
+    ensures cause { IsErrOf result Stop.Failed → Rose (F.read_faults files.old name.now) (F.read_faults files.new name.now) }
+    ensures stay { AllStay F.held files.old files.new }
+    ensures no_fault { result ≢ Err Stop.Failed → AllSame (F.read_faults files.old) (F.read_faults files.new) × AllSame (F.write_faults files.old) (F.write_faults files.new) }
+{
+    let bytes = match read_up_to(alloc, files, name, CERTIFICATE_BYTES) {
+        Ok(bytes) => bytes,
+        Err(ReadFault::Failed) => return Err(Stop::Failed),
+        Err(ReadFault::Memory) => return Err(Stop::Memory),
+    };
+    if bytes.len() > CERTIFICATE_BYTES {
+        return Ok(message(alloc, 9, b"error: certificate size\n")?);
+    }
+    Ok(judge(alloc, old, new, bytes.as_slice())?)
+}
