@@ -1,15 +1,19 @@
 #!/usr/bin/env python3
-"""Times the built program on texts of many procedures.
+"""Times the built program on texts of many procedures, and on the replay of long certificates.
 
     python3 bench/run.py [--count N] [--runs R] [--program PATH]
 
 Makes two texts of N procedures and two of 2N (N is 2048 unless --count gives less; the reader takes 4096 procedures at most),
 runs `symdiff verify old new` on them R times each in a temporary folder, and prints the size of the text, the least time and the
-greatest peak memory, and then the ratio of the two times. It is no part of the gate. The program has to be built before:
-`rt run` in crates/symdiff leaves it as crates/symdiff/out/symdiff.
+greatest peak memory, and then the ratio of the two times.
 
-The status is 0 where each report is right, the ratio is below 2.5, and the larger text takes less than a second and 200 MB.
-Where one of these fails a line says so, and the status is 1.
+Then it makes two texts of one procedure that takes the parity of its parameters, in one order and in the other, lets the program
+write the certificate, and runs `symdiff replay old new certificate` R times: once on a certificate of more than 10000 steps, and
+once on one of twice as many. It is no part of the gate. The program has to be built before: `rt run` in crates/symdiff leaves it as
+crates/symdiff/out/symdiff.
+
+The status is 0 where each report is right, both ratios are below 2.5, the larger text takes less than a second and 200 MB, and the
+replay of the first certificate less than a second. Where one of these fails a line says so, and the status is 1.
 """
 
 import argparse
@@ -24,6 +28,8 @@ PROGRAM = os.path.join(HERE, "..", "crates", "symdiff", "out", "symdiff")
 GREATEST_RATIO = 2.5
 GREATEST_SECONDS = 1.0
 GREATEST_BYTES = 200_000_000
+LEAST_STEPS = 10_000
+REPLAY_PARAMETERS = 11
 
 # One procedure. The parts that the new text may change are the last two assertions.
 FORM = """procedure handler_{number:04d}(ready: bool, locked: bool, open: bool, forced: bool)
@@ -64,11 +70,20 @@ def texts(count):
     return "".join(old), "".join(new), "".join(report)
 
 
-def run_once(program, folder):
+def parity(name, parameters):
+    """A procedure that asserts the parity of its parameters, taken in this order."""
+    ordered = sorted(parameters)
+    lines = ["procedure %s(%s)" % (name, ", ".join("%s: bool" % p for p in ordered)), "{", "  var odd: bool;", "  odd := false;"]
+    for parameter in parameters:
+        lines.append("  odd := (odd && !{0}) || (!odd && {0});".format(parameter))
+    return "\n".join(lines + ["  assert odd;", "}", ""])
+
+
+def run_once(program, folder, words=("verify", "old", "new")):
     """The seconds that a run takes, its peak memory in bytes, its status and what it writes."""
     with open(os.path.join(folder, "report"), "w+b") as out:
         begin = time.perf_counter()
-        process = subprocess.Popen([program, "verify", "old", "new"], cwd=folder, stdin=subprocess.DEVNULL, stdout=out)
+        process = subprocess.Popen([program, *words], cwd=folder, stdin=subprocess.DEVNULL, stdout=out)
         _, status, usage = os.wait4(process.pid, 0)
         seconds = time.perf_counter() - begin
         process.returncode = os.waitstatus_to_exitcode(status)
@@ -97,8 +112,30 @@ def measure(program, count, runs, complaints):
     return best, peak
 
 
+def measure_replay(program, count, runs, complaints):
+    """The least time of several replays of the certificate of a parity over so many parameters, and its number of steps."""
+    parameters = ["p%02d" % number for number in range(count)]
+    report = "safe odd odd\npairs 1 safe 1 equal 0 unknown 0 refused 0 axioms 0 0\n"
+    best = None
+    with tempfile.TemporaryDirectory() as folder:
+        for name, order in (("old", parameters), ("new", parameters[::-1])):
+            with open(os.path.join(folder, name), "w", encoding="ascii") as file:
+                file.write(parity("odd", order))
+        run_once(program, folder, ("verify", "old", "new", "--certificate", "certificate"))
+        with open(os.path.join(folder, "certificate"), encoding="ascii") as file:
+            steps = sum(line.startswith(("split ", "close ")) for line in file)
+        for _ in range(runs):
+            seconds, _, status, written = run_once(program, folder, ("replay", "old", "new", "certificate"))
+            best = seconds if best is None else min(best, seconds)
+            if status != 0 or written != report:
+                complaints.append("a replay of %d steps: status %d, and the report isn't the one that is right" % (steps, status))
+                break
+    print("replay of %6d steps  %8.3f s" % (steps, best))
+    return best, steps
+
+
 def main():
-    parser = argparse.ArgumentParser(description="times the built program on texts of many procedures")
+    parser = argparse.ArgumentParser(description="times the built program on texts of many procedures, and on replays")
     parser.add_argument("--count", type=int, default=2048)
     parser.add_argument("--runs", type=int, default=3)
     parser.add_argument("--program", default=PROGRAM)
@@ -120,6 +157,16 @@ def main():
         complaints.append("%d procedures take a second or more" % (2 * given.count))
     if peak >= GREATEST_BYTES:
         complaints.append("%d procedures take 200 MB or more" % (2 * given.count))
+    single, steps = measure_replay(program, REPLAY_PARAMETERS, given.runs, complaints)
+    double, more = measure_replay(program, REPLAY_PARAMETERS + 1, given.runs, complaints)
+    ratio = double / single
+    print("ratio of the times of replay at %d and %d steps: %.2f" % (more, steps, ratio))
+    if steps < LEAST_STEPS:
+        complaints.append("the certificate has less than %d steps" % LEAST_STEPS)
+    if ratio >= GREATEST_RATIO:
+        complaints.append("the ratio of the times of replay isn't below %.1f" % GREATEST_RATIO)
+    if single >= GREATEST_SECONDS:
+        complaints.append("the replay of %d steps takes a second or more" % steps)
     for complaint in complaints:
         print("falls short: " + complaint)
     return 1 if complaints else 0

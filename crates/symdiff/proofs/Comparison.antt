@@ -1,5 +1,6 @@
 -- What a comparison of two programs tells of their runs.
 use Rattle.std.proofs.Common.{◌≡◌, sym, subst, ℕ, List, [], ◌∷◌}
+use Rattle.std.specs.Prelude.{Option}
 use Rattle.std.specs.List.{AllByRecursion}
 use Rattle.sd_ast.specs.declared.Proc.{Proc}
 use Rattle.sd_ast.specs.declared.Program.{Program}
@@ -16,10 +17,13 @@ use Rattle.sd_product.specs.Straight.{straights_of, queries_of}
 use Rattle.sd_product.proofs.Booleans.{query-sorted}
 use Rattle.sd_product.proofs.Programs.{found-boolean}
 use Rattle.sd_product.proofs.Failures.{unsatisfiable-safe, open_cubes-fail}
-use Rattle.sd_rounds.specs.declared.settle.Death.{Death}
 use Rattle.symdiff.specs.declared.verdict.PairVerdict.{PairVerdict}
-use Rattle.symdiff.specs.Verdicts.{Compared, NoNewFailure, AreNewFailures}
-use Rattle.symdiff.proofs.Settling.{HasProof, HasCube, live_proved, dead_open}
+use Rattle.symdiff.specs.declared.verdict.VerdictState.{VerdictState}
+use Rattle.symdiff.specs.declared.verdict.VerdictState.TheVariants.{Safe, Unknown, Unproved}
+use Rattle.symdiff.specs.Texts.{Texts, pairs_of, digests_of}
+use Rattle.symdiff.specs.Outcome.{Outcome, IsComparison, IsReplay}
+use Rattle.symdiff.specs.Verdicts.{verdicts_of, NoNewFailure, AreNewFailures}
+use Rattle.symdiff.proofs.Settling.{HasProof, HasCube, live_proved, settled_inductive, dead_open}
 use Rattle.symdiff.proofs.VerdictLemmas.{IsRight, all_right}
 
 pub one_program_read : (bytes : List ℕ) (P Q : Program) → IsRead bytes P → IsRead bytes Q → P ≡ Q
@@ -29,28 +33,49 @@ all-map : {X : Type 0} (A B : X → Type 0) → ((x : X) → A x → B x) → (x
 all-map A B f [] a = tt
 all-map A B f (x ∷ xs) a = (f x a.0, all-map A B f xs a.1)
 
-module _ (P Q : Program) (pairs : List PairVerdict) (table : List ℕ) (deaths : List Death) (bytes bytes' : List ℕ) (old_read : IsRead bytes P) (new_read : IsRead bytes' Q) (compared : Compared P Q pairs table deaths) where
-  safe : (p q : Proc) (c : Candidate) → IsPair P Q p.head.name q.head.name p q → HasProof (query_of c p q) → NewFailure P Q p.head.name q.head.name → ⊥
+module _ (t : Texts) (old_read : IsRead t.old_bytes t.old) (new_read : IsRead t.new_bytes t.new) where
+  safe : (p q : Proc) (c : Candidate) → IsPair t.old t.new p.head.name q.head.name p q → HasProof (query_of c p q) → NewFailure t.old t.new p.head.name q.head.name → ⊥
   safe p q c pair proof =
-      unsatisfiable-safe P Q p.head.name q.head.name p q c pair
+      unsatisfiable-safe t.old t.new p.head.name q.head.name p q c pair
       (accepted-unsatisfiable (query_of c p q) proof.steps
-      (query-sorted c p q (found-boolean P.decls p.head.name p pair.old_boolean.decls pair.old_found) (found-boolean Q.decls q.head.name q pair.new_boolean.decls pair.new_found))
+      (query-sorted c p q (found-boolean t.old.decls p.head.name p pair.old_boolean.decls pair.old_found) (found-boolean t.new.decls q.head.name q pair.new_boolean.decls pair.new_found))
       (proves-accepted (query_of c p q) proof.steps proof.proves))
 
-  failure : (p q : Proc) → IsPair P Q p.head.name q.head.name p q → HasCube (query_of EqualInputs p q) → NewFailure P Q p.head.name q.head.name
-  failure p q pair cube = open_cubes-fail P Q p.head.name q.head.name p q cube.cube pair cube.«open»
+  failure : (p q : Proc) → IsPair t.old t.new p.head.name q.head.name p q → HasCube (query_of EqualInputs p q) → NewFailure t.old t.new p.head.name q.head.name
+  failure p q pair cube = open_cubes-fail t.old t.new p.head.name q.head.name p q cube.cube pair cube.«open»
 
-  all : AllByRecursion (IsRight P Q old_read.typed new_read.typed) pairs
-  all =
-      let queries = queries_of (straights_of P.decls Q.decls) in
-      subst (λ (vs : List PairVerdict). AllByRecursion (IsRight P Q old_read.typed new_read.typed) vs) (sym compared.verdicts)
-      (all_right P Q old_read.typed new_read.typed HasProof HasCube safe failure compared.live compared.settled.0
-      (live_proved queries compared.live deaths compared.proofs compared.settled) (dead_open queries compared.live deaths compared.proofs compared.settled))
+  abbrev Right : PairVerdict → Type 0
+  Right = IsRight t.old t.new old_read.typed new_read.typed
+
+  abbrev AreRight : List PairVerdict → Type 0
+  AreRight vs = AllByRecursion Right vs
+
+  unknown_not_safe : ◌≡◌ {A = VerdictState} Unknown Safe → ⊥
+  unknown_not_safe e = cc
+
+  unproved_not_safe : ◌≡◌ {A = VerdictState} Unproved Safe → ⊥
+  unproved_not_safe e = cc
+
+  unproved_not_unknown : ◌≡◌ {A = VerdictState} Unproved Unknown → ⊥
+  unproved_not_unknown e = cc
+
+  pub compared_right : (name : Option (List ℕ)) (o : Outcome) → IsComparison name t o → AreRight o.pairs
+  compared_right name o c =
+      let queries = queries_of (pairs_of t) in
+      subst AreRight (sym c.told.verdicts)
+      (all_right t.old t.new old_read.typed new_read.typed Unknown unknown_not_safe HasProof HasCube safe (λ is. failure) c.live c.settled.0
+      (live_proved queries c.live c.proofs (settled_inductive queries c.live o.deaths c.proofs c.settled)) (dead_open queries c.live o.deaths c.proofs c.settled))
+
+  pub replayed_right : (bytes : List ℕ) (o : Outcome) → IsReplay bytes t o → AreRight o.pairs
+  replayed_right bytes o r =
+      subst AreRight (sym r.told.verdicts)
+      (all_right t.old t.new old_read.typed new_read.typed Unproved unproved_not_safe HasProof (λ facts. Unit {0}) safe (λ is p q pair d. absurd (unproved_not_unknown is)) r.live r.accepted.size
+      (live_proved (queries_of (pairs_of t)) r.live _ r.accepted.inductive) (λ c facts dead query. tt))
 
   -- no safe pair has a new failure
-  pub compared_safe : NoNewFailure P Q pairs
-  compared_safe = all-map (IsRight P Q old_read.typed new_read.typed) (λ v. _) (λ v r. r.0) pairs all
+  pub right_safe : (pairs : List PairVerdict) → AreRight pairs → NoNewFailure t.old t.new pairs
+  right_safe pairs a = all-map Right (λ v. _) (λ v r. r.0) pairs a
 
   -- an unknown pair has one
-  pub compared_unknown : AreNewFailures P Q pairs
-  compared_unknown = all-map (IsRight P Q old_read.typed new_read.typed) (λ v. _) (λ v r. r.1) pairs all
+  pub right_unknown : (pairs : List PairVerdict) → AreRight pairs → AreNewFailures t.old t.new pairs
+  right_unknown pairs a = all-map Right (λ v. _) (λ v r. r.1) pairs a

@@ -4,4 +4,6 @@ pub mod Tables
 pub mod Settling
 pub mod VerdictLemmas
 pub mod Comparison
+pub mod Certified
 pub mod Rows
+pub mod Endings

@@ -1,29 +1,32 @@
 -- What follows from a row of the table of answers.
-use Rattle.std.proofs.Common.{◌≡◌, ◌∙◌, sym, ap, subst, refl, ℕ, Bool, true, false, List, [], ◌∷◌, arith}
-use Rattle.std.specs.Prelude.{Option, Some, Contains, Result, Ok, Err, IfOk, if◌then◌else◌}
+use Rattle.std.proofs.Common.{◌≡◌, ◌∙◌, sym, ap, subst, refl, ℕ, Bool, true, false, List, [], ◌∷◌, arith, inl, inr}
+use Rattle.std.specs.Prelude.{Option, None, Some, Contains, ◌⊎◌, if◌then◌else◌}
 use Rattle.std.specs.List.{list_all}
+use Rattle.sd_base.specs.Causes.{Rose}
+use Rattle.sd_base.specs.Outside.{WhereTold}
 use Rattle.sd_ast.specs.declared.Program.{Program}
 use Rattle.sd_parse.specs.Text.{IsRead}
-use Rattle.sd_base.specs.Causes.{Rose}
-use Rattle.sd_rounds.specs.declared.settle.Death.{Death}
 use Rattle.symdiff.specs.declared.verdict.PairVerdict.{PairVerdict}
-use Rattle.symdiff.specs.Words.{JobNames, job_of}
+use Rattle.symdiff.specs.Words.{JobNames, replay, job_of}
 use Rattle.symdiff.specs.Report.{is_safe}
-use Rattle.symdiff.specs.Verdicts.{Compared, NoNewFailure, AreNewFailures}
-use Rattle.symdiff.specs.Answer.{Answer, no_job, old_refused, new_refused, done, ForPrograms, Headline, UnknownIsFailure, NoPairs, status_of}
-use Rattle.symdiff.proofs.Comparison.{compared_safe, compared_unknown, one_program_read}
+use Rattle.symdiff.specs.Texts.{Holds, Texts, AreRead}
+use Rattle.symdiff.specs.Outcome.{Outcome, message, status_of}
+use Rattle.symdiff.specs.Replies.{IsReplayReply}
+use Rattle.symdiff.specs.Verdicts.{NoNewFailure, AreNewFailures}
+use Rattle.symdiff.specs.Answer.{Answer, no_job, old_refused, new_refused, compared, too_long, certificate_refused, replayed, ForPrograms, Headline, UnknownIsFailure}
+use Rattle.symdiff.proofs.Comparison.{compared_right, replayed_right, right_safe, right_unknown, one_program_read}
 
 abbrev codes_known : List ℕ
-codes_known = 0 ∷ 1 ∷ 2 ∷ 3 ∷ 6 ∷ 7 ∷ 8 ∷ []
+codes_known = 0 ∷ 1 ∷ 2 ∷ 3 ∷ 5 ∷ 6 ∷ 7 ∷ 8 ∷ 9 ∷ []
 
 pub six_known : Contains codes_known 6
-six_known = (4, omega arith, refl)
+six_known = (5, omega arith, refl)
 
 pub seven_known : Contains codes_known 7
-seven_known = (5, omega arith, refl)
+seven_known = (6, omega arith, refl)
 
 pub eight_known : Contains codes_known 8
-eight_known = (6, omega arith, refl)
+eight_known = (7, omega arith, refl)
 
 pub known_by : (code m : ℕ) → code ≡ m → Contains codes_known m → Contains codes_known code
 known_by code m e h = subst (λ (n : ℕ). Contains codes_known n) (sym e) h
@@ -32,48 +35,88 @@ zero_or_one : (b : Bool) → Contains codes_known (if b then 0 else 1)
 zero_or_one true = (0, omega arith, refl)
 zero_or_one false = (1, omega arith, refl)
 
-module _ (words : List (List ℕ)) (held : List ℕ → Option (List ℕ)) (code : ℕ) (text : List ℕ) (pairs : List PairVerdict) (table : List ℕ) (deaths : List Death) where
+status_is : (o : Outcome) (code : ℕ) (text : List ℕ) → o ≡ message code text → o.status ≡ code
+status_is o code text e = ap (λ (p : Outcome). p.status) e
+
+module _ (words : List (List ℕ)) (held : List ℕ → Option (List ℕ)) (o : Outcome) where
   -- the status of a row is a known one
-  pub row_known : Answer words held code text pairs table deaths → Contains codes_known code
-  row_known (no_job a is b c) = known_by code 2 is (2, omega arith, refl)
-  row_known (old_refused job a b is c d) = known_by code 3 is (3, omega arith, refl)
-  row_known (new_refused job old a b c is d e) = known_by code 3 is (3, omega arith, refl)
-  row_known (done job old new a b c d is e) = known_by code (status_of pairs) is (zero_or_one (list_all (λ v. is_safe v.state) pairs))
+  pub row_known : Answer words held o → Contains codes_known o.status
+  row_known (no_job a is) = known_by o.status 2 (status_is o 2 _ is) (2, omega arith, refl)
+  row_known (old_refused job a b is) = known_by o.status 3 (status_is o 3 _ is) (3, omega arith, refl)
+  row_known (new_refused job old a b c is) = known_by o.status 3 (status_is o 3 _ is) (3, omega arith, refl)
+  row_known (compared job t name a b c r) = known_by o.status (status_of o.pairs) r.told.status (zero_or_one (list_all (λ v. is_safe v.state) o.pairs))
+  row_known (too_long job t name a b c d is) = known_by o.status 9 (status_is o 9 _ is) (8, omega arith, refl)
+  row_known (certificate_refused job t name bytes e a b c d r is) = known_by o.status 5 (status_is o 5 _ is) (4, omega arith, refl)
+  row_known (replayed job t name bytes a b c d r) = known_by o.status (status_of o.pairs) r.told.status (zero_or_one (list_all (λ v. is_safe v.state) o.pairs))
 
   same_job : (a b : JobNames) → job_of words ≡ Some a → job_of words ≡ Some b → a ≡ b
   same_job a b one other = let e : ◌≡◌ {A = Option JobNames} (Some a) (Some b) = sym one ∙ other in cc
 
-  -- what holds of the pairs of any two compared programs, and of no pairs, holds of each row for the programs of the told files
-  row_for : (claim : Program → Program → List PairVerdict → Type 0) → ((P Q : Program) → claim P Q [])
-      → ((P Q : Program) (bytes bytes' : List ℕ) → IsRead bytes P → IsRead bytes' Q → Compared P Q pairs table deaths → claim P Q pairs)
-      → Answer words held code text pairs table deaths → ForPrograms words held (λ P Q. claim P Q pairs)
-  row_for claim none some (no_job a is b n) j m ob ot nb nt P Q s t = subst (λ (vs : List PairVerdict). claim P Q vs) (sym n.no_pair) (none P Q)
-  row_for claim none some (old_refused job a b is c n) j m ob ot nb nt P Q s t = subst (λ (vs : List PairVerdict). claim P Q vs) (sym n.no_pair) (none P Q)
-  row_for claim none some (new_refused job old a b c is d n) j m ob ot nb nt P Q s t = subst (λ (vs : List PairVerdict). claim P Q vs) (sym n.no_pair) (none P Q)
-  row_for claim none some (done job old new named spelled spelled' compared is e) j m ob ot nb nt P Q s t =
-      let same : job ≡ j = same_job job j named m in
-      let o : old ≡ P = one_program_read ob old P (spelled ob (ap (λ (k : JobNames). held k.old) same ∙ ot)) s in
-      let w : new ≡ Q = one_program_read nb new Q (spelled' nb (ap (λ (k : JobNames). held k.new) same ∙ nt)) t in
-      some P Q ob nb s t (subst (λ (q : Program). Compared P q pairs table deaths) w (subst (λ (p : Program). Compared p new pairs table deaths) o compared))
+  -- what holds of no pairs, and of the pairs of any two texts that are compared or have a certificate, holds of each row for the
+  -- programs of the told files
+  module _ (claim : Program → Program → List PairVerdict → Type 0) (none : (P Q : Program) → claim P Q []) where
+    silent_for : (code : ℕ) (text : List ℕ) → o ≡ message code text → ForPrograms words held (λ P Q. claim P Q o.pairs)
+    silent_for code text is j m ob ot nb nt P Q s t = subst (λ (p : Outcome). claim P Q p.pairs) (sym is) (none P Q)
+
+    texts_for : (job : JobNames) (t : Texts) → job_of words ≡ Some job → AreRead held job t → claim t.old t.new o.pairs → ForPrograms words held (λ P Q. claim P Q o.pairs)
+    texts_for job t named read h j m ob ot nb nt P Q s u =
+        let same : job ≡ j = same_job job j named m in
+        let old_same : ob ≡ t.old_bytes = read.old_held ob (ap (λ (k : JobNames). held k.old) same ∙ ot) in
+        let new_same : nb ≡ t.new_bytes = read.new_held nb (ap (λ (k : JobNames). held k.new) same ∙ nt) in
+        let old_is : t.old ≡ P = one_program_read t.old_bytes t.old P read.old_read (subst (λ (b : List ℕ). IsRead b P) old_same s) in
+        let new_is : t.new ≡ Q = one_program_read t.new_bytes t.new Q read.new_read (subst (λ (b : List ℕ). IsRead b Q) new_same u) in
+        subst (λ (q : Program). claim P q o.pairs) new_is (subst (λ (p : Program). claim p t.new o.pairs) old_is h)
 
   -- the headline holds of each row
-  pub row_headline : Answer words held code text pairs table deaths → Headline words held pairs
-  row_headline a = row_for NoNewFailure (λ P Q. tt) (λ P Q bytes bytes' s t compared. compared_safe P Q pairs table deaths bytes bytes' s t compared) a
+  pub row_headline : Answer words held o → Headline words held o.pairs
+  row_headline (no_job a is) = silent_for NoNewFailure (λ P Q. tt) 2 _ is
+  row_headline (old_refused job a b is) = silent_for NoNewFailure (λ P Q. tt) 3 _ is
+  row_headline (new_refused job old a b c is) = silent_for NoNewFailure (λ P Q. tt) 3 _ is
+  row_headline (compared job t name a b c r) =
+      texts_for NoNewFailure (λ P Q. tt) job t a c (right_safe t c.old_read c.new_read o.pairs (compared_right t c.old_read c.new_read name o r))
+  row_headline (too_long job t name a b c d is) = silent_for NoNewFailure (λ P Q. tt) 9 _ is
+  row_headline (certificate_refused job t name bytes e a b c d r is) = silent_for NoNewFailure (λ P Q. tt) 5 _ is
+  row_headline (replayed job t name bytes a b c d r) =
+      texts_for NoNewFailure (λ P Q. tt) job t a c (right_safe t c.old_read c.new_read o.pairs (replayed_right t c.old_read c.new_read bytes o r))
 
   -- and an unknown pair has a failure
-  pub row_unknown : Answer words held code text pairs table deaths → UnknownIsFailure words held pairs
-  row_unknown a = row_for AreNewFailures (λ P Q. tt) (λ P Q bytes bytes' s t compared. compared_unknown P Q pairs table deaths bytes bytes' s t compared) a
+  pub row_unknown : Answer words held o → UnknownIsFailure words held o.pairs
+  row_unknown (no_job a is) = silent_for AreNewFailures (λ P Q. tt) 2 _ is
+  row_unknown (old_refused job a b is) = silent_for AreNewFailures (λ P Q. tt) 3 _ is
+  row_unknown (new_refused job old a b c is) = silent_for AreNewFailures (λ P Q. tt) 3 _ is
+  row_unknown (compared job t name a b c r) =
+      texts_for AreNewFailures (λ P Q. tt) job t a c (right_unknown t c.old_read c.new_read o.pairs (compared_right t c.old_read c.new_read name o r))
+  row_unknown (too_long job t name a b c d is) = silent_for AreNewFailures (λ P Q. tt) 9 _ is
+  row_unknown (certificate_refused job t name bytes e a b c d r is) = silent_for AreNewFailures (λ P Q. tt) 5 _ is
+  row_unknown (replayed job t name bytes a b c d r) =
+      texts_for AreNewFailures (λ P Q. tt) job t a c (right_unknown t c.old_read c.new_read o.pairs (replayed_right t c.old_read c.new_read bytes o r))
 
-  pub none_headline : NoPairs pairs table deaths → Headline words held pairs
-  none_headline n j m ob ot nb nt P Q s t = subst (λ (vs : List PairVerdict). NoNewFailure P Q vs) (sym n.no_pair) tt
+-- ---- rows
 
-  pub none_unknown : NoPairs pairs table deaths → UnknownIsFailure words held pairs
-  none_unknown n j m ob ot nb nt P Q s t = subst (λ (vs : List PairVerdict). AreNewFailures P Q vs) (sym n.no_pair) tt
+-- what was read, while the files stay
+pub are_read : (held : List ℕ → Option (List ℕ)) (told : Option (List ℕ)) (job : JobNames) (t : Texts) → told ≡ held job.new → Holds (held job.old) t.old_bytes → IsRead t.old_bytes t.old → Holds told t.new_bytes → IsRead t.new_bytes t.new → AreRead held job t
+are_read held told job t stay old_held old_read new_held new_read = record {
+  old_held = old_held;
+  new_held = λ bytes e. new_held bytes (stay ∙ e);
+  old_read = old_read;
+  new_read = new_read;
+}
 
--- what follows from three things that are said of the value in an `Ok`
-pub all_ok : {T E : Type 0} (r : Result T E) {P Q R S : T → Type 0} → IfOk r P → IfOk r Q → IfOk r R → ((x : T) → P x → Q x → R x → S x) → IfOk r S
-all_ok (Ok x) h k l f = f x h k l
-all_ok (Err e) h k l f = tt
+-- a held text that is read
+pub told_read : (told : Option (List ℕ)) (bytes : List ℕ) (P : Program) → Holds told bytes → IsRead bytes P → WhereTold told (λ b. IsRead b P)
+told_read told bytes P h r b e = subst (λ (x : List ℕ). IsRead x P) (sym (h b e)) r
+
+pub replay_row : (words : List (List ℕ)) (held : List ℕ → Option (List ℕ)) (o : Outcome) (job : JobNames) (t : Texts) (name : List ℕ) (told : Option (List ℕ)) → job_of words ≡ Some job → job.task ≡ replay name → AreRead held job t → told ≡ held name → IsReplayReply told t o → Answer words held o
+replay_row words held o job t name told named task read same (inl h) = too_long job t name named task read (λ bytes e. h.0 bytes (same ∙ e)) h.1
+replay_row words held o job t name told named task read same (inr (bytes, holds, inl r)) = replayed job t name bytes named task read (λ b e. holds b (same ∙ e)) r
+replay_row words held o job t name told named task read same (inr (bytes, holds, inr (e, r, is))) = certificate_refused job t name bytes e named task read (λ b k. holds b (same ∙ k)) r is
+
+-- no pairs have no new failure
+pub none_headline : (words : List (List ℕ)) (held : List ℕ → Option (List ℕ)) (pairs : List PairVerdict) → pairs ≡ [] → Headline words held pairs
+none_headline words held pairs e j m ob ot nb nt P Q s t = subst (λ (vs : List PairVerdict). NoNewFailure P Q vs) (sym e) tt
+
+pub none_unknown : (words : List (List ℕ)) (held : List ℕ → Option (List ℕ)) (pairs : List PairVerdict) → pairs ≡ [] → UnknownIsFailure words held pairs
+none_unknown words held pairs e j m ob ot nb nt P Q s t = subst (λ (vs : List PairVerdict). AreNewFailures P Q vs) (sym e) tt
 
 -- a count that rose later rose
 pub rose_later : (before mid now : ℕ) → mid ≡ before → Rose mid now → Rose before now

@@ -17,7 +17,7 @@ use Rattle.sd_rounds.specs.declared.settle.Cause.{Cause}
 use Rattle.sd_rounds.specs.declared.settle.Cause.TheVariants.{Open}
 use Rattle.sd_rounds.specs.declared.settle.Death.{Death}
 use Rattle.sd_rounds.specs.Table.{cleared, live_from}
-use Rattle.sd_rounds.specs.Settled.{dead_of, proved_of, IsCause, IsLegalDeath, AreLegal, IsHow, IsProved, IsSettled}
+use Rattle.sd_rounds.specs.Settled.{dead_of, proved_of, IsCause, IsLegalDeath, AreLegal, IsHow, IsProved, IsInductive, IsSettled}
 
 contains_head : {X : Type 0} (x : X) (xs : List X) → Contains (x ∷ xs) x
 contains_head x xs = (0, omega arith, refl)
@@ -70,15 +70,18 @@ pub record HasCube (facts : List Tree) : Type 0 where
 cube_of : (facts : List Tree) (cause : Cause) → IsCause facts cause → HasCube facts
 cube_of facts (Open cube) h = record { cube = cube; «open» = h }
 
+-- the query of a live candidate has a proof
+pub live_proved : (queries : List (List Tree)) (table : List Bool) (proofs : List Proved) → IsInductive queries table proofs → (c : ℕ) (facts : List Tree) → slice_get table c ≡ Some true → slice_get queries c ≡ Some facts → HasProof facts
+live_proved queries table proofs inductive c facts live query =
+    let number : Contains (live_from 0 table) c = let h : 0 + c ≡ c = omega arith in subst (λ (k : ℕ). Contains (live_from 0 table) k) h (live_contains 0 table c live) in
+    let e : Entry queries c = entry_of queries proofs c inductive.proved (subst (λ (ks : List ℕ). Contains ks c) (sym inductive.numbers) number) in
+    let same : e.proved.facts ≡ facts = some_is e.proved.facts facts (sym e.proved.query ∙ (ap (λ k. slice_get queries k) e.named ∙ query)) in
+    subst (λ (fs : List Tree). HasProof fs) same (steps_of e.proved.facts e.entry.how e.proved.how)
+
 module _ (queries : List (List Tree)) (table : List Bool) (deaths : List Death) (proofs : List Proved) (settled : IsSettled queries table deaths proofs) where
-  -- the query of a live candidate has a proof
-  pub live_proved : (c : ℕ) (facts : List Tree) → slice_get table c ≡ Some true → slice_get queries c ≡ Some facts → HasProof facts
-  live_proved c facts live query =
-      let whole : take (length queries) table ≡ table = take_all (length queries) table (omega (arith, settled.0)) in
-      let number : Contains (live_from 0 table) c = let h : 0 + c ≡ c = omega arith in subst (λ (k : ℕ). Contains (live_from 0 table) k) h (live_contains 0 table c live) in
-      let e : Entry queries c = entry_of queries proofs c settled.1.inductive.proved (subst (λ (ks : List ℕ). Contains ks c) (sym (settled.1.inductive.numbers ∙ ap (live_from 0) whole)) number) in
-      let same : e.proved.facts ≡ facts = some_is e.proved.facts facts (sym e.proved.query ∙ (ap (λ k. slice_get queries k) e.named ∙ query)) in
-      subst (λ (fs : List Tree). HasProof fs) same (steps_of e.proved.facts e.entry.how e.proved.how)
+  -- the whole table stands on the proofs
+  pub settled_inductive : IsInductive queries table proofs
+  settled_inductive = subst (λ (t : List Bool). IsInductive queries t proofs) (take_all (length queries) table (omega (arith, settled.0))) settled.1.inductive
 
   -- ---- dead candidates
 

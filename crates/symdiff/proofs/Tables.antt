@@ -7,6 +7,7 @@ use Rattle.std.proofs.lemmas.Option.{get_or_from_slice_get}
 use Rattle.sd_product.specs.declared.straight.Straight.{Straight}
 use Rattle.sd_product.specs.Straight.{queries_of}
 use Rattle.symdiff.specs.declared.verdict.PairVerdict.{PairVerdict}
+use Rattle.symdiff.specs.declared.verdict.VerdictState.{VerdictState}
 use Rattle.symdiff.specs.Verdicts.{any_live, verdict_of, verdicts_of}
 
 front_of : (t : List Bool) (c end : ℕ) → c < end → c < length t → take (end - c) (drop c t) ≡ get_or t c false ∷ take (end - (c + 1)) (drop (c + 1) t)
@@ -44,13 +45,13 @@ drop-drop (suc m) (suc n) [] = drop_none (suc n + suc m)
     drop_none (suc k) = refl
 drop-drop m (suc n) (x ∷ xs) = let e : suc n + m ≡ suc (n + m) = omega arith in drop-drop m n xs ∙ ap (λ k. drop k (x ∷ xs)) (sym e)
 
-pub record PairStep (pairs : List Straight) (table : List Bool) (i : ℕ) (pair : Straight) (first end : ℕ) : Type 0 where
+pub record PairStep (otherwise : VerdictState) (pairs : List Straight) (table : List Bool) (i : ℕ) (pair : Straight) (first end : ℕ) : Type 0 where
   pub left : end + length (queries_of (drop (i + 1) pairs)) ≡ first + length (queries_of (drop i pairs))
-  pub front : verdicts_of (drop i pairs) (drop first table) ≡ verdict_of pair (take (length pair.queries) (drop first table)) ∷ verdicts_of (drop (i + 1) pairs) (drop end table)
+  pub front : verdicts_of otherwise (drop i pairs) (drop first table) ≡ verdict_of otherwise pair (take (length pair.queries) (drop first table)) ∷ verdicts_of otherwise (drop (i + 1) pairs) (drop end table)
 
 -- a pair more
-pub pair_step : (pairs : List Straight) (table : List Bool) (i : ℕ) (pair : Straight) (first end : ℕ) → i < length pairs → pair ≡ get_or pairs i pair → first + length pair.queries ≡ end → PairStep pairs table i pair first end
-pair_step pairs table i pair first end within at sum =
+pub pair_step : (otherwise : VerdictState) (pairs : List Straight) (table : List Bool) (i : ℕ) (pair : Straight) (first end : ℕ) → i < length pairs → pair ≡ get_or pairs i pair → first + length pair.queries ≡ end → PairStep otherwise pairs table i pair first end
+pair_step otherwise pairs table i pair first end within at sum =
     let next : suc i ≡ i + 1 = omega arith in
     let cut : drop i pairs ≡ pair ∷ drop (i + 1) pairs = drop-cons pairs i pair within ∙ (ap (λ p. p ∷ drop (suc i) pairs) (sym at) ∙ ap (λ n. pair ∷ drop n pairs) next) in
     let all : queries_of (drop i pairs) ≡ pair.queries ++ queries_of (drop (i + 1) pairs) = ap queries_of cut ∙ flat_map-cons (λ s. s.queries) pair (drop (i + 1) pairs) in
@@ -58,13 +59,13 @@ pair_step pairs table i pair first end within at sum =
     record {
       left = omega arith;
       front =
-          ap (λ ps. verdicts_of ps (drop first table)) cut
-          ∙ ap (λ t. verdict_of pair (take (length pair.queries) (drop first table)) ∷ verdicts_of (drop (i + 1) pairs) t) (drop-drop (length pair.queries) first table ∙ ap (λ n. drop n table) sum);
+          ap (λ ps. verdicts_of otherwise ps (drop first table)) cut
+          ∙ ap (λ t. verdict_of otherwise pair (take (length pair.queries) (drop first table)) ∷ verdicts_of otherwise (drop (i + 1) pairs) t) (drop-drop (length pair.queries) first table ∙ ap (λ n. drop n table) sum);
     }
 
-pub verdict_more : (pairs : List Straight) (table : List Bool) (i first end : ℕ) (pair : Straight) (v : PairVerdict) (done next : List PairVerdict) → PairStep pairs table i pair first end
-    → verdicts_of pairs table ≡ done ++ verdicts_of (drop i pairs) (drop first table) → v ≡ verdict_of pair (take (length pair.queries) (drop first table)) → next ≡ done ++ v ∷ []
-    → verdicts_of pairs table ≡ next ++ verdicts_of (drop (i + 1) pairs) (drop end table)
-verdict_more pairs table i first end pair v done next step before is added =
-    before ∙ (ap (λ vs. done ++ vs) (step.front ∙ ap (λ w. w ∷ verdicts_of (drop (i + 1) pairs) (drop end table)) (sym is))
-    ∙ (sym (append_assoc done (v ∷ []) (verdicts_of (drop (i + 1) pairs) (drop end table))) ∙ ap (λ vs. vs ++ verdicts_of (drop (i + 1) pairs) (drop end table)) (sym added)))
+pub verdict_more : (otherwise : VerdictState) (pairs : List Straight) (table : List Bool) (i first end : ℕ) (pair : Straight) (v : PairVerdict) (done next : List PairVerdict) → PairStep otherwise pairs table i pair first end
+    → verdicts_of otherwise pairs table ≡ done ++ verdicts_of otherwise (drop i pairs) (drop first table) → v ≡ verdict_of otherwise pair (take (length pair.queries) (drop first table)) → next ≡ done ++ v ∷ []
+    → verdicts_of otherwise pairs table ≡ next ++ verdicts_of otherwise (drop (i + 1) pairs) (drop end table)
+verdict_more otherwise pairs table i first end pair v done next step before is added =
+    before ∙ (ap (λ vs. done ++ vs) (step.front ∙ ap (λ w. w ∷ verdicts_of otherwise (drop (i + 1) pairs) (drop end table)) (sym is))
+    ∙ (sym (append_assoc done (v ∷ []) (verdicts_of otherwise (drop (i + 1) pairs) (drop end table))) ∙ ap (λ vs. vs ++ verdicts_of otherwise (drop (i + 1) pairs) (drop end table)) (sym added)))

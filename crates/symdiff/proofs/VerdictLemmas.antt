@@ -23,6 +23,7 @@ use Rattle.sd_product.specs.Query.{query_of}
 use Rattle.sd_product.specs.Laws.{IsPair}
 use Rattle.sd_product.specs.Straight.{same_types, straight_of, straights_of, queries_of}
 use Rattle.symdiff.specs.declared.verdict.PairVerdict.{PairVerdict}
+use Rattle.symdiff.specs.declared.verdict.VerdictState.{VerdictState}
 use Rattle.symdiff.specs.declared.verdict.VerdictState.TheVariants.{Safe, Unknown, Signature}
 use Rattle.symdiff.specs.Verdicts.{any_live, verdict_of, verdicts_of}
 
@@ -131,9 +132,9 @@ module _ (P Q : Program) (old_boolean : IsBooleanProgram P) (new_boolean : IsBoo
   IsRight v = (v.state ≡ Safe → NewFailure P Q v.old v.new → ⊥) × (v.state ≡ Unknown → NewFailure P Q v.old v.new)
 
   -- a live candidate makes its pair safe, and a dead one with equal inputs shows a failure
-  module _ (Live Dead : List Tree → Type 0)
+  module _ (otherwise : VerdictState) (not_safe : otherwise ≡ Safe → ⊥) (Live Dead : List Tree → Type 0)
       (safe : (p q : Proc) (c : Candidate) → IsPair P Q p.head.name q.head.name p q → Live (query_of c p q) → NewFailure P Q p.head.name q.head.name → ⊥)
-      (failure : (p q : Proc) → IsPair P Q p.head.name q.head.name p q → Dead (query_of EqualInputs p q) → NewFailure P Q p.head.name q.head.name) where
+      (failure : otherwise ≡ Unknown → (p q : Proc) → IsPair P Q p.head.name q.head.name p q → Dead (query_of EqualInputs p q) → NewFailure P Q p.head.name q.head.name) where
     -- the candidates of these queries are live or dead as the table says
     record Tells (queries : List (List Tree)) (table : List Bool) : Type 0 where
       size : length table ≡ length queries
@@ -142,12 +143,12 @@ module _ (P Q : Program) (old_boolean : IsBooleanProgram P) (new_boolean : IsBoo
 
     -- the verdict of two procedures with as many parameters
     right_open : (p q : Proc) (table : List Bool) → IsPair P Q p.head.name q.head.name p q → Tells (query_of NoCondition p q ∷ query_of EqualInputs p q ∷ []) (take 2 table)
-        → IsRight (record { old = p.head.name; new = q.head.name; state = if any_live (take 2 table) then Safe else Unknown; equal = false })
+        → IsRight (record { old = p.head.name; new = q.head.name; state = if any_live (take 2 table) then Safe else otherwise; equal = false })
     right_open p q [] pair tells = absurd (let e = tells.size in omega arith)
     right_open p q (x ∷ []) pair tells = absurd (let e = tells.size in omega arith)
     right_open p q (true ∷ y ∷ table) pair tells = (λ is f. safe p q NoCondition pair (tells.live 0 (query_of NoCondition p q) refl refl) f, λ bad. absurd (cc))
     right_open p q (false ∷ true ∷ table) pair tells = (λ is f. safe p q EqualInputs pair (tells.live 1 (query_of EqualInputs p q) refl refl) f, λ bad. absurd (cc))
-    right_open p q (false ∷ false ∷ table) pair tells = (λ bad f. absurd (cc), λ is. failure p q pair (tells.dead 1 (query_of EqualInputs p q) refl refl))
+    right_open p q (false ∷ false ∷ table) pair tells = (λ bad f. not_safe bad, λ is. failure is p q pair (tells.dead 1 (query_of EqualInputs p q) refl refl))
 
     -- ---- lists of pairs
 
@@ -198,21 +199,21 @@ module _ (P Q : Program) (old_boolean : IsBooleanProgram P) (new_boolean : IsBoo
 
     -- the verdict of a pair
     right_pair : (p q : Proc) (table : List Bool) (b : Bool) → same_types p q ≡ b → procedure_in P.decls p.head.name ≡ Some p → procedure_in Q.decls q.head.name ≡ Some q
-        → Tells (straight_of p q).queries (take (length (straight_of p q).queries) table) → IsRight (verdict_of (straight_of p q) (take (length (straight_of p q).queries) table))
+        → Tells (straight_of p q).queries (take (length (straight_of p q).queries) table) → IsRight (verdict_of otherwise (straight_of p q) (take (length (straight_of p q).queries) table))
     right_pair p q table true same found found' tells =
         let pair : IsPair P Q p.head.name q.head.name p q = record { old_boolean = old_boolean; new_boolean = new_boolean; old_found = found; new_found = found'; same_count = grind (arith, nat_tests, same) } in
         let R : Bool → Type 0 = λ b. Tells (if b then query_of NoCondition p q ∷ query_of EqualInputs p q ∷ [] else []) (take (length (if b then query_of NoCondition p q ∷ query_of EqualInputs p q ∷ [] else [])) table)
-        → IsRight (record { old = p.head.name; new = q.head.name; state = if not b then Signature else if any_live (take (length (if b then query_of NoCondition p q ∷ query_of EqualInputs p q ∷ [] else [])) table) then Safe else Unknown; equal = false }) in
+        → IsRight (record { old = p.head.name; new = q.head.name; state = if not b then Signature else if any_live (take (length (if b then query_of NoCondition p q ∷ query_of EqualInputs p q ∷ [] else [])) table) then Safe else otherwise; equal = false }) in
         subst R (sym same) (λ t. right_open p q table pair t) tells
     right_pair p q table false same found found' tells =
-        let R : Bool → Type 0 = λ b. IsRight (record { old = p.head.name; new = q.head.name; state = if not b then Signature else if any_live (take (length (if b then query_of NoCondition p q ∷ query_of EqualInputs p q ∷ [] else [])) table) then Safe else Unknown; equal = false }) in
+        let R : Bool → Type 0 = λ b. IsRight (record { old = p.head.name; new = q.head.name; state = if not b then Signature else if any_live (take (length (if b then query_of NoCondition p q ∷ query_of EqualInputs p q ∷ [] else [])) table) then Safe else otherwise; equal = false }) in
         subst R (sym same) (λ bad. absurd (cc), λ bad. absurd (cc))
 
-    verdicts_right : (pairs : List Straight) (table : List Bool) → AllByRecursion IsOf pairs → Tells (queries_of pairs) table → AllByRecursion IsRight (verdicts_of pairs table)
+    verdicts_right : (pairs : List Straight) (table : List Bool) → AllByRecursion IsOf pairs → Tells (queries_of pairs) table → AllByRecursion IsRight (verdicts_of otherwise pairs table)
     verdicts_right [] table a t = tt
     verdicts_right (s ∷ ss) table a t =
         let cut : Tells (s.queries ++ queries_of ss) table = subst (λ (qs : List (List Tree)). Tells qs table) (flat_map-cons (λ x. x.queries) s ss) t in
-        let V : Straight → Type 0 = λ x. Tells x.queries (take (length x.queries) table) → IsRight (verdict_of x (take (length x.queries) table)) in (
+        let V : Straight → Type 0 = λ x. Tells x.queries (take (length x.queries) table) → IsRight (verdict_of otherwise x (take (length x.queries) table)) in (
           subst V (sym a.0.is) (right_pair a.0.p a.0.q table (same_types a.0.p a.0.q) refl a.0.old_found a.0.new_found) (tells_front s.queries (queries_of ss) table cut),
           verdicts_right ss (drop (length s.queries) table) a.1 (tells_back s.queries (queries_of ss) table cut),
         )
@@ -221,5 +222,5 @@ module _ (P Q : Program) (old_boolean : IsBooleanProgram P) (new_boolean : IsBoo
     pub all_right : (table : List Bool) → (length table ≡ length (queries_of (straights_of P.decls Q.decls)))
         → ((c : ℕ) (facts : List Tree) → slice_get table c ≡ Some true → slice_get (queries_of (straights_of P.decls Q.decls)) c ≡ Some facts → Live facts)
         → ((c : ℕ) (facts : List Tree) → slice_get table c ≡ Some false → slice_get (queries_of (straights_of P.decls Q.decls)) c ≡ Some facts → Dead facts)
-        → AllByRecursion IsRight (verdicts_of (straights_of P.decls Q.decls) table)
+        → AllByRecursion IsRight (verdicts_of otherwise (straights_of P.decls Q.decls) table)
     all_right table size live dead = verdicts_right (straights_of P.decls Q.decls) table (all_of P.decls old_boolean.decls (λ p i. i)) (record { size = size; live = live; dead = dead })

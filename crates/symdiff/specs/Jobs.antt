@@ -1,5 +1,5 @@
 -- The job of the code, as its names.
-use Rattle.std.specs.Prelude.{None, Some}
+use Rattle.std.specs.Option.{option_copied}
 use Rattle.symdiff.specs.declared.words.Task.{Task}
 use Rattle.symdiff.specs.declared.words.Task.TheVariants.{Verify, Replay}
 use Rattle.symdiff.specs.declared.words.Job.{Job}
@@ -7,8 +7,7 @@ use Rattle.symdiff.specs.Words.{JobNames, verify, replay}
 use Rattle.symdiff.specs.Words as words
 
 abbrev pub task_of : Task → words.Task
-task_of (Verify None) = verify None
-task_of (Verify (Some name)) = verify (Some name.now)
+task_of (Verify name) = verify (option_copied name)
 task_of (Replay name) = replay name.now
 
 abbrev pub names_of : Job → JobNames

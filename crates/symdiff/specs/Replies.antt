@@ -1,12 +1,14 @@
 -- The texts and the reply of the code, as they are spoken of.
 use Rattle.std.specs.Prelude.{◌≡◌, ◌⊎◌, ◌<◌, ℕ, List, Option, None, Some, length}
 use Rattle.sd_kernel.specs.declared.proved.Proved.{Proved}
+use Rattle.sd_rounds.specs.declared.settle.Death.{Death}
 use Rattle.sd_product.specs.declared.straight.Straight.{Straight}
 use Rattle.sd_cert.specs.declared.fault.CertError.{CertError}
 use Rattle.sd_cert.specs.Written.{IsWritten}
 use Rattle.sd_base.specs.Outside.{WhereTold}
 use Rattle.symdiff.specs.declared.text.Text.{Text}
 use Rattle.symdiff.specs.declared.reply.NamedCertificate.{NamedCertificate}
+use Rattle.symdiff.specs.declared.reply.Report.{Report}
 use Rattle.symdiff.specs.declared.reply.Reply.{Reply}
 use Rattle.symdiff.specs.Texts.{Holds, Texts, digests_of}
 use Rattle.symdiff.specs.Outcome.{Outcome, message, IsReplay, IsRefused}
@@ -22,6 +24,10 @@ named (Some file) = Some (file.name.now, file.text.items)
 
 abbrev pub outcome_of : Reply → Outcome
 outcome_of reply = record { status = reply.status; text = reply.text.items; pairs = reply.pairs.items; table = reply.table.items; deaths = reply.deaths.items; certificate = named reply.certificate }
+
+-- a report, with these deaths and this certificate
+abbrev pub outcome_with : Report → List Death → Option (List ℕ × List ℕ) → Outcome
+outcome_with report deaths certificate = record { status = report.status; text = report.text.items; pairs = report.pairs.items; table = report.table.items; deaths = deaths; certificate = certificate }
 
 -- the certificate is made where a file is named for it
 abbrev pub IsMade : Texts → List Straight → List Proved → Option (List ℕ) → Option (List ℕ × List ℕ) → Type 0

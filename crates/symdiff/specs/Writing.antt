@@ -1,5 +1,6 @@
 -- What was written.
-use Rattle.std.specs.Prelude.{◌≡◌, ◌⊎◌, ℕ, List, Option, None, Some, length, take}
+use Rattle.std.specs.Prelude.{◌≡◌, ◌⊎◌, ℕ, List, [], Option, None, Some, length, take}
+use Rattle.sd_base.specs.Causes.{Rose}
 use Rattle.sd_base.specs.Outside.{appended, emptied, AllStay, OthersStay}
 use Rattle.symdiff.specs.declared.run.Ended.{Ended}
 use Rattle.symdiff.specs.declared.run.CertificateFile.{CertificateFile}
@@ -20,6 +21,14 @@ abbrev pub whole : Option (List ℕ × List ℕ) → CertificateFile
 whole None = Untouched
 whole (Some file) = Whole
 
+-- nothing is said of pairs, and no certificate was to be written
+pub record SaysNothing (e : Ended) : Type 0 where
+  pub no_pair : e.pairs.items ≡ []
+  pub no_word : e.table.items ≡ []
+  pub no_death : e.deaths.items ≡ []
+  pub no_certificate : e.certificate_length ≡ 0
+  pub no_file : e.certificate_file ≡ Untouched
+
 -- the certificate couldn't be written whole
 abbrev pub IsBroken : CertificateFile → Type 0
 IsBroken NotStarted = Unit {0}
@@ -33,6 +42,11 @@ FilesAfter held old new None _ = ⊥
 FilesAfter held old new (Some file) NotStarted = OthersStay held old new file.0
 FilesAfter held old new (Some file) Cut = OthersStay held old new file.0 × ((count : ℕ) × (held new file.0 ≡ appended (emptied (held old file.0)) (take count file.1)))
 FilesAfter held old new (Some file) Whole = OthersStay held old new file.0 × (held new file.0 ≡ appended (emptied (held old file.0)) file.1)
+
+-- the count of the certificate's file rose
+abbrev pub FileRose : Option (List ℕ × List ℕ) → (List ℕ → ℕ) → (List ℕ → ℕ) → Type 0
+FileRose None before now = ⊥
+FileRose (Some file) before now = Rose (before file.0) (now file.0)
 
 -- The writing was cut short: that of the certificate, and then nothing of the text was written; or that of the text, and then
 -- the certificate is whole.

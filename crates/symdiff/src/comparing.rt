@@ -1,18 +1,19 @@
 //! The comparison of two texts.
 ghost use Rattle.std.specs.Prelude.{◌≡◌, length, IfOk};
+ghost use Rattle.std.specs.Option.{option_copied};
 ghost use Rattle.sd_parse.specs.Text.{IsRead};
 ghost use Rattle.sd_product.specs.Inductive.{proved_of};
 ghost use Rattle.sd_product.specs.Straight.{queries_of};
 ghost use Rattle.sd_cert.specs.Accepts.{Ascend};
 ghost use Rattle.sd_cert.specs.Written.{RefusedAreEmpty};
 ghost use Rattle.symdiff.specs.Outcome.{IsComparison};
-ghost use Rattle.symdiff.specs.Replies.{outcome_of, texts_of, name_of, IsMade};
+ghost use Rattle.symdiff.specs.Replies.{outcome_of, texts_of, named, IsMade};
 
 use crate::reply::{NamedCertificate, Reply, report_on};
-use crate::text::Text;
+use crate::text::{Text, digests};
 use crate::verdict::VerdictState;
 use sd_base::NoMemory;
-use sd_cert::{digests_of, write_certificate};
+use sd_cert::write_certificate;
 use sd_kernel::Proved;
 use sd_product::{Straight, straight_pairs};
 use sd_rounds::settle_straight;
@@ -29,13 +30,12 @@ fn certify<'a>(
 ) -> Result<Option<NamedCertificate<'a>>, NoMemory>
     requires empty { RefusedAreEmpty straights.now }
     requires ascend { Ascend 0 (length (queries_of straights.now)) (proved_of proofs.now) }
-    ensures { IfOk result (IsMade (texts_of old.now new.now) straights.now proofs.now name) }
+    ensures { IfOk result (λ made. IsMade (texts_of old.now new.now) straights.now proofs.now (option_copied name.entry) (named made)) }
 {
     let Some(name) = name else {
         return Ok(None);
     };
-    let digests = digests_of(old.bytes.as_slice(), new.bytes.as_slice(), b"");
-    let text = write_certificate(alloc, straights, &digests, proofs)?;
+    let text = write_certificate(alloc, straights, &digests(old, new), proofs)?;
     Ok(Some(NamedCertificate { name, text }))
 }
 
@@ -48,13 +48,13 @@ pub fn compare<'a>(
 ) -> Result<Reply<'a>, NoMemory>
     requires old_read { IsRead old.now.bytes.items old.now.program }
     requires new_read { IsRead new.now.bytes.items new.now.program }
-    ensures { IfOk result (λ reply. IsComparison (name_of name) (texts_of old.now new.now) (outcome_of reply)) }
+    ensures { IfOk result (λ reply. IsComparison (option_copied name.entry) (texts_of old.now new.now) (outcome_of reply)) }
 {
     let straights = straight_pairs(alloc, &old.program, &new.program)?;
     let straights = straights.as_slice();
     let settled = settle_straight(alloc, straights)?;
     let certificate = certify(alloc, old, new, straights, settled.proofs.as_slice(), name)?;
-    let reply = report_on(
+    let report = report_on(
         alloc,
         old,
         new,
@@ -63,8 +63,11 @@ pub fn compare<'a>(
         VerdictState::Unknown,
     )?;
     Ok(Reply {
+        status: report.status,
+        text: report.text,
+        pairs: report.pairs,
+        table: report.table,
         deaths: settled.deaths,
         certificate,
-        ..reply
     })
 }

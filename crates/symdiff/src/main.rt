@@ -1,8 +1,13 @@
 //! The relative verifier: its words, its report, and the top call.
 #![tactic(auto)]
 
+mod answering;
+mod certificate_error;
+mod comparing;
 mod judge;
 mod real;
+mod replaying;
+mod reply;
 mod report;
 mod run;
 #[cfg(test)]

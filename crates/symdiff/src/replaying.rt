@@ -7,10 +7,10 @@ ghost use Rattle.symdiff.specs.Replies.{outcome_of, texts_of, refusal, IsJudged,
 
 use crate::certificate_error::certificate_error;
 use crate::reply::{Reply, Stop, message, report_on};
-use crate::text::Text;
+use crate::text::{Text, digests};
 use crate::verdict::VerdictState;
 use sd_base::{Files, NoMemory, ReadFault, read_up_to};
-use sd_cert::{CertError, digests_of, replay};
+use sd_cert::{CertError, replay};
 use sd_product::straight_pairs;
 use std::alloc::Global;
 
@@ -19,8 +19,11 @@ const CERTIFICATE_BYTES: usize = 9223372036854775807;
 
 /// The reply to bytes that are refused as a certificate.
 fn refuse<'a>(alloc: Global, fault: CertError) -> Result<Reply<'a>, NoMemory>
-    ensures { IfOk result (λ reply. outcome_of reply ≡ refusal fault) }
+    ensures { IfOk result (λ reply. (fault ≢ CertError.NoMemory) × (outcome_of reply ≡ refusal fault)) }
 {
+    if fault == CertError::NoMemory {
+        return Err(NoMemory);
+    }
     let line = certificate_error(alloc, fault)?;
     message(alloc, 5, line.as_slice())
 }
@@ -38,19 +41,26 @@ fn judge<'a>(
 {
     let straights = straight_pairs(alloc, &old.program, &new.program)?;
     let straights = straights.as_slice();
-    let digests = digests_of(old.bytes.as_slice(), new.bytes.as_slice(), b"");
-    match replay(alloc, straights, &digests, bytes) {
-        Ok(replayed) => report_on(
-            alloc,
-            old,
-            new,
-            straights,
-            &replayed.table,
-            VerdictState::Unproved,
-        ),
-        Err(CertError::NoMemory) => Err(NoMemory),
-        Err(fault) => refuse(alloc, fault),
-    }
+    let replayed = match replay(alloc, straights, &digests(old, new), bytes) {
+        Ok(replayed) => replayed,
+        Err(fault) => return refuse(alloc, fault),
+    };
+    let report = report_on(
+        alloc,
+        old,
+        new,
+        straights,
+        &replayed.table,
+        VerdictState::Unproved,
+    )?;
+    Ok(Reply {
+        status: report.status,
+        text: report.text,
+        pairs: report.pairs,
+        table: report.table,
+        deaths: Vec::new(alloc),
+        certificate: None,
+    })
 }
 
 /// Reads a certificate and judges it.

@@ -1,11 +1,12 @@
 //! What is to be written and said.
-ghost use Rattle.std.specs.Prelude.{◌≡◌, [], None, IfOk, length};
+ghost use Rattle.std.specs.Prelude.{◌≡◌, ℕ, List, Option, IfOk, length};
 ghost use Rattle.std.specs.List.{list_all};
 ghost use Rattle.symdiff.specs.Outcome as outcome;
 ghost use Rattle.symdiff.specs.Outcome.{IsReport};
+ghost use Rattle.sd_rounds.specs.declared.settle.Death.{Death};
 ghost use Rattle.sd_product.specs.Straight.{queries_of};
 ghost use Rattle.symdiff.specs.Texts.{pairs_of};
-ghost use Rattle.symdiff.specs.Replies.{outcome_of, texts_of};
+ghost use Rattle.symdiff.specs.Replies.{outcome_of, outcome_with, texts_of};
 ghost use Rattle.symdiff.specs.Report.{is_safe};
 
 use crate::judge::verdicts_of;
@@ -34,6 +35,15 @@ pub struct Reply<'a> {
     pub table: Vec<u64>,
     pub deaths: Vec<Death>,
     pub certificate: Option<NamedCertificate<'a>>,
+}
+
+/// A report, with the status and what is said of the pairs.
+#[derive(Drop)]
+pub struct Report {
+    pub status: u8,
+    pub text: Vec<u8>,
+    pub pairs: Vec<PairVerdict>,
+    pub table: Vec<u64>,
 }
 
 /// Why there is no reply.
@@ -84,29 +94,25 @@ fn status_of(pairs: &[PairVerdict]) -> u8
 
 /// The report on two texts whose pairs are these, from the table of live candidates. A pair without a live one is said
 /// to be `otherwise`.
-pub fn report_on<'a>(
+pub fn report_on(
     alloc: Global,
     old: &Text,
     new: &Text,
     straights: &[Straight],
     table: &LiveTable,
     otherwise: VerdictState,
-) -> Result<Reply<'a>, NoMemory>
+) -> Result<Report, NoMemory>
     requires pairs { straights.now ≡ pairs_of (texts_of old.now new.now) }
     requires size { length table.now ≡ length (queries_of straights.now) }
-    ensures report { IfOk result (λ reply. IsReport otherwise (texts_of old.now new.now) table.now (outcome_of reply)) }
-    ensures no_death { IfOk result (λ reply. reply.deaths.items ≡ []) }
-    ensures no_certificate { IfOk result (λ reply. reply.certificate ≡ None) }
+    ensures { IfOk result (λ report. (deaths : List Death) (certificate : Option (List ℕ × List ℕ)) → IsReport otherwise (texts_of old.now new.now) table.now (outcome_with report deaths certificate)) }
 {
     let pairs = verdicts_of(alloc, straights, table, otherwise)?;
     let text = report_of(alloc, &old.program, &new.program, pairs.as_slice())?;
     let status = status_of(pairs.as_slice());
-    Ok(Reply {
+    Ok(Report {
         status,
         text,
         pairs,
         table: table.words(alloc)?,
-        deaths: Vec::new(alloc),
-        certificate: None,
     })
 }

@@ -1,9 +1,9 @@
-ghost use Rattle.std.specs.Prelude.{◌≡◌, ◌≢◌, ◌⊎◌, [], ◌∷◌, ℕ, List, Option, Contains, map, string_bytes};
+ghost use Rattle.std.specs.Prelude.{◌≡◌, ◌≢◌, ◌⊎◌, ◌↔◌, [], ◌∷◌, ℕ, List, Option, Contains, IsTrue, map, string_bytes};
 ghost use Rattle.sd_base.specs.Causes.{Rose, AllSame};
 ghost use Rattle.sd_base.specs.Outside.{AllStay, appended};
-ghost use Rattle.symdiff.specs.declared.run.CertificateFile.TheVariants.{Untouched};
+ghost use Rattle.symdiff.specs.Replies.{named, outcome_of};
 ghost use Rattle.symdiff.specs.Answer.{Answer, Headline, UnknownIsFailure, ReadRose, CertificateWriteRose};
-ghost use Rattle.symdiff.specs.Writing.{outcome, certificate_size, whole, IsBroken, FilesAfter, IsCutShort, NoPairs};
+ghost use Rattle.symdiff.specs.Writing.{outcome, certificate_size, whole, IsBroken, FilesAfter, IsCutShort, FileRose, SaysNothing};
 
 use crate::answering::reply_to;
 use crate::reply::{NamedCertificate, Reply, Stop};
@@ -46,6 +46,13 @@ pub struct Ended {
     /// The length of the certificate that was to be written, or 0.
     pub certificate_length: u64,
     pub certificate_file: CertificateFile,
+}
+
+/// Whether the certificate couldn't be written whole.
+fn is_broken(file: CertificateFile) -> bool
+    ensures { IsTrue result ↔ IsBroken file }
+{
+    matches!(file, CertificateFile::NotStarted | CertificateFile::Cut)
 }
 
 /// Writes a certificate to its file, if there is one, and answers what became of the file.
@@ -93,11 +100,11 @@ fn length_of(certificate: &Option<NamedCertificate<'_>>) -> u64
 }
 
 /// How a run ends that came to this reply.
-fn ended(reply: Reply<'_>, code: u8, certificate_file: CertificateFile) -> Ended
+fn end_with(reply: Reply<'_>, code: u8, certificate_file: CertificateFile) -> Ended
     ensures status { result.status.code ≡ code }
     ensures file { result.certificate_file ≡ certificate_file }
-    ensures length { result.certificate_length ≡ certificate_size (named reply.certificate) }
-    ensures outcome { outcome reply.status reply.text.items (named reply.certificate) result ≡ outcome_of reply }
+    ensures length { result.certificate_length ≡ certificate_size (named reply.entry.certificate) }
+    ensures outcome { outcome reply.entry.status reply.entry.text.items (named reply.entry.certificate) result ≡ outcome_of reply.entry }
 {
     Ended {
         status: Status { code },
@@ -168,13 +175,13 @@ pub fn run<R: Threads + Sync, F: Files, S: Sink, G: Gate>(
     };
     let file = write_certificate(files, &reply.certificate);
     if is_broken(file) {
-        return ended(reply, 7, file);
+        return end_with(reply, 7, file);
     }
     match write_all(out, reply.text.as_slice()) {
         Ok(()) => {
             let code = reply.status;
-            ended(reply, code, file)
+            end_with(reply, code, file)
         }
-        Err(_) => ended(reply, 7, file),
+        Err(_) => end_with(reply, 7, file),
     }
 }

@@ -1,15 +1,23 @@
-use crate::run::{Ended, run};
-use sd_base::{MemFiles, MemSink, Name, OpenGate};
+use crate::run::{CertificateFile, Ended, run};
+use sd_base::{Files, MemFiles, MemSink, Name, OpenGate};
 use sd_rounds::Cause;
 use std::alloc::Global;
 use std::process::Abort;
 use std::test::Fail;
 use std::thread::Threads;
 
-const ROOM: usize = 200;
+const ROOM: usize = 600;
+
+const VERIFY: [&str; 3] = ["verify", "old", "new"];
+
+const CERTIFY: [&str; 5] = ["verify", "old", "new", "--certificate", "c"];
+
+const REPLAY: [&str; 4] = ["replay", "old", "new", "c"];
 
 /// A program over one truth value, which has a claim that stays.
 const ASSERTS_B: &[u8] = b"procedure p(b: bool) { assert b; }\n";
+
+const ASSERTS_NOT_NOT_B: &[u8] = b"procedure p(b: bool) { assert !!b; }\n";
 
 const ASSERTS_B_OF_TWO: &[u8] = b"procedure p(b: bool, c: bool) { assert b; }\n";
 
@@ -26,6 +34,26 @@ fn words_of(alloc: Global, words: &[&str]) -> Result<Vec<String>, Fail> {
     Ok(all)
 }
 
+/// The files `old`, `new` and `c`, none longer than the room, which fail at the calls of these numbers.
+fn files_of<R: Abort>(
+    rt: &R,
+    alloc: Global,
+    texts: (&[u8], &[u8], &[u8]),
+    room: usize,
+    failing: &[u64],
+) -> Result<MemFiles, Fail> {
+    let (old, new, certificate) = texts;
+    assert!(rt; old.len() <= room);
+    assert!(rt; new.len() <= room);
+    assert!(rt; certificate.len() <= room);
+    let files = vec![in alloc;
+        (Name::new(alloc, b"old")?, old.to_vec(alloc)?),
+        (Name::new(alloc, b"new")?, new.to_vec(alloc)?),
+        (Name::new(alloc, b"c")?, certificate.to_vec(alloc)?),
+    ]?;
+    Ok(MemFiles::new(alloc, files, room, failing.to_vec(alloc)?)?)
+}
+
 /// Runs these words over the files `old` and `new`, which fail at the calls of these numbers.
 fn run_words<R: Threads + Sync + Abort>(
     rt: &R,
@@ -36,13 +64,7 @@ fn run_words<R: Threads + Sync + Abort>(
     sink: &mut MemSink,
 ) -> Result<Ended, Fail> {
     let (old, new) = texts;
-    assert!(rt; old.len() <= ROOM);
-    assert!(rt; new.len() <= ROOM);
-    let files = vec![in alloc;
-        (Name::new(alloc, b"old")?, old.to_vec(alloc)?),
-        (Name::new(alloc, b"new")?, new.to_vec(alloc)?),
-    ]?;
-    let mut files = MemFiles::new(alloc, files, ROOM, failing.to_vec(alloc)?)?;
+    let mut files = files_of(rt, alloc, (old, new, b""), ROOM, failing)?;
     let words = words_of(alloc, words)?;
     Ok(run(rt, alloc, words.as_slice(), &mut files, sink, &OpenGate))
 }
@@ -98,8 +120,7 @@ fn reports_are_written_whole(rt: HostRuntime) -> Result<(), Fail> {
     let alloc = rt.alloc();
     for (old, new, status, text) in REPORTS {
         let mut sink = MemSink::new(alloc, 10, 1000, Vec::new(alloc))?;
-        let words = ["verify", "old", "new"];
-        let ended = run_words(&rt, alloc, &words, (old, new), &[], &mut sink)?;
+        let ended = run_words(&rt, alloc, &VERIFY, (old, new), &[], &mut sink)?;
         assert_eq!(rt; ended.status.code, status);
         assert_eq!(rt; sink.taken(), text);
     }
@@ -111,8 +132,7 @@ fn other_words_get_the_usage_text(rt: HostRuntime) -> Result<(), Fail> {
     let alloc = rt.alloc();
     for count in 0..3 {
         let mut sink = MemSink::new(alloc, 1000, 1000, Vec::new(alloc))?;
-        let words = ["verify", "old", "new"];
-        let ended = run_words(&rt, alloc, &words[..count], (b"", b""), &[], &mut sink)?;
+        let ended = run_words(&rt, alloc, &VERIFY[..count], (b"", b""), &[], &mut sink)?;
         assert_eq!(rt; ended.status.code, 2);
         assert_eq!(rt; sink.taken(), USAGE);
     }
@@ -123,9 +143,8 @@ fn other_words_get_the_usage_text(rt: HostRuntime) -> Result<(), Fail> {
 fn an_open_cube_shows_the_new_failure(rt: HostRuntime) -> Result<(), Fail> {
     let alloc = rt.alloc();
     let mut sink = MemSink::new(alloc, 1000, 1000, Vec::new(alloc))?;
-    let words = ["verify", "old", "new"];
     let texts = (ASSERTS_B_OF_TWO, ASSERTS_BOTH);
-    let ended = run_words(&rt, alloc, &words, texts, &[], &mut sink)?;
+    let ended = run_words(&rt, alloc, &VERIFY, texts, &[], &mut sink)?;
     assert!(rt; ended.table.as_slice() == [0].as_slice());
     assert_eq!(rt; ended.deaths.len(), 2);
     assert_eq!(rt; ended.deaths[0].candidate, 0);
@@ -152,9 +171,8 @@ fn an_open_cube_shows_the_new_failure(rt: HostRuntime) -> Result<(), Fail> {
 fn a_read_fault_ends_the_run(rt: HostRuntime) -> Result<(), Fail> {
     let alloc = rt.alloc();
     let mut sink = MemSink::new(alloc, 1000, 1000, Vec::new(alloc))?;
-    let words = ["verify", "old", "new"];
     // Two calls read the old file and find its end, and the third is the first on the new one.
-    let ended = run_words(&rt, alloc, &words, (ASSERTS_B, ASSERTS_B), &[2], &mut sink)?;
+    let ended = run_words(&rt, alloc, &VERIFY, (ASSERTS_B, ASSERTS_B), &[2], &mut sink)?;
     assert_eq!(rt; ended.status.code, 6);
     assert_eq!(rt; sink.taken(), b"".as_slice());
     Ok(())
@@ -164,9 +182,177 @@ fn a_read_fault_ends_the_run(rt: HostRuntime) -> Result<(), Fail> {
 fn a_write_fault_leaves_a_part_of_the_text(rt: HostRuntime) -> Result<(), Fail> {
     let alloc = rt.alloc();
     let mut sink = MemSink::new(alloc, 10, 1000, vec![in alloc; 1]?)?;
-    let words = ["verify", "old", "new"];
-    let ended = run_words(&rt, alloc, &words, (ASSERTS_B, ASSERTS_B), &[], &mut sink)?;
+    let ended = run_words(&rt, alloc, &VERIFY, (ASSERTS_B, ASSERTS_B), &[], &mut sink)?;
     assert_eq!(rt; ended.status.code, 7);
     assert_eq!(rt; sink.taken(), b"safe p p\np".as_slice());
+    Ok(())
+}
+
+/// The certificate of two empty texts.
+const OF_EMPTY_TEXTS: &[u8] = b"symdiff-certificate 1
+old e3b0c44298fc1c149afbf4c8996fb92427ae41e4649b934ca495991b7852b855
+new e3b0c44298fc1c149afbf4c8996fb92427ae41e4649b934ca495991b7852b855
+settings e3b0c44298fc1c149afbf4c8996fb92427ae41e4649b934ca495991b7852b855
+pairs 0
+end
+";
+
+/// A certificate of `ASSERTS_B` and `ASSERTS_NOT_NOT_B`.
+const OF_A_DOUBLE_NEGATION: &[u8] = b"symdiff-certificate 1
+old bc96c8a1c904947427d8f4e72eaee60a739497d943e859db03a2cc054df839b4
+new ad6db31b2a088241d51c8ac253a2482729e403a35ff3e47c6f66eb7c56fec211
+settings e3b0c44298fc1c149afbf4c8996fb92427ae41e4649b934ca495991b7852b855
+pairs 1
+pair 0 open
+candidate 1
+split 0
+split 1
+close 1
+close 0
+close 1
+end
+";
+
+/// The same with another second fact that closes the second branch.
+const WITH_A_BAD_STEP: &[u8] = b"symdiff-certificate 1
+old bc96c8a1c904947427d8f4e72eaee60a739497d943e859db03a2cc054df839b4
+new ad6db31b2a088241d51c8ac253a2482729e403a35ff3e47c6f66eb7c56fec211
+settings e3b0c44298fc1c149afbf4c8996fb92427ae41e4649b934ca495991b7852b855
+pairs 1
+pair 0 open
+candidate 1
+split 0
+split 1
+close 1
+close 1
+close 1
+end
+";
+
+/// The same without a live candidate.
+const WITHOUT_CANDIDATES: &[u8] = b"symdiff-certificate 1
+old bc96c8a1c904947427d8f4e72eaee60a739497d943e859db03a2cc054df839b4
+new ad6db31b2a088241d51c8ac253a2482729e403a35ff3e47c6f66eb7c56fec211
+settings e3b0c44298fc1c149afbf4c8996fb92427ae41e4649b934ca495991b7852b855
+pairs 1
+pair 0 open
+end
+";
+
+/// The same with the digest of the old text as that of the new one.
+const OF_ANOTHER_TEXT: &[u8] = b"symdiff-certificate 1
+old bc96c8a1c904947427d8f4e72eaee60a739497d943e859db03a2cc054df839b4
+new bc96c8a1c904947427d8f4e72eaee60a739497d943e859db03a2cc054df839b4
+settings e3b0c44298fc1c149afbf4c8996fb92427ae41e4649b934ca495991b7852b855
+pairs 1
+pair 0 open
+candidate 1
+split 0
+split 1
+close 1
+close 0
+close 1
+end
+";
+
+/// Whether the file `c` holds this text.
+fn holds(files: &mut MemFiles, text: &[u8]) -> bool {
+    let mut bytes = [0u8; ROOM];
+    match files.read_at("c", 0, &mut bytes) {
+        Ok(count) if count <= ROOM => bytes[..count] == *text,
+        _ => false,
+    }
+}
+
+#[test]
+fn a_certificate_is_written_and_replayed(rt: HostRuntime) -> Result<(), Fail> {
+    let alloc = rt.alloc();
+    let report = b"pairs 0 safe 0 equal 0 unknown 0 refused 0 axioms 0 0\n".as_slice();
+    let mut files = files_of(&rt, alloc, (b"", b"", b"before"), ROOM, &[])?;
+    for words in [CERTIFY.as_slice(), REPLAY.as_slice()] {
+        let mut sink = MemSink::new(alloc, 1000, 1000, Vec::new(alloc))?;
+        let words = words_of(alloc, words)?;
+        let ended = run(&rt, alloc, words.as_slice(), &mut files, &mut sink, &OpenGate);
+        assert_eq!(rt; ended.status.code, 0);
+        assert_eq!(rt; sink.taken(), report);
+        assert!(rt; holds(&mut files, OF_EMPTY_TEXTS));
+    }
+    Ok(())
+}
+
+/// Certificates with the status and the text that `replay old new c` answers to them, where `old` asserts `b` and `new` `!!b`.
+const REPLAYS: [(&[u8], u8, &[u8]); 5] = [
+    (
+        OF_A_DOUBLE_NEGATION,
+        0,
+        b"safe p p\npairs 1 safe 1 equal 0 unknown 0 refused 0 axioms 0 0\n",
+    ),
+    (
+        WITH_A_BAD_STEP,
+        5,
+        b"error: certificate line 11 value\n",
+    ),
+    (
+        WITHOUT_CANDIDATES,
+        1,
+        b"unproved p p\npairs 1 safe 0 equal 0 unknown 1 refused 0 axioms 0 0\n",
+    ),
+    (OF_ANOTHER_TEXT, 5, b"error: certificate other new\n"),
+    (b"", 5, b"error: certificate line 1\n"),
+];
+
+#[test]
+fn certificates_are_judged(rt: HostRuntime) -> Result<(), Fail> {
+    let alloc = rt.alloc();
+    for (certificate, status, text) in REPLAYS {
+        let texts = (ASSERTS_B, ASSERTS_NOT_NOT_B, certificate);
+        let mut files = files_of(&rt, alloc, texts, ROOM, &[])?;
+        let mut sink = MemSink::new(alloc, 1000, 1000, Vec::new(alloc))?;
+        let words = words_of(alloc, &REPLAY)?;
+        let ended = run(&rt, alloc, words.as_slice(), &mut files, &mut sink, &OpenGate);
+        assert_eq!(rt; ended.status.code, status);
+        assert_eq!(rt; sink.taken(), text);
+        assert!(rt; ended.deaths.is_empty());
+    }
+    Ok(())
+}
+
+#[test]
+fn what_follows_the_end_is_refused(rt: HostRuntime) -> Result<(), Fail> {
+    let alloc = rt.alloc();
+    let mut certificate = OF_A_DOUBLE_NEGATION.to_vec(alloc)?;
+    certificate.extend_from_slice(b"end\n")?;
+    let texts = (ASSERTS_B, ASSERTS_NOT_NOT_B, certificate.as_slice());
+    let mut files = files_of(&rt, alloc, texts, ROOM, &[])?;
+    let mut sink = MemSink::new(alloc, 1000, 1000, Vec::new(alloc))?;
+    let words = words_of(alloc, &REPLAY)?;
+    let ended = run(&rt, alloc, words.as_slice(), &mut files, &mut sink, &OpenGate);
+    assert_eq!(rt; ended.status.code, 5);
+    assert_eq!(rt; sink.taken(), b"error: certificate line 14\n".as_slice());
+    Ok(())
+}
+
+#[test]
+fn a_certificate_that_is_cut_leaves_no_report(rt: HostRuntime) -> Result<(), Fail> {
+    let alloc = rt.alloc();
+    let mut files = files_of(&rt, alloc, (b"", b"", b""), 200, &[])?;
+    let mut sink = MemSink::new(alloc, 1000, 1000, Vec::new(alloc))?;
+    let words = words_of(alloc, &CERTIFY)?;
+    let ended = run(&rt, alloc, words.as_slice(), &mut files, &mut sink, &OpenGate);
+    assert_eq!(rt; ended.status.code, 7);
+    assert_eq!(rt; ended.certificate_file, CertificateFile::Cut);
+    assert!(rt; holds(&mut files, &OF_EMPTY_TEXTS[..200]));
+    assert_eq!(rt; sink.taken(), b"".as_slice());
+    Ok(())
+}
+
+#[test]
+fn a_certificate_goes_to_a_file_of_its_own(rt: HostRuntime) -> Result<(), Fail> {
+    let alloc = rt.alloc();
+    let mut sink = MemSink::new(alloc, 1000, 1000, Vec::new(alloc))?;
+    let words = ["verify", "old", "new", "--certificate", "new"];
+    let ended = run_words(&rt, alloc, &words, (b"", b""), &[], &mut sink)?;
+    assert_eq!(rt; ended.status.code, 2);
+    assert_eq!(rt; sink.taken(), USAGE);
     Ok(())
 }

@@ -2,11 +2,13 @@ ghost use Rattle.std.specs.Prelude.{◌≡◌, ◌≢◌, IfOk, IsErrOf, Err};
 ghost use Rattle.sd_base.specs.Causes.{Rose, NeverFall, AllSame};
 ghost use Rattle.sd_base.specs.Outside.{WhereTold, AllStay};
 ghost use Rattle.sd_parse.specs.Text.{IsRead};
-ghost use Rattle.symdiff.specs.Texts.{SpellsNone, Holds};
+ghost use Rattle.symdiff.specs.Texts.{SpellsNone, Holds, digests_of};
+ghost use Rattle.symdiff.specs.Replies.{texts_of};
 
 use sd_ast::Program;
 use sd_base::limits::TEXT_BYTES;
 use sd_base::{Files, ReadFault, read_up_to};
+use sd_cert::{Digests, digests_of};
 use sd_parse::{ReadError, read_program};
 use std::alloc::Global;
 
@@ -48,4 +50,11 @@ pub fn read_text<F: Files>(alloc: Global, files: &mut F, name: &str) -> Result<T
         Err(ReadError::NotYet) => Err(TextFault::NotYet),
         Err(ReadError::NoMemory) => Err(TextFault::Memory),
     }
+}
+
+/// The digests of two texts, and of absent settings.
+pub fn digests(old: &Text, new: &Text) -> Digests
+    ensures { result ≡ digests_of (texts_of old.now new.now) }
+{
+    digests_of(old.bytes.as_slice(), new.bytes.as_slice(), b"")
 }
