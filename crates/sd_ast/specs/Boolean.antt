@@ -18,7 +18,7 @@ use Rattle.sd_ast.specs.declared.tree.Decl.TheVariants.{Procedure}
 use Rattle.sd_ast.specs.declared.tree.Program.{Program}
 use Rattle.sd_ast.specs.Tree.{UnaryOf, BinaryOf, names_of, procedure_names}
 
--- an expression of these names, truth values, `!`, `&&`, `||` and `==>`
+-- an expression of these names, truth values and operators on truth values
 abbrev pub IsBooleanExpr : List Text → ExprKind → Type 0
 IsBooleanExpr names (Literal b) = Unit {0}
 IsBooleanExpr names (Variable x) = Contains names x
@@ -26,6 +26,10 @@ IsBooleanExpr names (UnaryOf op1.Not p a) = IsBooleanExpr names a
 IsBooleanExpr names (BinaryOf op.And p a q b) = IsBooleanExpr names a × IsBooleanExpr names b
 IsBooleanExpr names (BinaryOf op.Or p a q b) = IsBooleanExpr names a × IsBooleanExpr names b
 IsBooleanExpr names (BinaryOf op.Implies p a q b) = IsBooleanExpr names a × IsBooleanExpr names b
+IsBooleanExpr names (BinaryOf op.Explies p a q b) = IsBooleanExpr names a × IsBooleanExpr names b
+IsBooleanExpr names (BinaryOf op.Iff p a q b) = IsBooleanExpr names a × IsBooleanExpr names b
+IsBooleanExpr names (BinaryOf op.Eq p a q b) = IsBooleanExpr names a × IsBooleanExpr names b
+IsBooleanExpr names (BinaryOf op.Ne p a q b) = IsBooleanExpr names a × IsBooleanExpr names b
 IsBooleanExpr names _ = ⊥
 
 -- an assignment of one expression to one of the locals

@@ -4,7 +4,7 @@ use Rattle.std.specs.Prelude.{◌↔◌, IsTrue}
 use Rattle.sd_base.specs.Value.{Text}
 use Rattle.sd_base.specs.declared.sort.Place.{Place}
 use Rattle.sd_ast.specs.declared.tree.BinOp.{BinOp}
-use Rattle.sd_ast.specs.declared.tree.BinOp.TheVariants.{And, Or, Implies}
+use Rattle.sd_ast.specs.declared.tree.BinOp.TheVariants.{And, Or, Implies, Explies, Iff, Eq, Ne}
 use Rattle.sd_ast.specs.declared.tree.UnOp.{UnOp}
 use Rattle.sd_ast.specs.declared.tree.UnOp.TheVariants.{Not}
 use Rattle.sd_ast.specs.declared.tree.ExprKind.{ExprKind, Unary}
@@ -40,12 +40,20 @@ module _ (names : List Text) (p : Place) (a : ExprKind) (q : Place) (b : ExprKin
   binary_parts And w = (refl, w.0, w.1)
   binary_parts Or w = (refl, w.0, w.1)
   binary_parts Implies w = (refl, w.0, w.1)
+  binary_parts Explies w = (refl, w.0, w.1)
+  binary_parts Iff w = (refl, w.0, w.1)
+  binary_parts Eq w = (refl, w.0, w.1)
+  binary_parts Ne w = (refl, w.0, w.1)
   binary_parts _ w = absurd w
 
   binary_whole : (op : BinOp) → is_connective op ≡ true → IsBooleanExpr names a → IsBooleanExpr names b → IsBooleanExpr names (BinaryOf op p a q b)
   binary_whole And e v w = (v, w)
   binary_whole Or e v w = (v, w)
   binary_whole Implies e v w = (v, w)
+  binary_whole Explies e v w = (v, w)
+  binary_whole Iff e v w = (v, w)
+  binary_whole Eq e v w = (v, w)
+  binary_whole Ne e v w = (v, w)
   binary_whole _ e v w = absurd (cc)
 
   module _ (op : BinOp) (joins : Bool) (is : joins ≡ is_connective op) where

@@ -21,6 +21,10 @@ boolean_expr-same xs ys h (UnaryOf op1.Not p a) w = boolean_expr-same xs ys h a 
 boolean_expr-same xs ys h (BinaryOf op.And p a q b) w = (boolean_expr-same xs ys h a w.0, boolean_expr-same xs ys h b w.1)
 boolean_expr-same xs ys h (BinaryOf op.Or p a q b) w = (boolean_expr-same xs ys h a w.0, boolean_expr-same xs ys h b w.1)
 boolean_expr-same xs ys h (BinaryOf op.Implies p a q b) w = (boolean_expr-same xs ys h a w.0, boolean_expr-same xs ys h b w.1)
+boolean_expr-same xs ys h (BinaryOf op.Explies p a q b) w = (boolean_expr-same xs ys h a w.0, boolean_expr-same xs ys h b w.1)
+boolean_expr-same xs ys h (BinaryOf op.Iff p a q b) w = (boolean_expr-same xs ys h a w.0, boolean_expr-same xs ys h b w.1)
+boolean_expr-same xs ys h (BinaryOf op.Eq p a q b) w = (boolean_expr-same xs ys h a w.0, boolean_expr-same xs ys h b w.1)
+boolean_expr-same xs ys h (BinaryOf op.Ne p a q b) w = (boolean_expr-same xs ys h a w.0, boolean_expr-same xs ys h b w.1)
 boolean_expr-same xs ys h _ w = absurd w
 
 boolean_assign-same : (xs ys us vs : List Text) → HaveSame xs ys → HaveSame us vs → (ls : List Left) (es : List Expr) → IsBooleanAssign xs us ls es → IsBooleanAssign ys vs ls es

@@ -36,5 +36,9 @@ fn is_boolean_child(names: &Names, child: &Boxed<Expr>) -> bool
 fn joins_truths(op: BinOp) -> bool
     ensures { result ≡ is_connective op }
 {
-    matches!(op, BinOp::And | BinOp::Or | BinOp::Implies)
+    match op {
+        BinOp::And | BinOp::Or | BinOp::Implies | BinOp::Explies => true,
+        BinOp::Iff | BinOp::Eq | BinOp::Ne => true,
+        _ => false,
+    }
 }

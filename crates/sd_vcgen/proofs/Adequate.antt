@@ -3,7 +3,7 @@ use Rattle.std.proofs.Common.{◌≡◌, zero, suc, List, [], ◌∷◌, refl, s
 use Rattle.std.specs.Prelude.{Bool, true, false, not, ◌&&◌, ◌||◌, cond, map, Option, Some, unwrap_or, if◌then◌else◌, Contains}
 use Rattle.std.specs.Cmp.Lexicographic.{bytes_decides}
 use Rattle.sd_base.specs.declared.Sort.{Bool as BoolSort}
-use Rattle.sd_base.specs.Value.{Text, same_text, Value, Truth}
+use Rattle.sd_base.specs.Value.{Text, same_text, Value, Truth, same_value}
 use Rattle.sd_base.specs.Meaning.{Interpretation, truth_of, index_of}
 use Rattle.sd_ast.specs.declared.BinOp.TheVariants as op
 use Rattle.sd_ast.specs.declared.UnOp.TheVariants as op1
@@ -22,8 +22,8 @@ use Rattle.sd_meaning.specs.Run as run
 use Rattle.sd_term.specs.Tree.{Tree}
 use Rattle.sd_term.specs.Sorts.{sort_of}
 use Rattle.sd_term.specs.Truth.{Valuation, value}
-use Rattle.sd_term.specs.Build.{not_of, and_of, or_of, ite_of}
-use Rattle.sd_term.proofs.BuildValues.{not-value, and-value, or-value, ite-chosen}
+use Rattle.sd_term.specs.Build.{not_of, and_of, or_of, eq_of, ite_of}
+use Rattle.sd_term.proofs.BuildValues.{not-value, and-value, or-value, eq-value, ite-chosen}
 use Rattle.sd_term.proofs.BuildSorts.{not-sort, and-sort, or-sort, ite-sort}
 use Rattle.sd_vcgen.specs.Body.{Terms, State, constant, term_named, term_of, guard_of, assigned, set, fail, leave, assert, assign, step, steps, all_steps}
 use Rattle.sd_vcgen.proofs.Keep.{Closed, Holds, named-keeps, term-keeps, step-keeps, steps-keep}
@@ -111,6 +111,10 @@ module _ (v : Valuation) where
   variable-is I s ws x e h =
       ap (λ (o : Option Value). unwrap_or o (unwrap_or (held s.globals x) (I.constant x))) (ap (λ (l : Store). held l x) (sym e) ∙ held-named ws x h)
 
+  -- the equality of two terms has the value of that of their expressions
+  same-terms : (ws : Terms) (a b : ExprKind) (x y : Value) → value v (term_of ws a) ≡ x → value v (term_of ws b) ≡ y → value v (eq_of (term_of ws a) (term_of ws b)) ≡ Truth (same_value x y)
+  same-terms ws a b x y e f = eq-value v (term_of ws a) (term_of ws b) ∙ (λ i. Truth (same_value (e i) (f i)))
+
   -- an expression's term has the expression's value
   pub term-value : (names : List Text) (I : Interpretation) (s : meaning.State) (ws : Terms) → names_in ws ≡ names → valued ws ≡ s.locals → (e : ExprKind) → IsBooleanExpr names e → value v (term_of ws e) ≡ meaning.value I s e
   term-value names I s ws n l (Literal b) h = constant-value b
@@ -129,6 +133,15 @@ module _ (v : Valuation) where
       let x = not-value v (term_of ws a) ∙ ap (λ (z : Value). Truth (not (truth_of z))) (term-value names I s ws n l a h.0) in
       let y = term-value names I s ws n l b h.1 in
       or-value v (not_of (term_of ws a)) (term_of ws b) ∙ (λ i. Truth (truth_of (x i) || truth_of (y i)))
+  term-value names I s ws n l (BinaryOf op.Explies p a q b) h =
+      let x = term-value names I s ws n l a h.0 in
+      let y = not-value v (term_of ws b) ∙ ap (λ (z : Value). Truth (not (truth_of z))) (term-value names I s ws n l b h.1) in
+      or-value v (term_of ws a) (not_of (term_of ws b)) ∙ (λ i. Truth (truth_of (x i) || truth_of (y i)))
+  term-value names I s ws n l (BinaryOf op.Iff p a q b) h = same-terms ws a b _ _ (term-value names I s ws n l a h.0) (term-value names I s ws n l b h.1)
+  term-value names I s ws n l (BinaryOf op.Eq p a q b) h = same-terms ws a b _ _ (term-value names I s ws n l a h.0) (term-value names I s ws n l b h.1)
+  term-value names I s ws n l (BinaryOf op.Ne p a q b) h =
+      let e = same-terms ws a b _ _ (term-value names I s ws n l a h.0) (term-value names I s ws n l b h.1) in
+      not-value v (eq_of (term_of ws a) (term_of ws b)) ∙ ap (λ (z : Value). Truth (not (truth_of z))) e
   term-value names I s ws n l _ h = absurd h
 
   valued-assigned : (ws : Terms) (x : Text) (t : Tree) → valued (assigned ws x t) ≡ run.assigned (valued ws) x (value v t)

@@ -16,7 +16,7 @@ use Rattle.sd_ast.specs.declared.Stmt.{Stmt}
 use Rattle.sd_ast.specs.declared.Body.{Body}
 use Rattle.sd_ast.specs.Tree.{UnaryOf, BinaryOf}
 use Rattle.sd_term.specs.Tree.{Tree}
-use Rattle.sd_term.specs.Build.{not_of, and_of, or_of, ite_of}
+use Rattle.sd_term.specs.Build.{not_of, and_of, or_of, eq_of, ite_of}
 use Rattle.sd_vcgen.specs.Body.{Terms, State, constant, term_named, unary, binary, term_of, guard_of, assigned, set, fail, leave, assign, step, steps, all_steps, named, starting, begun, flag_at_end}
 
 -- building keeps the property
@@ -25,6 +25,7 @@ pub record Closed (K : Tree → Type 0) : Type 0 where
   pub nots : (a : Tree) → K a → K (not_of a)
   pub ands : (a b : Tree) → K a → K b → K (and_of a b)
   pub ors : (a b : Tree) → K a → K b → K (or_of a b)
+  pub eqs : (a b : Tree) → K a → K b → K (eq_of a b)
   pub ites : (c a b : Tree) → K c → K a → K b → K (ite_of c a b)
 
 abbrev pub AllHold : (Tree → Type 0) → Terms → Type 0
@@ -53,6 +54,10 @@ module _ (K : Tree → Type 0) (c : Closed K) where
   binary-keeps op.And a b h k = c.ands a b h k
   binary-keeps op.Or a b h k = c.ors a b h k
   binary-keeps op.Implies a b h k = c.ors (not_of a) b (c.nots a h) k
+  binary-keeps op.Explies a b h k = c.ors a (not_of b) h (c.nots b k)
+  binary-keeps op.Iff a b h k = c.eqs a b h k
+  binary-keeps op.Eq a b h k = c.eqs a b h k
+  binary-keeps op.Ne a b h k = c.nots (eq_of a b) (c.eqs a b h k)
   binary-keeps _ a b h k = c.constants false
 
   pub term-keeps : (ws : Terms) (e : ExprKind) → AllHold K ws → K (term_of ws e)

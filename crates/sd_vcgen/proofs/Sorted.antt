@@ -10,7 +10,7 @@ use Rattle.sd_ast.specs.Tree.{names_of}
 use Rattle.sd_ast.specs.Boolean.{AreBooleanVars, HasBooleanBody, IsBooleanProc}
 use Rattle.sd_term.specs.Tree.{Tree}
 use Rattle.sd_term.specs.Sorts.{sort_of, IsWellSorted}
-use Rattle.sd_term.proofs.BuildSorts.{not-sort, and-sort, or-sort, ite-sort, not-well, and-well, or-well, ite-well}
+use Rattle.sd_term.proofs.BuildSorts.{not-sort, and-sort, or-sort, ite-sort, not-well, and-well, or-well, eq-well, ite-well}
 use Rattle.sd_vcgen.specs.Body.{constant, starting, flag_at_end, flag_of}
 use Rattle.sd_vcgen.proofs.Keep.{Closed, AllHold, flag_at_end-keeps}
 
@@ -35,6 +35,7 @@ sorted_truths = record {
   nots = λ a h. (not-well a h.0 h.1, not-sort a);
   ands = λ a b h k. (and-well a b h.0 k.0 h.1 k.1, and-sort a b);
   ors = λ a b h k. (or-well a b h.0 k.0 h.1 k.1, or-sort a b);
+  eqs = λ a b h k. (eq-well a b h.0 k.0 (h.1 ∙ sym k.1), refl);
   ites = λ c a b h k l. (ite-well c a b h.0 k.0 l.0 h.1 (k.1 ∙ sym l.1), ite-sort c a b ∙ k.1);
 }
 

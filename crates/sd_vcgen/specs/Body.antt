@@ -17,7 +17,7 @@ use Rattle.sd_ast.specs.Tree.{UnaryOf, BinaryOf, names_of}
 use Rattle.sd_term.specs.declared.node.Head.TheVariants.{Start}
 use Rattle.sd_term.specs.Heads.{True, False}
 use Rattle.sd_term.specs.Tree.{Tree, leaf}
-use Rattle.sd_term.specs.Build.{not_of, and_of, or_of, ite_of}
+use Rattle.sd_term.specs.Build.{not_of, and_of, or_of, eq_of, ite_of}
 
 -- variables with their terms, in the order of their declaration
 abbrev pub Terms : Type 0
@@ -47,6 +47,10 @@ abbrev pub binary : BinOp → Tree → Tree → Tree
 binary op.And a b = and_of a b
 binary op.Or a b = or_of a b
 binary op.Implies a b = or_of (not_of a) b
+binary op.Explies a b = or_of a (not_of b)
+binary op.Iff a b = eq_of a b
+binary op.Eq a b = eq_of a b
+binary op.Ne a b = not_of (eq_of a b)
 binary _ a b = constant false
 
 -- the term of an expression; those that boolean programs lack are `false`

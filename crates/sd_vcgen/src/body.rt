@@ -6,7 +6,7 @@ ghost use Rattle.sd_base.specs.Value.{same_text};
 ghost use Rattle.sd_ast.specs.Tree.{names_of};
 ghost use Rattle.sd_ast.specs.Boolean.{IsBooleanProc};
 ghost use Rattle.sd_term.specs.Bank.{tree_at};
-ghost use Rattle.sd_term.specs.Build.{Extends, not_of, and_of};
+ghost use Rattle.sd_term.specs.Build.{Extends, not_of, and_of, or_of, eq_of};
 ghost use Rattle.sd_vcgen.specs.Body as spec;
 ghost use Rattle.sd_vcgen.specs.Body.{constant, unary, binary, term_named, term_of, assert, assign, guard_of, step, all_steps, starting, begun, flag_of};
 ghost use Rattle.sd_vcgen.specs.Numbers.{Denotes, store_of, AreWithin, Stands, state_of, IsWithin};
@@ -191,8 +191,33 @@ fn put_binary(
         BinOp::And => bank.and(left, right),
         BinOp::Or => bank.or(left, right),
         BinOp::Implies => bank.implies(left, right),
+        BinOp::Explies => put_implied(bank, left, right),
+        BinOp::Iff | BinOp::Eq => bank.eq(left, right),
+        BinOp::Ne => put_unequal(bank, left, right),
         _ => put_truth(bank, false),
     }
+}
+
+fn put_implied(bank: &mut Bank, left: TermId, right: TermId) -> Result<TermId, NoMemory>
+    requires left { left < length bank.old }
+    requires right { right < length bank.old }
+    ensures term { IfOk result (λ id. Denotes bank.new id (or_of (tree_at bank.old left) (not_of (tree_at bank.old right)))) }
+    ensures kept { OnOk result (Extends bank.old bank.new) }
+{
+    let denied = bank.not(right)?;
+    let either = bank.or(left, denied)?;
+    Ok(either)
+}
+
+fn put_unequal(bank: &mut Bank, left: TermId, right: TermId) -> Result<TermId, NoMemory>
+    requires left { left < length bank.old }
+    requires right { right < length bank.old }
+    ensures term { IfOk result (λ id. Denotes bank.new id (not_of (eq_of (tree_at bank.old left) (tree_at bank.old right)))) }
+    ensures kept { OnOk result (Extends bank.old bank.new) }
+{
+    let equal = bank.eq(left, right)?;
+    let unequal = bank.not(equal)?;
+    Ok(unequal)
 }
 
 // ---- statements
