@@ -4,8 +4,5 @@ pub mod Sound
 pub mod ExpressionSound
 pub mod ExpressionComplete
 pub mod Lists
-pub mod StatementSound
-pub mod StatementComplete
-pub mod ProgramSound
-pub mod ProgramComplete
-pub mod TextLemmas
+pub mod Rows
+pub mod TypeLaws

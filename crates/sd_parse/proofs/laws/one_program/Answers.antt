@@ -1,5 +1,3 @@
-use Rattle.sd_parse.proofs.TextLemmas.{one_program}
+use Rattle.sd_parse.proofs.TypeLaws.{type_sound}
+use Rattle.sd_parse.proofs.Rows.{Low}
 use Rattle.sd_parse.proofs.laws.one_program.Goals as goal
-
-pub returns : goal.returns
-returns c = one_program
