@@ -6,3 +6,6 @@ pub mod ExpressionComplete
 pub mod Lists
 pub mod Rows
 pub mod TypeLaws
+pub mod ClauseLaws
+pub mod NameLaws
+pub mod StatementSound

@@ -306,7 +306,7 @@ impl<F: Fn(Global, &mut Cursor<'_>, u32, u32) -> Result<Stmt, Fault>> Nested<F> 
 
 /// No statement has height 0.
 #[tactic(auto, unfolding(crate::specs::ReadingStatements::statement))]
-fn none(tokens: &mut Cursor<'_>, limit: u32) -> Result<Stmt, Fault>
+pub fn none(tokens: &mut Cursor<'_>, limit: u32) -> Result<Stmt, Fault>
     ensures { Gives (spec.statement limit 0 tokens.old) result tokens.new }
 {
     if begins_statement(tokens.peek()) {

@@ -86,7 +86,7 @@ impl<F: Fn(Global, &mut Cursor<'_>, u32) -> Result<Sort, Fault>> Nested<F> {
 
 /// No type has height 0.
 #[tactic(auto, unfolding(crate::specs::ReadingTypes::type_of))]
-fn none(tokens: &mut Cursor<'_>) -> Result<Sort, Fault>
+pub fn none(tokens: &mut Cursor<'_>) -> Result<Sort, Fault>
     ensures { Gives (spec.type_of 0 tokens.old) result tokens.new }
 {
     if begins_type(tokens.peek()) {
