@@ -9,3 +9,4 @@ pub mod TypeLaws
 pub mod ClauseLaws
 pub mod NameLaws
 pub mod StatementSound
+pub mod StatementComplete

@@ -1,2 +1,2 @@
-use Rattle.sd_parse.proofs.StatementSound.{statement_law}
+use Rattle.sd_parse.proofs.StatementComplete.{statement_complete}
 use Rattle.sd_parse.proofs.laws.one_program.Goals as goal
