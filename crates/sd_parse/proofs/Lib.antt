@@ -10,3 +10,6 @@ pub mod ClauseLaws
 pub mod NameLaws
 pub mod StatementSound
 pub mod StatementComplete
+pub mod ProgramSound
+pub mod ProgramComplete
+pub mod TextLemmas

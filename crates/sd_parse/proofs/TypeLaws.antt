@@ -29,7 +29,7 @@ type_first rest (ty.bool i) = ap begins_type i.same
 type_first rest (ty.named {t = t} {x = x} i) = ap begins_type (name_sign x t i)
 type_first rest (ty.map i a j b) = ap begins_type i.same
 
-type_high : {u : Tokens} {T : Sort} {h : ℕ} → TypeText u T h → 1 ≤ h
+pub type_high : {u : Tokens} {T : Sort} {h : ℕ} → TypeText u T h → 1 ≤ h
 type_high (ty.int i) = omega arith
 type_high (ty.bool i) = omega arith
 type_high (ty.named i) = omega arith
