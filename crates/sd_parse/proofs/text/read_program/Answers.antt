@@ -1,4 +1,4 @@
-use Rattle.std.proofs.Common.{◌≤◌, subst, arith}
+use Rattle.std.proofs.Common.{◌≡◌, ◌≤◌, ap, ◌∙◌, subst, arith}
 use Rattle.std.specs.Prelude.{IsTrue}
 use Rattle.sd_ast.specs.Boolean.{IsBooleanProgram}
 use Rattle.sd_parse.specs.Programs.{Spells}
@@ -18,7 +18,7 @@ returns-then-procedures-gt-PROCEDURES-clause-not_yet c = λ _ p r.
     let spelled = rw c.in-Some-2.is at c.in_ok-program.ensures in
     let same = this_tree c.args.bytes.now c.in-Some.tokens.items c.in-Some-2.program cut (subst (λ ts. Spells 200 ts c.in-Some-2.program) c.as_slice.ensures.value spelled) p r in
     let few : procedures c.in-Some-2.program.decls ≤ 4096 = subst (λ q. procedures q.decls ≤ 4096) same r.few in
-    let count = c.procedures.ensures in
+    let count : c.procedures.result ≡ procedures c.in-Some-2.program.decls = c.procedures.ensures ∙ ap procedures c.as_slice-2.ensures in
     let many = c.if-procedures-gt-PROCEDURES.true in
     absurd (omega arith)
 
