@@ -6,7 +6,10 @@ use std::test::Fail;
 
 #[test]
 fn reads_a_program(rt: HostRuntime) -> Result<(), Fail> {
-    let program = read_program(rt.alloc(), b"procedure p(b: bool) { assert /* a comment */ b; } // the end")?;
+    let program = read_program(
+        rt.alloc(),
+        b"procedure p(b: bool) { assert /* a comment */ b; } // the end",
+    )?;
     assert_eq!(rt; program.decls.len(), 1);
     Ok(())
 }
