@@ -13,7 +13,8 @@ use Rattle.sd_parse.specs.Statements as st
 use Rattle.sd_parse.specs.Statements.{Statement, Otherwise, Block, Statements, stated, assign}
 use Rattle.sd_parse.specs.Reading.{Got, Reader, and_then, ahead, sign_of, skip, want, name, read, deeper}
 use Rattle.sd_parse.specs.ReadingStatements.{push, begins_statement, asserted, assigned, returned, statements, block, branch_by, branch, otherwise_by, otherwise, conditional, statement_by, statement_layer, statement}
-use Rattle.sd_parse.proofs.ExpressionComplete.{tall, want_goes, name_goes, name_sign, Stops, read_complete}
+use Rattle.sd_parse.proofs.Heights.{tall}
+use Rattle.sd_parse.proofs.ExpressionComplete.{want_goes, name_goes, name_sign, Stops, read_complete}
 use Rattle.sd_parse.proofs.Lists.{Many, none, more, push_all, all_complete}
 use Rattle.sd_parse.proofs.StatementSound.{LowStatement, some_tokens}
 
@@ -35,7 +36,7 @@ many_low d st.none low = none
 many_low d (st.more {h = h} f m) low = more (record { height = h; spelt = f; low = omega arith }) (many_low d m (omega arith))
 
 module _ (d : ℕ) (inner : Reader Stmt) (completes : (u : Tokens) (x : Stmt) (h : ℕ) (rest : Tokens) → Statement u x h → h ≤ d → NoElse rest → inner (u ++ rest) ≡ Got x rest) where
-  expression : (u : Tokens) (e : Expr) (h : ℕ) (p : Place) (c : Token) (rest : Tokens) → Phrase Whole u e h p → h ≤ d → (6 < 7 → Stops Whole (c ∷ rest)) → read d Whole (u ++ c ∷ rest) ≡ Got (e, h, p) (c ∷ rest)
+  expression : (u : Tokens) (e : Expr) (h : ℕ) (p : Place) (c : Token) (rest : Tokens) → Phrase Whole u e h p → h ≤ d → (7 < 8 → Stops Whole (c ∷ rest)) → read d Whole (u ++ c ∷ rest) ≡ Got (e, h, p) (c ∷ rest)
   expression u e h p c rest q low stops = read_complete d Whole u e h p (c ∷ rest) q low (stops (omega arith))
 
   asserted_goes : (t c : Token) (u : Tokens) (e : Expr) (h : ℕ) (p : Place) (rest : Tokens) → Is s.Assert t → Phrase Whole u e h p → Is s.Semi c → suc h ≤ suc d → statement_layer d inner ((t ∷ u ++ c ∷ []) ++ rest) ≡ Got (stated t.at (Assert e)) rest
