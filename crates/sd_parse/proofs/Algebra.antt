@@ -233,34 +233,6 @@ many_rule {A} {B} F V begins item add up law (suc n) acc = record { least = reco
 
 -- ---- heights
 
--- a bound on heights, or none
-abbrev pub Bound : Type 0
-Bound = Option ℕ
-
-abbrev pub fits : Bound → ℕ → Type 0
-fits None h = Unit {0}
-fits (Some d) h = h ≤ d
-
-abbrev pub raise : Bound → Bound
-raise None = None
-raise (Some d) = Some (suc d)
-
-pub fits_suc : (b : Bound) (h : ℕ) → fits b h → fits (raise b) (suc h)
-fits_suc None h f = tt
-fits_suc (Some d) h f = omega arith
-
-pub fits_up : (b : Bound) (h : ℕ) → fits b h → fits (raise b) h
-fits_up None h f = tt
-fits_up (Some d) h f = omega arith
-
-pub fits_max : (b : Bound) (h k : ℕ) → fits b h → fits b k → fits b (max h k)
-fits_max None h k f g = tt
-fits_max (Some d) h k f g = omega arith
-
-pub fits_zero : (b : Bound) → fits b 0
-fits_zero None = tt
-fits_zero (Some d) = omega arith
-
-pub fits_one : (b : Bound) → fits (raise b) 1
-fits_one None = tt
-fits_one (Some d) = omega arith
+-- What begins a text with a token that is too deep begins one that is higher by two at most.
+abbrev pub wide : ℕ → ℕ
+wide d = suc (suc d)

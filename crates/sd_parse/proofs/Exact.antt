@@ -8,14 +8,9 @@ use Rattle.sd_parse.specs.Grammar.{Tokens}
 use Rattle.sd_parse.specs.Refusals as rule
 use Rattle.sd_parse.specs.Refusals.{BeginsWithin, BeginsSome, IsSyntax, IsDeep, Verdict, Read, IsVerdict}
 use Rattle.sd_parse.specs.Reading.{Syntax, Deep, Step, Got, Bad, Reader}
-use Rattle.sd_parse.proofs.Algebra.{Begins, Answers, AnswersStep}
+use Rattle.sd_parse.proofs.Algebra.{Begins, Answers, AnswersStep, wide}
 use Rattle.sd_parse.proofs.Local.{Local, rest_of, before}
 use Rattle.sd_parse.proofs.Lifts.{Lifts, same, deep}
-
--- a text of some height
-pub record OfHeight {A : Type 0} (L : ℕ → Tokens → A → Type 0) (u : Tokens) (x : A) : Type 0 where
-  pub height : ℕ
-  pub spelled : L height u x
 
 -- the place of the next token, or of the end
 abbrev pub place_of : Place → Tokens → Place
@@ -25,7 +20,7 @@ place_of end (t ∷ ts) = t.at
 -- A reader of whole texts with its laws.
 pub record Exact {A : Type 0} (L : ℕ → Tokens → A → Type 0) (limit : ℕ) (p : ℕ → Reader A) : Type 0 where
   pub grows : (d k : ℕ) (u : Tokens) (x : A) → L k u x → L (d + k) u x
-  pub answers : (ts : Tokens) → Answers (L limit) (OfHeight L) ts (p limit ts)
+  pub answers : (ts : Tokens) → Answers (L limit) (L (wide limit)) ts (p limit ts)
   pub complete : (d : ℕ) (u : Tokens) (x : A) → L d u x → p d u ≡ Got x []
   pub local : (d : ℕ) → Local (p d)
   pub lifts : (k d : ℕ) (ts : Tokens) → Lifts (p d ts) (p (d + k) ts)
@@ -35,8 +30,8 @@ module _ {A : Type 0} {L : ℕ → Tokens → A → Type 0} {limit : ℕ} {p : �
   within : (u : Tokens) → Begins (L limit) u → BeginsWithin L limit u
   within u b = record { more = b.more; value = b.value; spelled = b.spelt }
 
-  some : (u : Tokens) → Begins (OfHeight L) u → BeginsSome L u
-  some u b = record { height = b.spelt.height; begins = record { more = b.more; value = b.value; spelled = b.spelt.spelled } }
+  some : (u : Tokens) → Begins (L (wide limit)) u → BeginsSome L u
+  some u b = record { height = wide limit; begins = record { more = b.more; value = b.value; spelled = b.spelt } }
 
   lifted : (k : ℕ) (ts rest : Tokens) → p limit ts ≡ Bad Syntax rest → p (limit + k) ts ≡ Bad Syntax rest
   lifted k ts rest e = go (laws.lifts k limit ts)
@@ -68,24 +63,24 @@ module _ {A : Type 0} {L : ℕ → Tokens → A → Type 0} {limit : ℕ} {p : �
       let z : Bad Syntax [] ≡ Got x [] = sym far ∙ reads in cc
 
   pub syntax_at : (ts : Tokens) (end : Place) (rest : Tokens) → p limit ts ≡ Bad Syntax rest → IsSyntax L limit ts end (place_of end rest)
-  syntax_at ts end rest e = go rest e (subst (AnswersStep (L limit) (OfHeight L) [] ts) e (laws.answers ts).fact)
+  syntax_at ts end rest e = go rest e (subst (AnswersStep (L limit) (L (wide limit)) [] ts) e (laws.answers ts).fact)
     where
-      go : (rest : Tokens) → p limit ts ≡ Bad Syntax rest → AnswersStep (L limit) (OfHeight L) [] ts (Bad Syntax rest) → IsSyntax L limit ts end (place_of end rest)
+      go : (rest : Tokens) → p limit ts ≡ Bad Syntax rest → AnswersStep (L limit) (L (wide limit)) [] ts (Bad Syntax rest) → IsSyntax L limit ts end (place_of end rest)
       go [] e a = rule.at_end (subst (BeginsWithin L limit) (sym (a.1 ∙ append-nil a.0)) (within a.0 a.2)) (no_end ts e)
       go (t ∷ r) e a = rule.IsSyntax.at_token t r a.1 (within a.0 a.2) (no_more a.0 t r (ap (p limit) (sym a.1) ∙ e))
 
   pub deep_at : (ts : Tokens) (end : Place) (rest : Tokens) → p limit ts ≡ Bad Deep rest → IsDeep L limit ts (place_of end rest)
-  deep_at ts end rest e = go rest e (subst (AnswersStep (L limit) (OfHeight L) [] ts) e (laws.answers ts).fact)
+  deep_at ts end rest e = go rest e (subst (AnswersStep (L limit) (L (wide limit)) [] ts) e (laws.answers ts).fact)
     where
-      go : (rest : Tokens) → p limit ts ≡ Bad Deep rest → AnswersStep (L limit) (OfHeight L) [] ts (Bad Deep rest) → IsDeep L limit ts (place_of end rest)
+      go : (rest : Tokens) → p limit ts ≡ Bad Deep rest → AnswersStep (L limit) (L (wide limit)) [] ts (Bad Deep rest) → IsDeep L limit ts (place_of end rest)
       go [] e a = absurd (let z : [] ≡ a.3 ∷ a.4 = a.5 in cc)
       go (t ∷ r) e a =
           let head : a.3 ≡ t = cc in
-          rule.IsDeep.at_token t r a.1 (within a.0 a.2) (some (a.0 ++ t ∷ []) (subst (λ t. Begins (OfHeight L) (a.0 ++ t ∷ [])) head a.6)) (no_low a.0 t r (ap (p limit) (sym a.1) ∙ e))
+          rule.IsDeep.at_token t r a.1 (within a.0 a.2) (some (a.0 ++ t ∷ []) (subst (λ t. Begins (L (wide limit)) (a.0 ++ t ∷ [])) head a.6)) (no_low a.0 t r (ap (p limit) (sym a.1) ∙ e))
 
   pub read_is : (ts : Tokens) (x : A) (rest : Tokens) → p limit ts ≡ Got x rest → L limit ts x
   read_is ts x rest e =
-      let a = subst (AnswersStep (L limit) (OfHeight L) [] ts) e (laws.answers ts).fact in
+      let a = subst (AnswersStep (L limit) (L (wide limit)) [] ts) e (laws.answers ts).fact in
       let none : rest ≡ [] = laws.ends ts x rest e in
       subst (λ v. L limit v x) (sym (a.1 ∙ ap (λ r. a.0 ++ r) none ∙ append-nil a.0)) a.2
 
