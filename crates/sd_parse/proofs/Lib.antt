@@ -14,8 +14,9 @@ pub mod Lists
 pub mod ExpressionComplete
 pub mod ExpressionLocal
 pub mod ExpressionLifts
+pub mod Rows
+pub mod TypeLaws
+pub mod ClauseLaws
+pub mod NameLaws
 pub mod StatementSound
 pub mod StatementComplete
-pub mod ProgramSound
-pub mod ProgramComplete
-pub mod TextLemmas
