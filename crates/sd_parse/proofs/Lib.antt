@@ -15,8 +15,12 @@ pub mod ExpressionComplete
 pub mod ExpressionLocal
 pub mod ExpressionLifts
 pub mod Rows
+pub mod RowAnswers
 pub mod TypeLaws
 pub mod ClauseLaws
 pub mod NameLaws
+pub mod Limits
+pub mod TypeAnswers
+pub mod ClauseAnswers
 pub mod StatementSound
 pub mod StatementComplete
