@@ -24,3 +24,4 @@ pub mod TypeAnswers
 pub mod ClauseAnswers
 pub mod StatementSound
 pub mod StatementComplete
+pub mod StatementAnswers
