@@ -25,3 +25,6 @@ pub mod ClauseAnswers
 pub mod StatementSound
 pub mod StatementComplete
 pub mod StatementAnswers
+pub mod ProgramSound
+pub mod ProgramComplete
+pub mod TextLemmas

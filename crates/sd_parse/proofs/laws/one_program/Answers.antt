@@ -1,2 +1,5 @@
-use Rattle.sd_parse.proofs.StatementComplete.{statement_complete}
+use Rattle.sd_parse.proofs.TextLemmas.{one_program}
 use Rattle.sd_parse.proofs.laws.one_program.Goals as goal
+
+pub returns : goal.returns
+returns c = one_program
