@@ -27,4 +27,5 @@ pub mod StatementComplete
 pub mod StatementAnswers
 pub mod ProgramSound
 pub mod ProgramComplete
+pub mod ProgramAnswers
 pub mod TextLemmas

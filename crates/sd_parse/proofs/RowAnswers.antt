@@ -32,7 +32,7 @@ many_up : {A : Type 0} {F V : Tokens → A → Type 0} → ((u : Tokens) (x : A)
 many_up f none = none
 many_up f (more {u = u} {x = x} a m) = more (f u x a) (many_up f m)
 
-joined_up : {A : Type 0} {F V : Tokens → List A → Type 0} → ((u : Tokens) (x : List A) → F u x → V u x) → {u : Tokens} {xs : List A} → lists.Joined F u xs → lists.Joined V u xs
+pub joined_up : {A : Type 0} {F V : Tokens → List A → Type 0} → ((u : Tokens) (x : List A) → F u x → V u x) → {u : Tokens} {xs : List A} → lists.Joined F u xs → lists.Joined V u xs
 joined_up f lists.none = lists.none
 joined_up f (lists.more {u = u} {xs = x} a m) = lists.more (f u x a) (joined_up f m)
 
@@ -64,11 +64,11 @@ some_comma = spelled s.Comma (λ e. cc)
 some_close : Spelled s.Close
 some_close = spelled s.Close (λ e. cc)
 
-next_wide : {A : Type 0} {F V : Tokens → A → Type 0} → ((u : Tokens) (x : A) → F u x → V u x) → (u : Tokens) (x : A) → Next F u x → Next V u x
+pub next_wide : {A : Type 0} {F V : Tokens → A → Type 0} → ((u : Tokens) (x : A) → F u x → V u x) → (u : Tokens) (x : A) → Next F u x → Next V u x
 next_wide f w x (next {u = u} i a) = next i (f u x a)
 
 module _ {A : Type 0} {F V : Tokens → A → Type 0} {item : Reader A} (rule : Rule F V item) where
-  next_answers : (ts : Tokens) → is s.Comma (sign_of (ahead ts)) ≡ true → Answers (Next F) (Next V) ts (reading.next item ts)
+  pub next_answers : (ts : Tokens) → is s.Comma (sign_of (ahead ts)) ≡ true → Answers (Next F) (Next V) ts (reading.next item ts)
   unfolding reading.next
   next_answers ts e = into (to_next F) (to_next V) (after s.Comma some_comma ts (same_is (sign_of (ahead ts)) s.Comma e) (λ _. rule))
 
