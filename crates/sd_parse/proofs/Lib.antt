@@ -28,4 +28,8 @@ pub mod StatementAnswers
 pub mod ProgramSound
 pub mod ProgramComplete
 pub mod ProgramAnswers
+pub mod StatementLocal
+pub mod StatementLifts
+pub mod ProgramLocal
+pub mod ProgramLifts
 pub mod TextLemmas

@@ -207,7 +207,7 @@ module _ (d : ℕ) where
   to_checked u x (of_requires w) = record { height = w.height; spelt = p.requires (c.checked w.spelt); low = w.low }
   to_checked u x (of_ensures w) = record { height = w.height; spelt = p.ensures (c.checked w.spelt); low = w.low }
 
-  clause_law : (ts : Tokens) → Sound (Low (SpecText d) d) ts (clause d ts)
+  pub clause_law : (ts : Tokens) → Sound (Low (SpecText d) d) ts (clause d ts)
   unfolding clause free_condition
   clause_law ts = by_sign (sign_of (ahead ts)) refl
     where
@@ -371,7 +371,7 @@ module _ (d : ℕ) where
   unfolding implementation
   implementation_law ts e = into to_implementation (seq (skip_sound s.Implementation ts e) (λ _ ts. seq (attributes_sound d ts) (λ _ ts. seq (head_law d ts) (λ f ts. seq (body_law d ts) (λ b ts. done (decl.Implementation (record { head = f; body = b })) ts)))))
 
-  declaration_law : (ts : Tokens) → Sound (Low (Declaration d) d) ts (declaration d ts)
+  pub declaration_law : (ts : Tokens) → Sound (Low (Declaration d) d) ts (declaration d ts)
   unfolding declaration
   declaration_law ts = by_sign (sign_of (ahead ts)) refl
     where

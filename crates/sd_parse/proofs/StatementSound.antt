@@ -141,7 +141,7 @@ module _ (limit d : ℕ) where
   pub to_checked : (u : Tokens) (x : Invariant) → StatedInvariant false u x → Low (InvariantLine limit) d u x
   to_checked u x (stated_line w) = record { height = w.height; spelt = st.line (c.checked w.spelt); low = w.low }
 
-  invariant_law : (ts : Tokens) → Sound (Low (InvariantLine limit) d) ts (loop_invariant limit d ts)
+  pub invariant_law : (ts : Tokens) → Sound (Low (InvariantLine limit) d) ts (loop_invariant limit d ts)
   unfolding loop_invariant
   invariant_law ts = by_sign (sign_of (ahead ts)) refl
     where
