@@ -33,3 +33,4 @@ pub mod StatementLifts
 pub mod ProgramLocal
 pub mod ProgramLifts
 pub mod TextLemmas
+pub mod ProgramExact
