@@ -1,6 +1,6 @@
 -- The readers of attributes and claims read what is one within its height, and all of it.
 use Rattle.std.proofs.Common.{◌≡◌, ℕ, suc, ◌<◌, ◌≤◌, max, true, false, [], ◌∷◌, ◌++◌, length, refl, ap, sym, ◌∙◌, subst, arith, append_assoc}
-use Rattle.std.specs.Prelude.{Bool, Option, Some, None}
+use Rattle.std.specs.Prelude.{Some}
 use Rattle.std.proofs.lemmas.List.{append-nil}
 use Rattle.sd_base.specs.declared.Place.{Place}
 use Rattle.sd_base.specs.Value.{Text}
@@ -14,7 +14,7 @@ use Rattle.sd_parse.specs.Grammar as g
 use Rattle.sd_parse.specs.Grammar.{Tokens, Level, Whole, Phrase, Is, IsName, prefixes}
 use Rattle.sd_parse.specs.Clauses as c
 use Rattle.sd_parse.specs.Clauses.{Expression, Datum, Data, Attribute, Attributes, Claim}
-use Rattle.sd_parse.specs.Reading.{Got, Reader, Tall, and_then, ahead, sign_of, skip, want, name, begins, read, all}
+use Rattle.sd_parse.specs.Reading.{Got, and_then, ahead, sign_of, begins, read}
 use Rattle.sd_parse.specs.ReadingRows.{is, keep}
 use Rattle.sd_parse.specs.ReadingClauses.{expression, datum_by, datum, next_datum, more_data, contents_by, contents, attribute, attributes, claim}
 use Rattle.sd_parse.proofs.Sound as r

@@ -1,20 +1,20 @@
 -- The readers of names read names with commas between them, and all of them.
-use Rattle.std.proofs.Common.{◌≡◌, ℕ, ◌≤◌, true, false, List, [], ◌∷◌, ◌++◌, refl, sym, ◌∙◌, arith}
+use Rattle.std.proofs.Common.{◌≡◌, ℕ, false, List, [], ◌∷◌, ◌++◌, refl, arith}
 use Rattle.sd_base.specs.Value.{Text}
 use Rattle.sd_lex.specs.declared.Token.{Token}
 use Rattle.sd_parse.specs.declared.sign.Sign.TheVariants as s
-use Rattle.sd_parse.specs.Grammar.{Tokens, Is, IsName}
+use Rattle.sd_parse.specs.Grammar.{Tokens, IsName}
 use Rattle.sd_parse.specs.Rows as w
 use Rattle.sd_parse.specs.Rows.{Commas}
 use Rattle.sd_parse.specs.Statements as st
 use Rattle.sd_parse.specs.Statements.{Names}
-use Rattle.sd_parse.specs.Reading.{Got, ahead, sign_of, name}
+use Rattle.sd_parse.specs.Reading.{Got, ahead, sign_of}
 use Rattle.sd_parse.specs.ReadingRows.{is, plain_name, names}
 use Rattle.sd_parse.specs.ReadingRows as reading
 use Rattle.sd_parse.proofs.Sound.{Sound, Named, named, Nothing, settle, Both, both, seq, done, into, name_sound}
 use Rattle.sd_parse.proofs.ExpressionComplete.{name_goes, name_sign}
-use Rattle.sd_parse.proofs.Lists.{Many, Behind, none, more}
-use Rattle.sd_parse.proofs.Rows.{Low, Next, next, commas_of, of_commas, commas_sound, commas_complete, more_sound, more_complete}
+use Rattle.sd_parse.proofs.Lists.{Many, Behind, none}
+use Rattle.sd_parse.proofs.Rows.{Low, Next, commas_of, of_commas, commas_sound, commas_complete, more_sound, more_complete}
 
 -- one name
 pub data NameText : Tokens → Text → ℕ → Type 0 where

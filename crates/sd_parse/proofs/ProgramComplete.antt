@@ -1,6 +1,6 @@
 -- What is spelled as a program is read.
 use Rattle.std.proofs.Common.{◌≡◌, ℕ, ◌<◌, ◌≤◌, max, true, false, List, [], ◌∷◌, ◌++◌, length, refl, ap, sym, ◌∙◌, subst, arith, append_assoc}
-use Rattle.std.specs.Prelude.{Bool, Option, Some, None}
+use Rattle.std.specs.Prelude.{Bool, Some, None}
 use Rattle.std.proofs.lemmas.List.{append-nil}
 use Rattle.sd_base.specs.declared.Sort.{Sort}
 use Rattle.sd_base.specs.declared.Sort.TheVariants as sort
@@ -18,7 +18,6 @@ use Rattle.sd_ast.specs.declared.Decl.{Decl}
 use Rattle.sd_ast.specs.declared.Decl.TheVariants as decl
 use Rattle.sd_parse.specs.declared.sign.Sign.{Sign}
 use Rattle.sd_parse.specs.declared.sign.Sign.TheVariants as s
-use Rattle.sd_parse.specs.Signs.{sign}
 use Rattle.sd_parse.specs.Grammar.{Tokens, Is, IsName}
 use Rattle.sd_parse.specs.Rows as w
 use Rattle.sd_parse.specs.Rows.{Row, Joined, Enclosed}
@@ -35,7 +34,7 @@ use Rattle.sd_parse.specs.ReadingRows.{is, push, join_lists, names, enclosed}
 use Rattle.sd_parse.specs.ReadingRows as reading
 use Rattle.sd_parse.specs.ReadingTypes.{begins_type, type_of}
 use Rattle.sd_parse.specs.ReadingClauses.{attributes, claim}
-use Rattle.sd_parse.specs.ReadingStatements.{begins_statement, statements, statement}
+use Rattle.sd_parse.specs.ReadingStatements.{statements, statement}
 use Rattle.sd_parse.specs.ReadingPrograms.{begins_spec, begins_declaration, modified_by, modified, modifies, uniqueness_by, uniqueness, typed, group, more_groups, vars, var_line, locals, parameters_by, listed_parameters, parameters, results_by, results, head, required, ensured, condition_by, condition, free_condition, clause_by, clause, clauses, body, named_by, after_name, named_argument, argument_by, argument, returned_type, colon_type, result_by, result_type, types, constants, function, axiom_line, globals, declared, defined, procedure_by, procedure_from, procedure, implementation, declaration_by, declaration, declarations, ended, program}
 use Rattle.sd_parse.proofs.Sound.{same_is}
 use Rattle.sd_parse.proofs.ExpressionComplete.{want_goes, name_goes, name_sign, same_signs}

@@ -1,6 +1,6 @@
 -- What the reader of programs has read is a list of declarations within its height.
-use Rattle.std.proofs.Common.{◌≡◌, ℕ, zero, suc, ◌≤◌, max, true, false, List, [], ◌∷◌, ◌++◌, length, refl, sym, ◌∙◌, subst, arith, append_assoc}
-use Rattle.std.specs.Prelude.{Bool, Option, Some, None}
+use Rattle.std.proofs.Common.{◌≡◌, ℕ, zero, suc, ◌≤◌, max, true, false, List, [], ◌∷◌, ◌++◌, length, refl, sym, ◌∙◌, subst, arith}
+use Rattle.std.specs.Prelude.{Bool, Some, None}
 use Rattle.std.proofs.lemmas.List.{append-nil}
 use Rattle.sd_base.specs.declared.Sort.{Sort}
 use Rattle.sd_base.specs.declared.Sort.TheVariants as sort
@@ -26,7 +26,7 @@ use Rattle.sd_parse.specs.Clauses.{Attributes, Claim, Clause}
 use Rattle.sd_parse.specs.Statements.{Names, Statements}
 use Rattle.sd_parse.specs.Programs as p
 use Rattle.sd_parse.specs.Programs.{variables, Typed, Vars, VarLine, Parameters, Results, HeadText, SpecText, BodyText, Uniqueness, Argument, ResultType, Declaration}
-use Rattle.sd_parse.specs.Reading.{Step, Got, Bad, and_then, ahead, sign_of, name}
+use Rattle.sd_parse.specs.Reading.{Step, Got, Bad, and_then, ahead, sign_of}
 use Rattle.sd_parse.specs.ReadingRows.{is, join_lists, names, enclosed}
 use Rattle.sd_parse.specs.ReadingRows as reading
 use Rattle.sd_parse.specs.ReadingStatements.{statement}

@@ -11,7 +11,7 @@ use Rattle.sd_parse.specs.Signs.{sign, same_sign}
 use Rattle.sd_parse.specs.Grammar.{Tokens, Is}
 use Rattle.sd_parse.specs.Rows as r
 use Rattle.sd_parse.specs.Rows.{Row, Joined, Commas, Enclosed}
-use Rattle.sd_parse.specs.Reading.{Got, Reader, and_then, ahead, sign_of, skip, want, all}
+use Rattle.sd_parse.specs.Reading.{Got, Reader, and_then, ahead, sign_of, want, all}
 use Rattle.sd_parse.specs.ReadingRows.{push, join_lists, is, listed_by, listed, enclosed}
 use Rattle.sd_parse.specs.ReadingRows as reading
 use Rattle.sd_parse.proofs.Sound.{Sound, Wanted, wanted, Nothing, settle, Both, both, seq, done, into, skip_sound, want_sound, many_sound, same_is}

@@ -1,6 +1,6 @@
 -- What is spelled as a statement is read, where no `else` follows.
 use Rattle.std.proofs.Common.{◌≡◌, ℕ, zero, suc, ◌<◌, ◌≤◌, max, true, false, List, [], ◌∷◌, ◌++◌, length, refl, ap, sym, ◌∙◌, subst, arith, append_assoc}
-use Rattle.std.specs.Prelude.{Bool, Option, Some, None}
+use Rattle.std.specs.Prelude.{Bool, Some}
 use Rattle.std.proofs.lemmas.List.{append-nil}
 use Rattle.sd_base.specs.declared.Place.{Place}
 use Rattle.sd_base.specs.Value.{Text}
@@ -20,7 +20,7 @@ use Rattle.sd_parse.specs.Clauses as c
 use Rattle.sd_parse.specs.Clauses.{Expression, Attributes, Claim, Clause}
 use Rattle.sd_parse.specs.Statements as st
 use Rattle.sd_parse.specs.Statements.{Index, LeftSide, Receivers, InvariantLine, Statement, Otherwise, Block, Statements, stated}
-use Rattle.sd_parse.specs.Reading.{Got, Reader, and_then, ahead, sign_of, skip, want, name}
+use Rattle.sd_parse.specs.Reading.{Got, Reader, and_then, ahead, sign_of, want, name}
 use Rattle.sd_parse.specs.ReadingRows.{is, push, plain_name}
 use Rattle.sd_parse.specs.ReadingRows as reading
 use Rattle.sd_parse.specs.ReadingClauses.{expression, attributes, claim}
@@ -28,7 +28,7 @@ use Rattle.sd_parse.specs.ReadingStatements.{index, indices, left, plain_left, b
 use Rattle.sd_parse.proofs.Sound.{same_is}
 use Rattle.sd_parse.proofs.ExpressionComplete.{want_goes, name_goes, name_sign, same_signs, Stops}
 use Rattle.sd_parse.proofs.Lists.{Many, none, more, push_all, all_complete}
-use Rattle.sd_parse.proofs.Rows.{Low, Next, next, apart, other_sign, of_commas, row_complete, more_complete, commas_complete, enclosed_complete}
+use Rattle.sd_parse.proofs.Rows.{Low, Next, next, apart, of_commas, row_complete, more_complete, commas_complete, enclosed_complete}
 use Rattle.sd_parse.proofs.NameLaws.{NextNames, FirstName, first_of, split_names, more_names_complete, names_first}
 use Rattle.sd_parse.proofs.ClauseLaws.{begins_other, expression_first, expression_high, expression_complete, stops_at, stops_at_comma, attributes_complete, claim_first, claim_high, claim_some, claim_complete}
 use Rattle.sd_parse.proofs.TypeLaws.{deeper_goes}

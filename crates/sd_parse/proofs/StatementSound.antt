@@ -1,5 +1,5 @@
 -- What the reader of statements has read is a statement within its height.
-use Rattle.std.proofs.Common.{◌≡◌, ℕ, zero, suc, ◌<◌, ◌≤◌, max, true, false, cond, List, [], ◌∷◌, ◌++◌, length, refl, ap, sym, ◌∙◌, subst, arith, append_assoc}
+use Rattle.std.proofs.Common.{◌≡◌, ℕ, zero, suc, ◌<◌, max, true, false, cond, List, [], ◌∷◌, ◌++◌, length, refl, ap, sym, ◌∙◌, subst, arith, append_assoc}
 use Rattle.std.specs.Prelude.{Bool}
 use Rattle.std.proofs.lemmas.List.{append-nil}
 use Rattle.sd_base.specs.declared.Place.{Place}
@@ -18,10 +18,10 @@ use Rattle.sd_parse.specs.Clauses as c
 use Rattle.sd_parse.specs.Clauses.{Expression, Attributes, Claim}
 use Rattle.sd_parse.specs.Statements as st
 use Rattle.sd_parse.specs.Statements.{Index, LeftSide, InvariantLine, Statement, Otherwise, Block, Statements, stated}
-use Rattle.sd_parse.specs.Reading.{Syntax, Deep, Step, Got, Bad, Reader, and_then, ahead, sign_of, skip, want, name}
+use Rattle.sd_parse.specs.Reading.{Syntax, Deep, Step, Got, Bad, Reader, and_then, ahead, sign_of, want}
 use Rattle.sd_parse.specs.ReadingRows.{is, push, plain_name}
 use Rattle.sd_parse.specs.ReadingRows as reading
-use Rattle.sd_parse.specs.ReadingClauses.{expression, attributes, claim}
+use Rattle.sd_parse.specs.ReadingClauses.{expression, claim}
 use Rattle.sd_parse.specs.ReadingStatements.{index, indices, left, plain_left, begins_invariant, stated_invariant, invariant_by, loop_invariant, invariants, begins_statement, asserted, assumed, assigned, applied, applied_to, received, call_by, call_from, called, statements, block, branch_by, branch, otherwise_by, otherwise, guard, conditional, looped, broken, returned, statement_by, statement_layer, statement}
 use Rattle.sd_parse.proofs.Sound.{Sound, Wanted, wanted, Named, named, Nothing, settle, Both, both, seq, done, into, deeper_sound, skip_sound, want_sound, name_sound, many_sound, same_is}
 use Rattle.sd_parse.proofs.Lists.{Many, Behind, none, more, pushed}

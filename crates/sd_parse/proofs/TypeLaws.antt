@@ -1,18 +1,15 @@
 -- The reader of types reads what is a type within its height, and all of it.
-use Rattle.std.proofs.Common.{◌≡◌, ℕ, zero, suc, ◌<◌, ◌≤◌, max, true, false, cond, [], ◌∷◌, ◌++◌, length, refl, ap, sym, ◌∙◌, subst, arith, append_assoc}
+use Rattle.std.proofs.Common.{◌≡◌, ℕ, zero, suc, ◌≤◌, max, true, false, cond, ◌∷◌, ◌++◌, refl, ap, sym, ◌∙◌, subst, arith, append_assoc}
 use Rattle.std.specs.Prelude.{Bool}
 use Rattle.std.proofs.lemmas.List.{append-nil}
 use Rattle.sd_base.specs.declared.Sort.{Sort}
 use Rattle.sd_base.specs.declared.Sort.TheVariants as sort
-use Rattle.sd_base.specs.declared.Place.{Place}
-use Rattle.sd_base.specs.Value.{Text}
-use Rattle.sd_lex.specs.declared.Token.{Token}
 use Rattle.sd_parse.specs.declared.sign.Sign.{Sign}
 use Rattle.sd_parse.specs.declared.sign.Sign.TheVariants as s
-use Rattle.sd_parse.specs.Grammar.{Tokens, Is}
+use Rattle.sd_parse.specs.Grammar.{Tokens}
 use Rattle.sd_parse.specs.Types as ty
 use Rattle.sd_parse.specs.Types.{TypeText}
-use Rattle.sd_parse.specs.Reading.{Syntax, Deep, Got, Bad, Reader, and_then, ahead, sign_of, skip, want, name, deeper}
+use Rattle.sd_parse.specs.Reading.{Syntax, Deep, Got, Bad, Reader, and_then, ahead, sign_of, skip, want, deeper}
 use Rattle.sd_parse.specs.ReadingTypes.{begins_type, map_type, type_by, type_layer, type_of}
 use Rattle.sd_parse.proofs.Sound.{Sound, Wanted, wanted, Named, named, Nothing, settle, Both, both, seq, done, into, deeper_sound, skip_sound, want_sound, name_sound}
 use Rattle.sd_parse.proofs.ExpressionComplete.{want_goes, name_goes, name_sign}

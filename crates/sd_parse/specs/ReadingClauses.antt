@@ -1,5 +1,5 @@
 -- What the readers of attributes and claims give.
-use Rattle.std.specs.Prelude.{ℕ, Bool, true, false}
+use Rattle.std.specs.Prelude.{ℕ}
 use Rattle.sd_base.specs.declared.Place.{Place}
 use Rattle.sd_ast.specs.declared.Expr.{Expr}
 use Rattle.sd_parse.specs.declared.sign.Sign.{Sign}

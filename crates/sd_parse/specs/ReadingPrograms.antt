@@ -1,5 +1,5 @@
 -- What the readers of declarations and programs give.
-use Rattle.std.specs.Prelude.{ℕ, Bool, true, false, List, [], ◌∷◌, Option, Some, None}
+use Rattle.std.specs.Prelude.{ℕ, Bool, true, false, List, [], ◌∷◌, Some, None}
 use Rattle.sd_base.specs.declared.Var.{Var}
 use Rattle.sd_base.specs.declared.Sort.{Sort}
 use Rattle.sd_base.specs.declared.Sort.TheVariants as sort
@@ -12,7 +12,6 @@ use Rattle.sd_ast.specs.declared.Decl.{Decl}
 use Rattle.sd_ast.specs.declared.Decl.TheVariants as decl
 use Rattle.sd_parse.specs.declared.sign.Sign.{Sign}
 use Rattle.sd_parse.specs.declared.sign.Sign.TheVariants as s
-use Rattle.sd_parse.specs.Grammar.{Tokens}
 use Rattle.sd_parse.specs.Programs.{variables}
 use Rattle.sd_parse.specs.Reading.{Syntax, Got, Bad, Reader, ◌>>=◌, pure, bad, look, skip, sign_of, want, name, all, deeper}
 use Rattle.sd_parse.specs.ReadingRows.{is, push, join_lists, next, enclosed, names}

@@ -1,5 +1,5 @@
 -- What a text is read as.
-use Rattle.std.specs.Prelude.{◌≡◌, ℕ, suc, ◌≤◌, List, [], ◌∷◌, length}
+use Rattle.std.specs.Prelude.{◌≡◌, ℕ, ◌≤◌, Bool, true, false, List, length, count_by}
 use Rattle.sd_lex.specs.Pieces.{Bytes}
 use Rattle.sd_lex.specs.Tokens as lex
 use Rattle.sd_ast.specs.declared.Decl.{Decl}
@@ -9,12 +9,14 @@ use Rattle.sd_ast.specs.Boolean.{IsBooleanProgram}
 use Rattle.sd_parse.specs.Grammar.{Tokens}
 use Rattle.sd_parse.specs.Programs.{Spells}
 
+unfoldable pub is_procedure : Decl → Bool
+is_procedure (Procedure p) = true
+is_procedure (Implementation i) = true
+is_procedure _ = false
+
 -- how many procedures and implementations the declarations have together
 abbrev pub procedures : List Decl → ℕ
-procedures [] = 0
-procedures (Procedure p ∷ ds) = suc (procedures ds)
-procedures (Implementation i ∷ ds) = suc (procedures ds)
-procedures (d ∷ ds) = procedures ds
+procedures ds = count_by is_procedure ds
 
 -- The text is within the limits, and its tokens spell this well-typed program.
 pub record IsRead (bytes : Bytes) (P : Program) : Type 0 where

@@ -4,6 +4,7 @@
 mod assignment;
 mod attribute;
 mod clause;
+mod count;
 mod cursor;
 mod expression;
 mod function;

@@ -4,16 +4,16 @@ ghost use Rattle.sd_ast.specs.declared.Program.{Program as Tree};
 ghost use Rattle.sd_lex.specs.declared.LexError.TheVariants as lexical;
 ghost use Rattle.sd_lex.specs.Tokens as lex;
 ghost use Rattle.sd_parse.specs.Programs.{Spells};
-ghost use Rattle.sd_parse.specs.Text.{IsRead, HasTokens, IsSpelled, procedures as count};
+ghost use Rattle.sd_parse.specs.Text.{IsRead, HasTokens, IsSpelled};
 
+use crate::count::procedures;
 use crate::cursor::{Cursor, Fault};
 use crate::program::program;
-use sd_ast::{Decl, Program};
+use sd_ast::Program;
 use sd_base::NoMemory;
 use sd_base::limits::{HEIGHT, PROCEDURES, TEXT_BYTES};
 use sd_lex::{LexError, Token, tokens};
 use sd_types::is_boolean_program;
-use sqlite_items::Items;
 use std::alloc::Global;
 use thiserror::Error;
 
@@ -75,20 +75,6 @@ fn program_of(alloc: Global, tokens: &[Token]) -> Result<Option<Program>, NoMemo
     }
 }
 
-/// How many procedures and implementations the declarations have together.
-fn procedures(decls: &Items<Decl>) -> usize
-    ensures { result ≡ count decls.now }
-{
-    let mut found = 0;
-    for decl in decls.as_slice() {
-        match decl {
-            Decl::Procedure(_) | Decl::Implementation(_) => found += 1,
-            _ => {}
-        }
-    }
-    found
-}
-
 /// The program that the text is. It is refused with `NotYet` exactly where it is none.
 pub fn read_program(alloc: Global, bytes: &[u8]) -> Result<Program, ReadError>
     ensures read { IfOk result (λ p. IsRead bytes.now p) }
@@ -103,7 +89,7 @@ pub fn read_program(alloc: Global, bytes: &[u8]) -> Result<Program, ReadError>
     let Some(program) = program_of(alloc, tokens.as_slice())? else {
         return Err(ReadError::NotYet);
     };
-    if procedures(&program.decls) > PROCEDURES {
+    if procedures(program.decls.as_slice()) > PROCEDURES {
         return Err(ReadError::NotYet);
     }
     let typed = is_boolean_program(alloc, &program)?;

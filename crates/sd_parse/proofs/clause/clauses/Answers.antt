@@ -1,7 +1,5 @@
 use Rattle.std.proofs.Common.{◌≡◌, ◌-◌, true, false, [], sym, ap, ◌∙◌, rules, arith}
 use Rattle.std.proofs.lemmas.Grind.{common_steps}
-use Rattle.sd_parse.specs.declared.sign.Sign.TheVariants as s
-use Rattle.sd_parse.specs.Signs.{same_sign}
 use Rattle.sd_parse.specs.Reading.{sign_of, ahead, many}
 use Rattle.sd_parse.specs.ReadingRows.{push}
 use Rattle.sd_parse.specs.ReadingPrograms.{begins_spec, clause, clauses}

@@ -1,5 +1,4 @@
 use Rattle.std.proofs.Common.{◌≡◌, ◌-◌}
-use Rattle.sd_parse.specs.declared.sign.Sign.TheVariants as s
 use Rattle.sd_parse.specs.Reading.{many}
 use Rattle.sd_parse.specs.ReadingRows.{push}
 use Rattle.sd_parse.specs.ReadingPrograms.{begins_declaration, declaration, declarations}

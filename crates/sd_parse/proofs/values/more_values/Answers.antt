@@ -1,8 +1,8 @@
-use Rattle.std.proofs.Common.{◌≡◌, ◌-◌, true, false, [], sym, ap, ◌∙◌, rules, arith}
+use Rattle.std.proofs.Common.{◌≡◌, true, false, sym, ap, ◌∙◌, rules, arith}
 use Rattle.std.proofs.lemmas.Grind.{common_steps}
 use Rattle.sd_parse.specs.declared.sign.Sign.TheVariants as s
 use Rattle.sd_parse.specs.Signs.{same_sign}
-use Rattle.sd_parse.specs.Reading.{sign_of, ahead, many}
+use Rattle.sd_parse.specs.Reading.{sign_of, ahead}
 use Rattle.sd_parse.specs.ReadingRows.{is, push, more}
 use Rattle.sd_parse.specs.ReadingRows as rows
 use Rattle.sd_parse.specs.ReadingClauses.{expression}
