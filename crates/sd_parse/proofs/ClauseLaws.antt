@@ -20,35 +20,12 @@ use Rattle.sd_parse.specs.ReadingClauses.{expression, datum_by, datum, next_datu
 use Rattle.sd_parse.proofs.Sound as r
 use Rattle.sd_parse.proofs.Sound.{Sound, Wanted, wanted, Named, named, Nothing, settle, Both, both, Repeat, seq, done, into, skip_sound, want_sound, name_sound, many_sound, same_is}
 use Rattle.sd_parse.proofs.ExpressionSound.{Within, read_law}
-use Rattle.sd_parse.proofs.ExpressionComplete.{tall, rank, Stops, read_complete, want_goes, name_goes, name_sign, number_sign, same_signs}
+use Rattle.sd_parse.proofs.Heights.{tall}
+use Rattle.sd_parse.proofs.ExpressionComplete.{rank, Stops, read_complete, phrase_first, want_goes, name_goes, name_sign, number_sign, same_signs}
 use Rattle.sd_parse.proofs.Lists.{all_complete}
 use Rattle.sd_parse.proofs.Rows.{Low, Next, next, next_first, next_some, other_sign}
 
 -- ---- expressions
-
-prefix_begins : (x : Sign) (f : UnOp) → prefixes x ≡ Some f → begins x ≡ true
-prefix_begins s.Not f e = refl
-prefix_begins s.Minus f e = refl
-prefix_begins _ f e = absurd (cc)
-
-pub phrase_first : {l : Level} {u : Tokens} {e : Expr} {h : ℕ} {p : Place} (rest : Tokens) → Phrase l u e h p → begins (sign_of (ahead (u ++ rest))) ≡ true
-phrase_first rest (g.number {t = t} {n = n} i) = ap begins (number_sign n t i)
-phrase_first rest (g.yes i) = ap begins i.same
-phrase_first rest (g.no i) = ap begins i.same
-phrase_first rest (g.name {t = t} {x = x} i) = ap begins (name_sign x t i)
-phrase_first rest (g.parens i p j) = ap begins i.same
-phrase_first rest (g.atom p) = phrase_first rest p
-phrase_first rest (g.unary {t = t} {f = f} i p) = prefix_begins (sign t) f i.operator
-phrase_first rest (g.only i p) = phrase_first rest p
-phrase_first rest (g.repeat {t = t} {u = u} {v = v} p f q) = ap (λ z. begins (sign_of (ahead z))) (append_assoc u (t ∷ v) rest) ∙ phrase_first (t ∷ v ++ rest) p
-phrase_first rest (g.sum p) = phrase_first rest p
-phrase_first rest (g.compare {t = t} {u = u} {v = v} p f q) = ap (λ z. begins (sign_of (ahead z))) (append_assoc u (t ∷ v) rest) ∙ phrase_first (t ∷ v ++ rest) p
-phrase_first rest (g.all p) = phrase_first rest p
-phrase_first rest (g.any p) = phrase_first rest p
-phrase_first rest (g.last p) = phrase_first rest p
-phrase_first rest (g.right {t = t} {u = u} {v = v} p i q) = ap (λ z. begins (sign_of (ahead z))) (append_assoc u (t ∷ v) rest) ∙ phrase_first (t ∷ v ++ rest) p
-phrase_first rest (g.implies p) = phrase_first rest p
-phrase_first rest (g.explied p) = phrase_first rest p
 
 pub expression_first : {u : Tokens} {e : Expr} {h : ℕ} (rest : Tokens) → Expression u e h → begins (sign_of (ahead (u ++ rest))) ≡ true
 expression_first rest (c.whole p) = phrase_first rest p
@@ -56,7 +33,7 @@ expression_first rest (c.whole p) = phrase_first rest p
 pub expression_high : {u : Tokens} {e : Expr} {h : ℕ} → Expression u e h → 1 ≤ h
 expression_high (c.whole p) = tall p
 
-to_expression : (d : ℕ) (u : Tokens) (x : Expr) → Both (Within d Whole) (λ e. Nothing e.0) u x → Low Expression d u x
+pub to_expression : (d : ℕ) (u : Tokens) (x : Expr) → Both (Within d Whole) (λ e. Nothing e.0) u x → Low Expression d u x
 to_expression d u x (both {u = v} {x = e} w n) = settle n (λ z x. Low Expression d (v ++ z) x) (subst (λ z. Low Expression d z e.0) (sym (append-nil v)) (record { height = e.1; spelt = c.whole w.phrase; low = w.low }))
 
 pub expression_sound : (d : ℕ) (ts : Tokens) → Sound (Low Expression d) ts (expression d ts)
@@ -70,8 +47,8 @@ expression_complete d u e h rest (c.whole {p = p} q) low stops =
     rw w refl
 
 -- a sign that goes on with no expression
-pub stops_at : (x : Sign) (rest : Tokens) → sign_of (ahead rest) ≡ x → 6 < rank x → Stops Whole rest
-stops_at x rest e l = record { looser = subst (λ y. 6 < rank y) (sym e) l }
+pub stops_at : (x : Sign) (rest : Tokens) → sign_of (ahead rest) ≡ x → 7 < rank x → Stops Whole rest
+stops_at x rest e l = record { looser = subst (λ y. 7 < rank y) (sym e) l }
 
 pub stops_at_comma : (rest : Tokens) → is s.Comma (sign_of (ahead rest)) ≡ true → Stops Whole rest
 stops_at_comma rest e = stops_at s.Comma rest (same_is (sign_of (ahead rest)) s.Comma e) (omega arith)
@@ -83,13 +60,13 @@ begins_other x y e f g = let z : begins y ≡ true = ap begins (sym g) ∙ e in 
 -- ---- attributes
 
 -- what leaves nothing
-abbrev DatumText : Tokens → Unit {0} → ℕ → Type 0
+abbrev pub DatumText : Tokens → Unit {0} → ℕ → Type 0
 DatumText u x h = Datum u h
 
-abbrev DataText : Tokens → Unit {0} → ℕ → Type 0
+abbrev pub DataText : Tokens → Unit {0} → ℕ → Type 0
 DataText u x h = Data u h
 
-abbrev AttributeText : Tokens → Unit {0} → ℕ → Type 0
+abbrev pub AttributeText : Tokens → Unit {0} → ℕ → Type 0
 AttributeText u x h = Attribute u h
 
 abbrev pub AttributesText : ℕ → Tokens → Unit {0} → Type 0
@@ -104,10 +81,10 @@ data_first rest (c.one f) e = datum_first rest f e
 data_first rest (c.more {c = t} {u = u} {v = v} f i m) e = datum_first (t ∷ (v ++ rest)) f (ap (λ z. sign_of (ahead z)) (sym (append_assoc u (t ∷ v) rest)) ∙ e)
 
 module _ (d : ℕ) where
-  to_text : (u : Tokens) (x : Unit {0}) → Both (Wanted s.Text) (λ _. Nothing tt) u x → Low DatumText d u x
+  pub to_text : (u : Tokens) (x : Unit {0}) → Both (Wanted s.Text) (λ _. Nothing tt) u x → Low DatumText d u x
   to_text u x (both (wanted {t = t} i) n) = settle n (λ z x. Low DatumText d (t ∷ z) x) (record { height = 0; spelt = c.text i; low = omega arith })
 
-  to_datum : (u : Tokens) (x : Unit {0}) → Both (Low Expression d) (λ _. Nothing tt) u x → Low DatumText d u x
+  pub to_datum : (u : Tokens) (x : Unit {0}) → Both (Low Expression d) (λ _. Nothing tt) u x → Low DatumText d u x
   to_datum u x (both {u = v} w n) = settle n (λ z x. Low DatumText d (v ++ z) x) (subst (λ z. Low DatumText d z tt) (sym (append-nil v)) (record { height = w.height; spelt = c.expression w.spelt; low = w.low }))
 
   datum_sound : (ts : Tokens) → Sound (Low DatumText d) ts (datum d ts)
@@ -118,7 +95,7 @@ module _ (d : ℕ) where
       by_sign s.Text e = into to_text (seq (skip_sound s.Text ts e) (λ _ ts. done tt ts))
       by_sign _ e = into to_datum (seq (expression_sound d ts) (λ _ ts. done tt ts))
 
-  to_next : (u : Tokens) (x : Unit {0}) → Both (Wanted s.Comma) (λ _. Low DatumText d) u x → Next (Low DatumText d) u x
+  pub to_next : (u : Tokens) (x : Unit {0}) → Both (Wanted s.Comma) (λ _. Low DatumText d) u x → Next (Low DatumText d) u x
   to_next u x (both (wanted i) f) = next i f
 
   next_sound : (ts : Tokens) → is s.Comma (sign_of (ahead ts)) ≡ true → Sound (Next (Low DatumText d)) ts (next_datum d ts)
@@ -129,16 +106,16 @@ module _ (d : ℕ) where
   unfolding more_data
   more_sound ts = many_sound (Next (Low DatumText d)) (is s.Comma) (next_datum d) keep next_sound (suc (length ts)) tt ts
 
-  data_of : {u v : Tokens} {x acc y : Unit {0}} → Low DatumText d u x → Repeat (Next (Low DatumText d)) (is s.Comma) keep acc v y → Low DataText d (u ++ v) tt
+  pub data_of : {u v : Tokens} {x acc y : Unit {0}} → Low DatumText d u x → Repeat (Next (Low DatumText d)) (is s.Comma) keep acc v y → Low DataText d (u ++ v) tt
   data_of {u = u} f r.none = subst (λ z. Low DataText d z tt) (sym (append-nil u)) (record { height = f.height; spelt = c.one f.spelt; low = f.low })
   data_of {u = u} f (r.more (next {u = v} {x = x} i g) m) = let w = data_of {u = v} {x = x} g m in record { height = max f.height w.height; spelt = c.more f.spelt i w.spelt; low = let y = f.low in let z = w.low in omega arith }
 
   -- what stands in an attribute after its name
-  data Contents : Tokens → Unit {0} → Type 0 where
+  pub data Contents : Tokens → Unit {0} → Type 0 where
     empty : Contents [] tt
     given : {u : Tokens} → Low DataText d u tt → Contents u tt
 
-  to_given : (u : Tokens) (x : Unit {0}) → Both (Low DatumText d) (λ _. Repeat (Next (Low DatumText d)) (is s.Comma) keep tt) u x → Contents u x
+  pub to_given : (u : Tokens) (x : Unit {0}) → Both (Low DatumText d) (λ _. Repeat (Next (Low DatumText d)) (is s.Comma) keep tt) u x → Contents u x
   to_given w x (both {u = u} {v = v} f m) = given (data_of f m)
 
   contents_sound : (ts : Tokens) → Sound Contents ts (contents d ts)
@@ -149,18 +126,18 @@ module _ (d : ℕ) where
       by_sign s.CloseBrace e = record { fact = ([], refl, empty) }
       by_sign _ e = into to_given (seq (datum_sound ts) (λ _ ts. more_sound ts))
 
-  attribute_of : {o n e : Token} {x : Text} {u : Tokens} {y : Unit {0}} → Is s.OpenAttribute o → IsName x n → Contents u y → Is s.CloseBrace e → Low AttributeText d (o ∷ n ∷ (u ++ e ∷ [])) tt
+  pub attribute_of : {o n e : Token} {x : Text} {u : Tokens} {y : Unit {0}} → Is s.OpenAttribute o → IsName x n → Contents u y → Is s.CloseBrace e → Low AttributeText d (o ∷ n ∷ (u ++ e ∷ [])) tt
   attribute_of i j empty k = record { height = 0; spelt = c.bare i j k; low = omega arith }
   attribute_of i j (given w) k = record { height = w.height; spelt = c.full i j w.spelt k; low = w.low }
 
-  to_attribute : (u : Tokens) (x : Unit {0}) → Both (Wanted s.OpenAttribute) (λ _. Both Named (λ _. Both Contents (λ _. Both (Wanted s.CloseBrace) (λ _. Nothing tt)))) u x → Low AttributeText d u x
+  pub to_attribute : (u : Tokens) (x : Unit {0}) → Both (Wanted s.OpenAttribute) (λ _. Both Named (λ _. Both Contents (λ _. Both (Wanted s.CloseBrace) (λ _. Nothing tt)))) u x → Low AttributeText d u x
   to_attribute u x (both (wanted {t = o} i) (both (named {t = n} j) (both {u = v} w (both (wanted {t = e} k) m)))) = settle m (λ z x. Low AttributeText d (o ∷ n ∷ (v ++ e ∷ z)) x) (attribute_of i j w k)
 
   attribute_sound : (ts : Tokens) → is s.OpenAttribute (sign_of (ahead ts)) ≡ true → Sound (Low AttributeText d) ts (attribute d ts)
   unfolding attribute
   attribute_sound ts e = into to_attribute (seq (skip_sound s.OpenAttribute ts (same_is (sign_of (ahead ts)) s.OpenAttribute e)) (λ _ ts. seq (name_sound ts) (λ _ ts. seq (contents_sound ts) (λ _ ts. seq (want_sound s.CloseBrace ts) (λ _ ts. done tt ts)))))
 
-  attributes_of : {u : Tokens} {acc y : Unit {0}} → Repeat (Low AttributeText d) (is s.OpenAttribute) keep acc u y → Attributes d u
+  pub attributes_of : {u : Tokens} {acc y : Unit {0}} → Repeat (Low AttributeText d) (is s.OpenAttribute) keep acc u y → Attributes d u
   attributes_of r.none = c.none
   attributes_of (r.more f m) = c.more f.spelt f.low (attributes_of m)
 
@@ -247,7 +224,7 @@ not_attribute x e = other_sign x s.OpenAttribute (begins_other x s.OpenAttribute
 -- ---- claims
 
 module _ (limit d : ℕ) (word : Sign) where
-  to_claim : (u : Tokens) (x : Place × Expr) → Both (Wanted word) (λ p. Both (AttributesText limit) (λ _. Both (Low Expression d) (λ e. Both (Wanted s.Semi) (λ _. Nothing (p, e))))) u x → Low (Claim limit word) d u x
+  pub to_claim : (u : Tokens) (x : Place × Expr) → Both (Wanted word) (λ p. Both (AttributesText limit) (λ _. Both (Low Expression d) (λ e. Both (Wanted s.Semi) (λ _. Nothing (p, e))))) u x → Low (Claim limit word) d u x
   to_claim u x (both (wanted {t = t} i) (both {u = a} b (both {u = v} {x = e} w (both (wanted {t = k} j) n)))) =
       settle n (λ z x. Low (Claim limit word) d (t ∷ (a ++ (v ++ k ∷ z))) x) (record { height = w.height; spelt = c.claim i b w.spelt j; low = w.low })
 

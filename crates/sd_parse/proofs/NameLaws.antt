@@ -24,14 +24,14 @@ pub data NameText : Tokens → Text → ℕ → Type 0 where
 abbrev pub NextNames : Tokens → List Text → Type 0
 NextNames = Many (Next (Low NameText 0))
 
-to_plain : (u : Tokens) (x : Text) → Both Named (λ y. Nothing y.0) u x → Low NameText 0 u x
+pub to_plain : (u : Tokens) (x : Text) → Both Named (λ y. Nothing y.0) u x → Low NameText 0 u x
 to_plain u x (both (named {t = t} i) n) = settle n (λ z x. Low NameText 0 (t ∷ z) x) (record { height = 0; spelt = name_text i; low = omega arith })
 
 plain_name_sound : (ts : Tokens) → Sound (Low NameText 0) ts (plain_name ts)
 unfolding plain_name
 plain_name_sound ts = into to_plain (seq (name_sound ts) (λ y ts. done y.0 ts))
 
-names_of : {u : Tokens} {xs : List Text} {h : ℕ} → Commas NameText u xs h → Names u xs
+pub names_of : {u : Tokens} {xs : List Text} {h : ℕ} → Commas NameText u xs h → Names u xs
 names_of (w.one (name_text i)) = st.one i
 names_of (w.more (name_text i) j m) = st.more i j (names_of m)
 

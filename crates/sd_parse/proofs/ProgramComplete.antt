@@ -171,7 +171,7 @@ spec_first u x h rest (p.requires (c.free i m)) = ap begins_spec i.same
 spec_first u x h rest (p.ensures (c.checked m)) = ap begins_spec (claim_first rest m)
 spec_first u x h rest (p.ensures (c.free i m)) = ap begins_spec i.same
 
-spec_some : {d : ℕ} (u : Tokens) (x : Spec) (h : ℕ) → SpecText d u x h → 0 < length u
+pub spec_some : {d : ℕ} (u : Tokens) (x : Spec) (h : ℕ) → SpecText d u x h → 0 < length u
 spec_some u x h (p.modifies_none i j) = omega arith
 spec_some u x h (p.modifies i m j) = omega arith
 spec_some u x h (p.requires (c.checked m)) = claim_some m
@@ -329,7 +329,7 @@ declaration_first u x h rest (p.declared i l m j n) = ap begins_declaration i.sa
 declaration_first u x h rest (p.defined i l m n b) = ap begins_declaration i.same
 declaration_first u x h rest (p.implementation i l m b) = ap begins_declaration i.same
 
-declaration_some : {d : ℕ} (u : Tokens) (x : Decl) (h : ℕ) → Declaration d u x h → 0 < length u
+pub declaration_some : {d : ℕ} (u : Tokens) (x : Decl) (h : ℕ) → Declaration d u x h → 0 < length u
 declaration_some u x h (p.types i l m j) = omega arith
 declaration_some u x h (p.constants i l b m j) = omega arith
 declaration_some u x h (p.function i l n m o j) = omega arith

@@ -56,7 +56,7 @@ vars_more : {k : Token} {u v : Tokens} {xs ys : List Var} {h m : ℕ} → GroupT
 vars_more (group_text g) i m = p.more g i m
 
 module _ (d : ℕ) where
-  to_typed : (u : Tokens) (x : List Text × Sort) → Both Names (λ xs. Both (Wanted s.Colon) (λ _. Both (Low TypeText d) (λ T. Nothing (xs, T)))) u x → Low TypedPair d u x
+  pub to_typed : (u : Tokens) (x : List Text × Sort) → Both Names (λ xs. Both (Wanted s.Colon) (λ _. Both (Low TypeText d) (λ T. Nothing (xs, T)))) u x → Low TypedPair d u x
   to_typed u x (both {u = v} {x = xs} w (both (wanted {t = k} i) (both {u = q} {x = T} y n))) =
       settle n (λ z x. Low TypedPair d (v ++ k ∷ (q ++ z)) x) (subst (λ z. Low TypedPair d (v ++ k ∷ z) (xs, T)) (sym (append-nil q)) (record { height = y.height; spelt = p.typed w i y.spelt; low = y.low }))
 
@@ -64,7 +64,7 @@ module _ (d : ℕ) where
   unfolding typed
   typed_law ts = into to_typed (seq (names_sound ts) (λ xs ts. seq (want_sound s.Colon ts) (λ _ ts. seq (type_sound d ts) (λ T ts. done (xs, T) ts))))
 
-  to_group : (u : Tokens) (xs : List Var) → Both (Low TypedPair d) (λ g. Nothing (variables g.0 g.1)) u xs → Low GroupText d u xs
+  pub to_group : (u : Tokens) (xs : List Var) → Both (Low TypedPair d) (λ g. Nothing (variables g.0 g.1)) u xs → Low GroupText d u xs
   to_group u xs (both {u = v} {x = g} w n) = settle n (λ z xs. Low GroupText d (v ++ z) xs) (subst (λ z. Low GroupText d z (variables g.0 g.1)) (sym (append-nil v)) (record { height = w.height; spelt = group_text w.spelt; low = w.low }))
 
   group_law : (ts : Tokens) → Sound (Low GroupText d) ts (group d ts)
@@ -79,14 +79,14 @@ module _ (d : ℕ) where
   vars_of {u = u} {xs = xs} g lists.none = subst (λ z. Low Vars d z (xs ++ [])) (sym (append-nil u)) (subst (λ z. Low Vars d u z) (sym (append-nil xs)) (record { height = g.height; spelt = vars_one g.spelt; low = g.low }))
   vars_of g (lists.more (next {u = v} {x = xs} i f) m) = let w = vars_of {u = v} {xs = xs} f m in record { height = max g.height w.height; spelt = vars_more g.spelt i w.spelt; low = let y = g.low in let z = w.low in omega arith }
 
-  to_vars : (u : Tokens) (xs : List Var) → Both (Low GroupText d) (λ ys. Behind (lists.Joined (Next (Low GroupText d))) ys) u xs → Low Vars d u xs
+  pub to_vars : (u : Tokens) (xs : List Var) → Both (Low GroupText d) (λ ys. Behind (lists.Joined (Next (Low GroupText d))) ys) u xs → Low Vars d u xs
   to_vars u xs (both {u = v} {v = w} g m) = subst (λ ys. Low Vars d (v ++ w) ys) (sym m.same) (vars_of g m.list)
 
   vars_law : (ts : Tokens) → Sound (Low Vars d) ts (vars d ts)
   unfolding vars
   vars_law ts = into to_vars (seq (group_law ts) (λ ys ts. more_groups_law ys ts))
 
-  to_line : (u : Tokens) (xs : List Var) → Both (Wanted s.Var) (λ _. Both (AttributesText d) (λ _. Both (Low Vars d) (λ ys. Both (Wanted s.Semi) (λ _. Nothing ys)))) u xs → Low (VarLine d) d u xs
+  pub to_line : (u : Tokens) (xs : List Var) → Both (Wanted s.Var) (λ _. Both (AttributesText d) (λ _. Both (Low Vars d) (λ ys. Both (Wanted s.Semi) (λ _. Nothing ys)))) u xs → Low (VarLine d) d u xs
   to_line u xs (both (wanted {t = t} i) (both {u = a} l (both {u = v} w (both (wanted {t = k} j) n)))) = settle n (λ z xs. Low (VarLine d) d (t ∷ (a ++ (v ++ k ∷ z))) xs) (record { height = w.height; spelt = p.line i l w.spelt j; low = w.low })
 
   line_law : (ts : Tokens) → sign_of (ahead ts) ≡ s.Var → Sound (Low (VarLine d) d) ts (var_line d ts)
@@ -100,14 +100,14 @@ module _ (d : ℕ) where
   -- ---- heads
 
   -- the parameters up to the parenthesis that closes
-  data Closed : Tokens → List Var → Type 0 where
+  pub data Closed : Tokens → List Var → Type 0 where
     empty : {k : Token} → Is s.Close k → Closed (k ∷ []) []
     given : {k : Token} {u : Tokens} {xs : List Var} → Low Vars d u xs → Is s.Close k → Closed (u ++ k ∷ []) xs
 
-  to_none : (u : Tokens) (xs : List Var) → Both (Wanted s.Close) (λ _. Nothing []) u xs → Closed u xs
+  pub to_none : (u : Tokens) (xs : List Var) → Both (Wanted s.Close) (λ _. Nothing []) u xs → Closed u xs
   to_none u xs (both (wanted {t = k} i) n) = settle n (λ z xs. Closed (k ∷ z) xs) (empty i)
 
-  to_some : (u : Tokens) (xs : List Var) → Both (Low Vars d) (λ ys. Both (Wanted s.Close) (λ _. Nothing ys)) u xs → Closed u xs
+  pub to_some : (u : Tokens) (xs : List Var) → Both (Low Vars d) (λ ys. Both (Wanted s.Close) (λ _. Nothing ys)) u xs → Closed u xs
   to_some u xs (both {u = v} w (both (wanted {t = k} i) n)) = settle n (λ z xs. Closed (v ++ k ∷ z) xs) (given w i)
 
   listed_law : (ts : Tokens) → Sound Closed ts (listed_parameters d ts)
@@ -122,14 +122,14 @@ module _ (d : ℕ) where
   opened i (empty j) = record { height = 0; spelt = p.none i j; low = omega arith }
   opened i (given w j) = record { height = w.height; spelt = p.some i w.spelt j; low = w.low }
 
-  to_parameters : (u : Tokens) (xs : List Var) → Both (Wanted s.Open) (λ _. Closed) u xs → Low Parameters d u xs
+  pub to_parameters : (u : Tokens) (xs : List Var) → Both (Wanted s.Open) (λ _. Closed) u xs → Low Parameters d u xs
   to_parameters u xs (both (wanted i) w) = opened i w
 
   parameters_law : (ts : Tokens) → Sound (Low Parameters d) ts (parameters d ts)
   unfolding parameters
   parameters_law ts = into to_parameters (seq (want_sound s.Open ts) (λ _ ts. listed_law ts))
 
-  to_results : (u : Tokens) (xs : List Var) → Both (Wanted s.Returns) (λ _. Low Parameters d) u xs → Low Results d u xs
+  pub to_results : (u : Tokens) (xs : List Var) → Both (Wanted s.Returns) (λ _. Low Parameters d) u xs → Low Results d u xs
   to_results u xs (both (wanted i) w) = record { height = w.height; spelt = p.some i w.spelt; low = w.low }
 
   results_law : (ts : Tokens) → Sound (Low Results d) ts (results d ts)
@@ -140,7 +140,7 @@ module _ (d : ℕ) where
       by_sign s.Returns e = into to_results (seq (skip_sound s.Returns ts e) (λ _ ts. parameters_law ts))
       by_sign _ e = record { fact = ([], refl, record { height = 0; spelt = p.none; low = omega arith }) }
 
-  to_head : (u : Tokens) (x : Head) → Both Named (λ f. Both (Low Parameters d) (λ ins. Both (Low Results d) (λ outs. Nothing (record { name = f.0; at = f.1; ins = ins; outs = outs })))) u x → Low HeadText d u x
+  pub to_head : (u : Tokens) (x : Head) → Both Named (λ f. Both (Low Parameters d) (λ ins. Both (Low Results d) (λ outs. Nothing (record { name = f.0; at = f.1; ins = ins; outs = outs })))) u x → Low HeadText d u x
   to_head u x (both (named {t = t} {x = f} i) (both {u = v} {x = ins} w (both {u = q} {x = outs} y n))) =
       settle n (λ z x. Low HeadText d (t ∷ (v ++ (q ++ z))) x)
       (subst (λ z. Low HeadText d (t ∷ (v ++ z)) (record { name = f; at = t.at; ins = ins; outs = outs })) (sym (append-nil q)) (record { height = max w.height y.height; spelt = p.head i w.spelt y.spelt; low = let l = w.low in let m = y.low in omega arith }))
@@ -152,7 +152,7 @@ module _ (d : ℕ) where
 -- ---- clauses
 
 -- the names of a clause, or none
-data Modified : Tokens → List Text → Type 0 where
+pub data Modified : Tokens → List Text → Type 0 where
   none : Modified [] []
   some : {u : Tokens} {xs : List Text} → Names u xs → Modified u xs
 
@@ -169,7 +169,7 @@ module _ (d : ℕ) where
   modifies_of i none j = record { height = 0; spelt = p.modifies_none i j; low = omega arith }
   modifies_of i (some m) j = record { height = 0; spelt = p.modifies i m j; low = omega arith }
 
-  to_modifies : (u : Tokens) (x : Spec) → Both (Wanted s.Modifies) (λ _. Both Modified (λ xs. Both (Wanted s.Semi) (λ _. Nothing (spec.Modifies xs)))) u x → Low (SpecText d) d u x
+  pub to_modifies : (u : Tokens) (x : Spec) → Both (Wanted s.Modifies) (λ _. Both Modified (λ xs. Both (Wanted s.Semi) (λ _. Nothing (spec.Modifies xs)))) u x → Low (SpecText d) d u x
   to_modifies u x (both (wanted {t = t} i) (both {u = v} m (both (wanted {t = k} j) n))) = settle n (λ z x. Low (SpecText d) d (t ∷ (v ++ k ∷ z)) x) (modifies_of i m j)
 
   modifies_law : (ts : Tokens) → sign_of (ahead ts) ≡ s.Modifies → Sound (Low (SpecText d) d) ts (modifies ts)
@@ -177,14 +177,14 @@ module _ (d : ℕ) where
   modifies_law ts e = into to_modifies (seq (skip_sound s.Modifies ts e) (λ _ ts. seq (modified_law ts) (λ xs ts. seq (want_sound s.Semi ts) (λ _ ts. done (spec.Modifies xs) ts))))
 
   -- a clause with an expression, from its own word on
-  data Condition (f : Bool) : Tokens → Spec → Type 0 where
+  pub data Condition (f : Bool) : Tokens → Spec → Type 0 where
     of_requires : {u : Tokens} {k : Place × Expr} → Low (Claim d s.Requires) d u k → Condition f u (spec.Requires f k.1)
     of_ensures : {u : Tokens} {k : Place × Expr} → Low (Claim d s.Ensures) d u k → Condition f u (spec.Ensures f k.1)
 
-  to_required : (f : Bool) (u : Tokens) (x : Spec) → Both (Low (Claim d s.Requires) d) (λ k. Nothing (spec.Requires f k.1)) u x → Condition f u x
+  pub to_required : (f : Bool) (u : Tokens) (x : Spec) → Both (Low (Claim d s.Requires) d) (λ k. Nothing (spec.Requires f k.1)) u x → Condition f u x
   to_required f u x (both {u = v} {x = k} w n) = settle n (λ z x. Condition f (v ++ z) x) (subst (λ z. Condition f z (spec.Requires f k.1)) (sym (append-nil v)) (of_requires w))
 
-  to_ensured : (f : Bool) (u : Tokens) (x : Spec) → Both (Low (Claim d s.Ensures) d) (λ k. Nothing (spec.Ensures f k.1)) u x → Condition f u x
+  pub to_ensured : (f : Bool) (u : Tokens) (x : Spec) → Both (Low (Claim d s.Ensures) d) (λ k. Nothing (spec.Ensures f k.1)) u x → Condition f u x
   to_ensured f u x (both {u = v} {x = k} w n) = settle n (λ z x. Condition f (v ++ z) x) (subst (λ z. Condition f z (spec.Ensures f k.1)) (sym (append-nil v)) (of_ensures w))
 
   condition_law : (f : Bool) (ts : Tokens) → Sound (Condition f) ts (condition d f ts)
@@ -200,14 +200,14 @@ module _ (d : ℕ) where
   free_of i (of_requires w) = record { height = w.height; spelt = p.requires (c.free i w.spelt); low = w.low }
   free_of i (of_ensures w) = record { height = w.height; spelt = p.ensures (c.free i w.spelt); low = w.low }
 
-  to_free : (u : Tokens) (x : Spec) → Both (Wanted s.Free) (λ _. Condition true) u x → Low (SpecText d) d u x
+  pub to_free : (u : Tokens) (x : Spec) → Both (Wanted s.Free) (λ _. Condition true) u x → Low (SpecText d) d u x
   to_free u x (both (wanted i) w) = free_of i w
 
-  to_checked : (u : Tokens) (x : Spec) → Condition false u x → Low (SpecText d) d u x
+  pub to_checked : (u : Tokens) (x : Spec) → Condition false u x → Low (SpecText d) d u x
   to_checked u x (of_requires w) = record { height = w.height; spelt = p.requires (c.checked w.spelt); low = w.low }
   to_checked u x (of_ensures w) = record { height = w.height; spelt = p.ensures (c.checked w.spelt); low = w.low }
 
-  clause_law : (ts : Tokens) → Sound (Low (SpecText d) d) ts (clause d ts)
+  pub clause_law : (ts : Tokens) → Sound (Low (SpecText d) d) ts (clause d ts)
   unfolding clause free_condition
   clause_law ts = by_sign (sign_of (ahead ts)) refl
     where
@@ -220,7 +220,7 @@ module _ (d : ℕ) where
   unfolding clauses
   clauses_law ts = row_sound (SpecText d) d begins_spec (clause d) (λ ts e. clause_law ts) ts
 
-  to_body : (u : Tokens) (x : Body) → Both (Wanted s.OpenBrace) (λ _. Both (Low (Joined (VarLine d)) d) (λ xs. Both (Low (Statements d) d) (λ ss. Both (Wanted s.CloseBrace) (λ _. Nothing (record { locals = xs; stmts = ss }))))) u x → Low (BodyText d) d u x
+  pub to_body : (u : Tokens) (x : Body) → Both (Wanted s.OpenBrace) (λ _. Both (Low (Joined (VarLine d)) d) (λ xs. Both (Low (Statements d) d) (λ ss. Both (Wanted s.CloseBrace) (λ _. Nothing (record { locals = xs; stmts = ss }))))) u x → Low (BodyText d) d u x
   to_body u x (both (wanted {t = o} i) (both {u = v} w (both {u = q} y (both (wanted {t = k} j) n)))) =
       settle n (λ z x. Low (BodyText d) d (o ∷ (v ++ (q ++ k ∷ z))) x) (record { height = max w.height y.height; spelt = p.braces i w.spelt y.spelt j; low = let l = w.low in let m = y.low in omega arith })
 
@@ -230,7 +230,7 @@ module _ (d : ℕ) where
 
 -- ---- constants and functions
 
-to_unique : (u : Tokens) (x : Bool) → Both (Wanted s.Unique) (λ _. Nothing true) u x → Uniqueness u x
+pub to_unique : (u : Tokens) (x : Bool) → Both (Wanted s.Unique) (λ _. Nothing true) u x → Uniqueness u x
 to_unique u x (both (wanted {t = t} i) n) = settle n (λ z x. Uniqueness (t ∷ z) x) (p.unique i)
 
 uniqueness_law : (ts : Tokens) → Sound Uniqueness ts (uniqueness ts)
@@ -242,11 +242,11 @@ uniqueness_law ts = by_sign (sign_of (ahead ts)) refl
     by_sign _ e = record { fact = ([], refl, p.plain) }
 
 -- an argument after its first name
-data AfterName (d : ℕ) (x : Text) : Tokens → Sort → Type 0 where
+pub data AfterName (d : ℕ) (x : Text) : Tokens → Sort → Type 0 where
   colon : {k : Token} {u : Tokens} {T : Sort} → Is s.Colon k → Low TypeText d u T → AfterName d x (k ∷ u) T
   nothing_more : AfterName d x [] (sort.Named x)
 
-to_colon : (d : ℕ) (x : Text) (u : Tokens) (T : Sort) → Both (Wanted s.Colon) (λ _. Low TypeText d) u T → AfterName d x u T
+pub to_colon : (d : ℕ) (x : Text) (u : Tokens) (T : Sort) → Both (Wanted s.Colon) (λ _. Low TypeText d) u T → AfterName d x u T
 to_colon d x u T (both (wanted i) w) = colon i w
 
 after_name_law : (d : ℕ) (x : Text) (ts : Tokens) → Sound (AfterName d x) ts (after_name d x ts)
@@ -261,7 +261,7 @@ argument_of : {d : ℕ} {t : Token} {x : Text} {u : Tokens} {T : Sort} → 1 ≤
 argument_of high i (colon j w) = record { height = w.height; spelt = p.named i j w.spelt; low = w.low }
 argument_of high i nothing_more = record { height = 1; spelt = p.bare (ty.named i); low = high }
 
-to_argument : (d : ℕ) → 1 ≤ d → (u : Tokens) (T : Sort) → Both Named (λ y. AfterName d y.0) u T → Low Argument d u T
+pub to_argument : (d : ℕ) → 1 ≤ d → (u : Tokens) (T : Sort) → Both Named (λ y. AfterName d y.0) u T → Low Argument d u T
 to_argument d high u T (both (named i) w) = argument_of high i w
 
 named_law : (d : ℕ) (ts : Tokens) → Sound (Low Argument d) ts (named_argument d ts)
@@ -278,10 +278,10 @@ argument_law d ts = by_sign (sign_of (ahead ts))
     by_sign _ = into (λ u T w. record { height = w.height; spelt = p.bare w.spelt; low = w.low }) (type_sound d ts)
 
 module _ (d : ℕ) where
-  to_returned : (u : Tokens) (T : Sort) → Both (Wanted s.Returns) (λ _. Both (Wanted s.Open) (λ _. Both (Low Argument d) (λ T. Both (Wanted s.Close) (λ _. Nothing T)))) u T → Low ResultType d u T
+  pub to_returned : (u : Tokens) (T : Sort) → Both (Wanted s.Returns) (λ _. Both (Wanted s.Open) (λ _. Both (Low Argument d) (λ T. Both (Wanted s.Close) (λ _. Nothing T)))) u T → Low ResultType d u T
   to_returned u T (both (wanted {t = r} i) (both (wanted {t = o} j) (both {u = v} w (both (wanted {t = k} l) n)))) = settle n (λ z T. Low ResultType d (r ∷ o ∷ (v ++ k ∷ z)) T) (record { height = w.height; spelt = p.returns i j w.spelt l; low = w.low })
 
-  to_colon_type : (u : Tokens) (T : Sort) → Both (Wanted s.Colon) (λ _. Low TypeText d) u T → Low ResultType d u T
+  pub to_colon_type : (u : Tokens) (T : Sort) → Both (Wanted s.Colon) (λ _. Low TypeText d) u T → Low ResultType d u T
   to_colon_type u T (both (wanted i) w) = record { height = w.height; spelt = p.colon i w.spelt; low = w.low }
 
   result_law : (ts : Tokens) → Sound (Low ResultType d) ts (result_type d ts)
@@ -294,21 +294,21 @@ module _ (d : ℕ) where
 
   -- ---- declarations
 
-  to_types : (u : Tokens) (x : Decl) → Both (Wanted s.Type) (λ _. Both (AttributesText d) (λ _. Both Names (λ xs. Both (Wanted s.Semi) (λ _. Nothing (decl.Types xs))))) u x → Low (Declaration d) d u x
+  pub to_types : (u : Tokens) (x : Decl) → Both (Wanted s.Type) (λ _. Both (AttributesText d) (λ _. Both Names (λ xs. Both (Wanted s.Semi) (λ _. Nothing (decl.Types xs))))) u x → Low (Declaration d) d u x
   to_types u x (both (wanted {t = t} i) (both {u = a} l (both {u = v} m (both (wanted {t = k} j) n)))) = settle n (λ z x. Low (Declaration d) d (t ∷ (a ++ (v ++ k ∷ z))) x) (record { height = 0; spelt = p.types i l m j; low = omega arith })
 
   types_law : (ts : Tokens) → sign_of (ahead ts) ≡ s.Type → Sound (Low (Declaration d) d) ts (types d ts)
   unfolding types
   types_law ts e = into to_types (seq (skip_sound s.Type ts e) (λ _ ts. seq (attributes_sound d ts) (λ _ ts. seq (names_sound ts) (λ xs ts. seq (want_sound s.Semi ts) (λ _ ts. done (decl.Types xs) ts)))))
 
-  to_constants : (u : Tokens) (x : Decl) → Both (Wanted s.Const) (λ _. Both (AttributesText d) (λ _. Both Uniqueness (λ b. Both (Low TypedPair d) (λ g. Both (Wanted s.Semi) (λ _. Nothing (decl.Const b g.0 g.1)))))) u x → Low (Declaration d) d u x
+  pub to_constants : (u : Tokens) (x : Decl) → Both (Wanted s.Const) (λ _. Both (AttributesText d) (λ _. Both Uniqueness (λ b. Both (Low TypedPair d) (λ g. Both (Wanted s.Semi) (λ _. Nothing (decl.Const b g.0 g.1)))))) u x → Low (Declaration d) d u x
   to_constants u x (both (wanted {t = t} i) (both {u = a} l (both {u = v} m (both {u = q} w (both (wanted {t = k} j) n))))) = settle n (λ z x. Low (Declaration d) d (t ∷ (a ++ (v ++ (q ++ k ∷ z)))) x) (record { height = w.height; spelt = p.constants i l m w.spelt j; low = w.low })
 
   constants_law : (ts : Tokens) → sign_of (ahead ts) ≡ s.Const → Sound (Low (Declaration d) d) ts (constants d ts)
   unfolding constants
   constants_law ts e = into to_constants (seq (skip_sound s.Const ts e) (λ _ ts. seq (attributes_sound d ts) (λ _ ts. seq (uniqueness_law ts) (λ b ts. seq (typed_law d ts) (λ g ts. seq (want_sound s.Semi ts) (λ _ ts. done (decl.Const b g.0 g.1) ts))))))
 
-  to_function : (u : Tokens) (x : Decl)
+  pub to_function : (u : Tokens) (x : Decl)
       → Both (Wanted s.Function) (λ _. Both (AttributesText d) (λ _. Both Named (λ f. Both (Low (Enclosed Argument) d) (λ xs. Both (Low ResultType d) (λ T. Both (Wanted s.Semi) (λ _. Nothing (decl.Function f.0 xs T))))))) u x → Low (Declaration d) d u x
   to_function u x (both (wanted {t = t} i) (both {u = a} l (both (named {t = m} o) (both {u = v} w (both {u = q} y (both (wanted {t = k} j) n)))))) =
       settle n (λ z x. Low (Declaration d) d (t ∷ (a ++ (m ∷ (v ++ (q ++ k ∷ z))))) x) (record { height = max w.height y.height; spelt = p.function i l o w.spelt y.spelt j; low = let z = w.low in let x = y.low in omega arith })
@@ -318,14 +318,14 @@ module _ (d : ℕ) where
   function_law ts e = into to_function
       (seq (skip_sound s.Function ts e) (λ _ ts. seq (attributes_sound d ts) (λ _ ts. seq (name_sound ts) (λ f ts. seq (enclosed_sound Argument d (argument d) (argument_law d) ts) (λ xs ts. seq (result_law ts) (λ T ts. seq (want_sound s.Semi ts) (λ _ ts. done (decl.Function f.0 xs T) ts)))))))
 
-  to_axiom : (u : Tokens) (x : Decl) → Both (Low (Claim d s.Axiom) d) (λ k. Nothing (decl.Axiom k.1)) u x → Low (Declaration d) d u x
+  pub to_axiom : (u : Tokens) (x : Decl) → Both (Low (Claim d s.Axiom) d) (λ k. Nothing (decl.Axiom k.1)) u x → Low (Declaration d) d u x
   to_axiom u x (both {u = v} {x = k} w n) = settle n (λ z x. Low (Declaration d) d (v ++ z) x) (subst (λ z. Low (Declaration d) d z (decl.Axiom k.1)) (sym (append-nil v)) (record { height = w.height; spelt = p.axiom_text w.spelt; low = w.low }))
 
   axiom_law : (ts : Tokens) → Sound (Low (Declaration d) d) ts (axiom_line d ts)
   unfolding axiom_line
   axiom_law ts = into to_axiom (seq (claim_sound d d s.Axiom ts) (λ k ts. done (decl.Axiom k.1) ts))
 
-  to_globals : (u : Tokens) (x : Decl) → Both (Low (VarLine d) d) (λ xs. Nothing (decl.Globals xs)) u x → Low (Declaration d) d u x
+  pub to_globals : (u : Tokens) (x : Decl) → Both (Low (VarLine d) d) (λ xs. Nothing (decl.Globals xs)) u x → Low (Declaration d) d u x
   to_globals u x (both {u = v} {x = xs} w n) = settle n (λ z x. Low (Declaration d) d (v ++ z) x) (subst (λ z. Low (Declaration d) d z (decl.Globals xs)) (sym (append-nil v)) (record { height = w.height; spelt = p.globals w.spelt; low = w.low }))
 
   globals_law : (ts : Tokens) → sign_of (ahead ts) ≡ s.Var → Sound (Low (Declaration d) d) ts (globals d ts)
@@ -333,14 +333,14 @@ module _ (d : ℕ) where
   globals_law ts e = into to_globals (seq (line_law d ts e) (λ xs ts. done (decl.Globals xs) ts))
 
   -- a procedure after its head
-  data ProcedureFrom (f : Head) : Tokens → Decl → Type 0 where
+  pub data ProcedureFrom (f : Head) : Tokens → Decl → Type 0 where
     declared_from : {k : Token} {v : Tokens} {xs : List Spec} → Is s.Semi k → Low (Row (SpecText d)) d v xs → ProcedureFrom f (k ∷ v) (decl.Procedure (record { head = f; specs = xs; body = None }))
     defined_from : {v w : Tokens} {xs : List Spec} {b : Body} → Low (Row (SpecText d)) d v xs → Low (BodyText d) d w b → ProcedureFrom f (v ++ w) (decl.Procedure (record { head = f; specs = xs; body = Some b }))
 
-  to_declared : (f : Head) (u : Tokens) (x : Decl) → Both (Wanted s.Semi) (λ _. Both (Low (Row (SpecText d)) d) (λ xs. Nothing (decl.Procedure (record { head = f; specs = xs; body = None })))) u x → ProcedureFrom f u x
+  pub to_declared : (f : Head) (u : Tokens) (x : Decl) → Both (Wanted s.Semi) (λ _. Both (Low (Row (SpecText d)) d) (λ xs. Nothing (decl.Procedure (record { head = f; specs = xs; body = None })))) u x → ProcedureFrom f u x
   to_declared f u x (both (wanted {t = k} i) (both {u = v} {x = xs} w n)) = settle n (λ z x. ProcedureFrom f (k ∷ (v ++ z)) x) (subst (λ z. ProcedureFrom f (k ∷ z) (decl.Procedure (record { head = f; specs = xs; body = None }))) (sym (append-nil v)) (declared_from i w))
 
-  to_defined : (f : Head) (u : Tokens) (x : Decl) → Both (Low (Row (SpecText d)) d) (λ xs. Both (Low (BodyText d) d) (λ b. Nothing (decl.Procedure (record { head = f; specs = xs; body = Some b })))) u x → ProcedureFrom f u x
+  pub to_defined : (f : Head) (u : Tokens) (x : Decl) → Both (Low (Row (SpecText d)) d) (λ xs. Both (Low (BodyText d) d) (λ b. Nothing (decl.Procedure (record { head = f; specs = xs; body = Some b })))) u x → ProcedureFrom f u x
   to_defined f u x (both {u = v} {x = xs} w (both {u = q} {x = b} y n)) = settle n (λ z x. ProcedureFrom f (v ++ (q ++ z)) x) (subst (λ z. ProcedureFrom f (v ++ z) (decl.Procedure (record { head = f; specs = xs; body = Some b }))) (sym (append-nil q)) (defined_from w y))
 
   procedure_from_law : (f : Head) (ts : Tokens) → Sound (ProcedureFrom f) ts (procedure_from d f ts)
@@ -355,14 +355,14 @@ module _ (d : ℕ) where
   procedure_of i l w (declared_from j y) = record { height = max w.height y.height; spelt = p.declared i l w.spelt j y.spelt; low = let m = w.low in let n = y.low in omega arith }
   procedure_of i l w (defined_from y z) = record { height = max w.height (max y.height z.height); spelt = p.defined i l w.spelt y.spelt z.spelt; low = let m = w.low in let n = y.low in let o = z.low in omega arith }
 
-  to_procedure : (u : Tokens) (x : Decl) → Both (Wanted s.Procedure) (λ _. Both (AttributesText d) (λ _. Both (Low HeadText d) ProcedureFrom)) u x → Low (Declaration d) d u x
+  pub to_procedure : (u : Tokens) (x : Decl) → Both (Wanted s.Procedure) (λ _. Both (AttributesText d) (λ _. Both (Low HeadText d) ProcedureFrom)) u x → Low (Declaration d) d u x
   to_procedure u x (both (wanted i) (both l (both w y))) = procedure_of i l w y
 
   procedure_law : (ts : Tokens) → sign_of (ahead ts) ≡ s.Procedure → Sound (Low (Declaration d) d) ts (procedure d ts)
   unfolding procedure
   procedure_law ts e = into to_procedure (seq (skip_sound s.Procedure ts e) (λ _ ts. seq (attributes_sound d ts) (λ _ ts. seq (head_law d ts) (λ f ts. procedure_from_law f ts))))
 
-  to_implementation : (u : Tokens) (x : Decl) → Both (Wanted s.Implementation) (λ _. Both (AttributesText d) (λ _. Both (Low HeadText d) (λ f. Both (Low (BodyText d) d) (λ b. Nothing (decl.Implementation (record { head = f; body = b })))))) u x → Low (Declaration d) d u x
+  pub to_implementation : (u : Tokens) (x : Decl) → Both (Wanted s.Implementation) (λ _. Both (AttributesText d) (λ _. Both (Low HeadText d) (λ f. Both (Low (BodyText d) d) (λ b. Nothing (decl.Implementation (record { head = f; body = b })))))) u x → Low (Declaration d) d u x
   to_implementation u x (both (wanted {t = t} i) (both {u = a} l (both {u = v} {x = f} w (both {u = q} {x = b} y n)))) =
       settle n (λ z x. Low (Declaration d) d (t ∷ (a ++ (v ++ (q ++ z)))) x)
       (subst (λ z. Low (Declaration d) d (t ∷ (a ++ (v ++ z))) (decl.Implementation (record { head = f; body = b }))) (sym (append-nil q)) (record { height = max w.height y.height; spelt = p.implementation i l w.spelt y.spelt; low = let m = w.low in let n = y.low in omega arith }))
@@ -371,7 +371,7 @@ module _ (d : ℕ) where
   unfolding implementation
   implementation_law ts e = into to_implementation (seq (skip_sound s.Implementation ts e) (λ _ ts. seq (attributes_sound d ts) (λ _ ts. seq (head_law d ts) (λ f ts. seq (body_law d ts) (λ b ts. done (decl.Implementation (record { head = f; body = b })) ts)))))
 
-  declaration_law : (ts : Tokens) → Sound (Low (Declaration d) d) ts (declaration d ts)
+  pub declaration_law : (ts : Tokens) → Sound (Low (Declaration d) d) ts (declaration d ts)
   unfolding declaration
   declaration_law ts = by_sign (sign_of (ahead ts)) refl
     where

@@ -38,11 +38,11 @@ apart x y rest e f = other_sign (sign_of (ahead rest)) y (λ g. f (sym e ∙ g))
 -- ---- items one after another
 
 module _ {A : Type 0} (F : Tokens → A → ℕ → Type 0) (d : ℕ) where
-  row_of : {u : Tokens} {xs : List A} → Many (Low F d) u xs → Low (Row F) d u xs
+  pub row_of : {u : Tokens} {xs : List A} → Many (Low F d) u xs → Low (Row F) d u xs
   row_of none = record { height = 0; spelt = r.none; low = omega arith }
   row_of (more f m) = let w = row_of m in record { height = max f.height w.height; spelt = r.more f.spelt w.spelt; low = let y = f.low in let z = w.low in omega arith }
 
-  of_row : {u : Tokens} {xs : List A} {h : ℕ} → Row F u xs h → h ≤ d → Many (Low F d) u xs
+  pub of_row : {u : Tokens} {xs : List A} {h : ℕ} → Row F u xs h → h ≤ d → Many (Low F d) u xs
   of_row r.none low = none
   of_row (r.more {h = h} f m) low = more (record { height = h; spelt = f; low = omega arith }) (of_row m (omega arith))
 
@@ -59,11 +59,11 @@ module _ {A : Type 0} (F : Tokens → A → ℕ → Type 0) (d : ℕ) where
         rest e stops (push_all (Low F d) begins (of_row m low) [])
 
 module _ {A : Type 0} (F : Tokens → List A → ℕ → Type 0) (d : ℕ) where
-  joined_of : {u : Tokens} {xs : List A} → lists.Joined (Low F d) u xs → Low (Joined F) d u xs
+  pub joined_of : {u : Tokens} {xs : List A} → lists.Joined (Low F d) u xs → Low (Joined F) d u xs
   joined_of lists.none = record { height = 0; spelt = r.none; low = omega arith }
   joined_of (lists.more f m) = let w = joined_of m in record { height = max f.height w.height; spelt = r.more f.spelt w.spelt; low = let y = f.low in let z = w.low in omega arith }
 
-  of_joined : {u : Tokens} {xs : List A} {h : ℕ} → Joined F u xs h → h ≤ d → lists.Joined (Low F d) u xs
+  pub of_joined : {u : Tokens} {xs : List A} {h : ℕ} → Joined F u xs h → h ≤ d → lists.Joined (Low F d) u xs
   of_joined r.none low = lists.none
   of_joined (r.more {h = h} f m) low = lists.more (record { height = h; spelt = f; low = omega arith }) (of_joined m (omega arith))
 
@@ -84,13 +84,13 @@ module _ {A : Type 0} (F : Tokens → List A → ℕ → Type 0) (d : ℕ) where
 pub data Next {A : Type 0} (F : Tokens → A → Type 0) : Tokens → A → Type 0 where
   next : {c : Token} {u : Tokens} {x : A} → Is s.Comma c → F u x → Next F (c ∷ u) x
 
-module _ {A : Type 0} (F : Tokens → A → Type 0) (item : Reader A) where
-  to_next : (u : Tokens) (x : A) → Both (Wanted s.Comma) (λ _. F) u x → Next F u x
-  to_next u x (both (wanted i) f) = next i f
+pub to_next : {A : Type 0} (F : Tokens → A → Type 0) (u : Tokens) (x : A) → Both (Wanted s.Comma) (λ _. F) u x → Next F u x
+to_next F u x (both (wanted i) f) = next i f
 
+module _ {A : Type 0} (F : Tokens → A → Type 0) (item : Reader A) where
   pub next_sound : ((ts : Tokens) → Sound F ts (item ts)) → (ts : Tokens) → is s.Comma (sign_of (ahead ts)) ≡ true → Sound (Next F) ts (reading.next item ts)
   unfolding reading.next
-  next_sound law ts e = into to_next (seq (skip_sound s.Comma ts (same_is (sign_of (ahead ts)) s.Comma e)) (λ _ ts. law ts))
+  next_sound law ts e = into (to_next F) (seq (skip_sound s.Comma ts (same_is (sign_of (ahead ts)) s.Comma e)) (λ _ ts. law ts))
 
   pub next_first : (u : Tokens) (x : A) (rest : Tokens) → Next F u x → is s.Comma (sign_of (ahead (u ++ rest))) ≡ true
   next_first u x rest (next {c = c} i f) = same_signs (sign c) s.Comma i.same
@@ -120,23 +120,26 @@ module _ {A : Type 0} (F : Tokens → A → ℕ → Type 0) (d : ℕ) where
   of_commas {c = c} i (r.one {u = u} {x = x} {h = h} f) low = subst (λ z. Many (Next (Low F d)) (c ∷ z) (x ∷ [])) (append-nil u) (more (next i (record { height = h; spelt = f; low = low })) none)
   of_commas {c = c} i (r.more {c = e} {h = h} f j m) low = more (next i (record { height = h; spelt = f; low = omega arith })) (of_commas {c = e} j m (omega arith))
 
-  to_commas : (u : Tokens) (xs : List A) → Both (Low F d) (λ x. Behind (Many (Next (Low F d))) (x ∷ [])) u xs → Low (Commas F) d u xs
+  pub to_commas : (u : Tokens) (xs : List A) → Both (Low F d) (λ x. Behind (Many (Next (Low F d))) (x ∷ [])) u xs → Low (Commas F) d u xs
   to_commas w xs (both {u = u} {v = v} f m) = subst (λ ys. Low (Commas F) d (u ++ v) ys) (sym m.same) (commas_of f m.list)
+
+  pub to_none : (u : Tokens) (xs : List A) → Both (Wanted s.Close) (λ _. Nothing []) u xs → (o : Token) → Is s.Open o → Low (Enclosed F) d (o ∷ u) xs
+  to_none u xs (both (wanted {t = c} i) n) o j = settle n (λ z xs. Low (Enclosed F) d (o ∷ c ∷ z) xs) (record { height = 0; spelt = r.none j i; low = omega arith })
+
+  pub to_some : (u : Tokens) (xs : List A) → Both (Low (Commas F) d) (λ ys. Both (Wanted s.Close) (λ _. Nothing ys)) u xs → (o : Token) → Is s.Open o → Low (Enclosed F) d (o ∷ u) xs
+  to_some u xs (both {u = v} w (both (wanted {t = c} i) n)) o j = settle n (λ z xs. Low (Enclosed F) d (o ∷ (v ++ c ∷ z)) xs) (record { height = w.height; spelt = r.some j w.spelt i; low = w.low })
+
+  -- what stands after the parenthesis that opens
+  pub data Opened : Tokens → List A → Type 0 where
+    opened : {u : Tokens} {xs : List A} → ((o : Token) → Is s.Open o → Low (Enclosed F) d (o ∷ u) xs) → Opened u xs
+
+  pub to_enclosed : (u : Tokens) (xs : List A) → Both (Wanted s.Open) (λ _. Opened) u xs → Low (Enclosed F) d u xs
+  to_enclosed u xs (both (wanted {t = o} i) (opened f)) = f o i
 
   module _ (item : Reader A) (law : (ts : Tokens) → Sound (Low F d) ts (item ts)) where
     pub commas_sound : (ts : Tokens) → Sound (Low (Commas F) d) ts (reading.commas item ts)
     unfolding reading.commas
     commas_sound ts = into to_commas (seq (law ts) (λ x ts. more_sound (Low F d) item law (x ∷ []) ts))
-
-    to_none : (u : Tokens) (xs : List A) → Both (Wanted s.Close) (λ _. Nothing []) u xs → (o : Token) → Is s.Open o → Low (Enclosed F) d (o ∷ u) xs
-    to_none u xs (both (wanted {t = c} i) n) o j = settle n (λ z xs. Low (Enclosed F) d (o ∷ c ∷ z) xs) (record { height = 0; spelt = r.none j i; low = omega arith })
-
-    to_some : (u : Tokens) (xs : List A) → Both (Low (Commas F) d) (λ ys. Both (Wanted s.Close) (λ _. Nothing ys)) u xs → (o : Token) → Is s.Open o → Low (Enclosed F) d (o ∷ u) xs
-    to_some u xs (both {u = v} w (both (wanted {t = c} i) n)) o j = settle n (λ z xs. Low (Enclosed F) d (o ∷ (v ++ c ∷ z)) xs) (record { height = w.height; spelt = r.some j w.spelt i; low = w.low })
-
-    -- what stands after the parenthesis that opens
-    data Opened : Tokens → List A → Type 0 where
-      opened : {u : Tokens} {xs : List A} → ((o : Token) → Is s.Open o → Low (Enclosed F) d (o ∷ u) xs) → Opened u xs
 
     listed_sound : (ts : Tokens) → Sound Opened ts (listed item ts)
     unfolding listed
@@ -145,9 +148,6 @@ module _ {A : Type 0} (F : Tokens → A → ℕ → Type 0) (d : ℕ) where
         by_sign : (x : Sign) → sign_of (ahead ts) ≡ x → Sound Opened ts (listed_by item x ts)
         by_sign s.Close e = into (λ u xs w. opened (to_none u xs w)) (seq (skip_sound s.Close ts e) (λ _ ts. done [] ts))
         by_sign _ e = into (λ u xs w. opened (to_some u xs w)) (seq (commas_sound ts) (λ ys ts. seq (want_sound s.Close ts) (λ _ ts. done ys ts)))
-
-    to_enclosed : (u : Tokens) (xs : List A) → Both (Wanted s.Open) (λ _. Opened) u xs → Low (Enclosed F) d u xs
-    to_enclosed u xs (both (wanted {t = o} i) (opened f)) = f o i
 
     pub enclosed_sound : (ts : Tokens) → Sound (Low (Enclosed F) d) ts (enclosed item ts)
     unfolding enclosed

@@ -44,18 +44,18 @@ some_tokens (st.broken i j) = omega arith
 some_tokens (st.returned i j) = omega arith
 
 -- a statement that begins with `if`
-data IfStatement (limit d : ℕ) : Tokens → Stmt → Type 0 where
+pub data IfStatement (limit d : ℕ) : Tokens → Stmt → Type 0 where
   if_statement : {i : Token} {u : Tokens} {x : Stmt} → Is s.If i → Low (Statement limit) d (i ∷ u) x → IfStatement limit d (i ∷ u) x
 
 -- what stands after `else`
-data Branch (limit d : ℕ) : Tokens → List Stmt → Type 0 where
+pub data Branch (limit d : ℕ) : Tokens → List Stmt → Type 0 where
   of_block : {u : Tokens} {xs : List Stmt} → Low (Block limit) d u xs → Branch limit d u xs
   of_if : {u : Tokens} {x : Stmt} → IfStatement limit d u x → Branch limit d u (x ∷ [])
 
 chained : {limit d : ℕ} {l : Token} {u : Tokens} {x : Stmt} → Is s.Else l → IfStatement limit d u x → Low (Otherwise limit) d (l ∷ u) (x ∷ [])
 chained i (if_statement j w) = record { height = w.height; spelt = st.chained i j w.spelt; low = w.low }
 
-after_else : {limit d : ℕ} {l : Token} {u : Tokens} {xs : List Stmt} → Is s.Else l → Branch limit d u xs → Low (Otherwise limit) d (l ∷ u) xs
+pub after_else : {limit d : ℕ} {l : Token} {u : Tokens} {xs : List Stmt} → Is s.Else l → Branch limit d u xs → Low (Otherwise limit) d (l ∷ u) xs
 after_else i (of_block w) = record { height = w.height; spelt = st.block i w.spelt; low = w.low }
 after_else i (of_if w) = chained i w
 
@@ -74,7 +74,7 @@ pub data PlacedLeft (d : ℕ) : Tokens → Left × Place → Type 0 where
   placed_left : {t : Token} {u : Tokens} {l : Left} → Low LeftSide d (t ∷ u) l → PlacedLeft d (t ∷ u) (l, t.at)
 
 module _ (d : ℕ) where
-  to_index : (u : Tokens) (x : Expr) → Both (Wanted s.OpenBracket) (λ _. Both (Low Expression d) (λ e. Both (Wanted s.CloseBracket) (λ _. Nothing e))) u x → Low Index d u x
+  pub to_index : (u : Tokens) (x : Expr) → Both (Wanted s.OpenBracket) (λ _. Both (Low Expression d) (λ e. Both (Wanted s.CloseBracket) (λ _. Nothing e))) u x → Low Index d u x
   to_index u x (both (wanted {t = o} i) (both {u = v} w (both (wanted {t = c} j) n))) = settle n (λ z x. Low Index d (o ∷ (v ++ c ∷ z)) x) (record { height = w.height; spelt = st.index i w.spelt j; low = w.low })
 
   index_law : (ts : Tokens) → is s.OpenBracket (sign_of (ahead ts)) ≡ true → Sound (Low Index d) ts (index d ts)
@@ -85,7 +85,7 @@ module _ (d : ℕ) where
   unfolding indices
   indices_law ts = row_sound Index d (is s.OpenBracket) (index d) index_law ts
 
-  to_left : (u : Tokens) (x : Left × Place) → Both Named (λ y. Both (Low (Row Index) d) (λ es. Nothing (record { name = y.0; indices = es }, y.1))) u x → PlacedLeft d u x
+  pub to_left : (u : Tokens) (x : Left × Place) → Both Named (λ y. Both (Low (Row Index) d) (λ es. Nothing (record { name = y.0; indices = es }, y.1))) u x → PlacedLeft d u x
   to_left u x (both (named {t = t} {x = y} i) (both {u = v} {x = es} w n)) =
       settle n (λ z x. PlacedLeft d (t ∷ (v ++ z)) x) (subst (λ z. PlacedLeft d (t ∷ z) (record { name = y; indices = es }, t.at)) (sym (append-nil v)) (placed_left (record { height = w.height; spelt = st.left i w.spelt; low = w.low })))
 
@@ -93,7 +93,7 @@ module _ (d : ℕ) where
   unfolding left
   left_law ts = into to_left (seq (name_sound ts) (λ y ts. seq (indices_law ts) (λ es ts. done (record { name = y.0; indices = es }, y.1) ts)))
 
-  to_plain : (u : Tokens) (x : Left) → Both (PlacedLeft d) (λ l. Nothing l.0) u x → Low LeftSide d u x
+  pub to_plain : (u : Tokens) (x : Left) → Both (PlacedLeft d) (λ l. Nothing l.0) u x → Low LeftSide d u x
   to_plain u x (both (placed_left {t = t} {u = v} {l = l} w) n) = settle n (λ z x. Low LeftSide d (t ∷ (v ++ z)) x) (subst (λ z. Low LeftSide d (t ∷ z) l) (sym (append-nil v)) w)
 
   plain_law : (ts : Tokens) → Sound (Low LeftSide d) ts (plain_left d ts)
@@ -107,41 +107,41 @@ module _ (d : ℕ) where
   arguments_law ts = enclosed_sound Expression d (expression d) (expression_sound d) ts
 
   -- an expression in parentheses after a word
-  data Guarded (word : Sign) : Tokens → Place × Expr → Type 0 where
+  pub data Guarded (word : Sign) : Tokens → Place × Expr → Type 0 where
     guarded : {t o k : Token} {u : Tokens} {e : Expr} → Is word t → Is s.Open o → Low Expression d u e → Is s.Close k → Guarded word (t ∷ o ∷ u ++ k ∷ []) (t.at, e)
 
-  to_guard : (word : Sign) (u : Tokens) (x : Place × Expr) → Both (Wanted word) (λ p. Both (Wanted s.Open) (λ _. Both (Low Expression d) (λ e. Both (Wanted s.Close) (λ _. Nothing (p, e))))) u x → Guarded word u x
+  pub to_guard : (word : Sign) (u : Tokens) (x : Place × Expr) → Both (Wanted word) (λ p. Both (Wanted s.Open) (λ _. Both (Low Expression d) (λ e. Both (Wanted s.Close) (λ _. Nothing (p, e))))) u x → Guarded word u x
   to_guard word u x (both (wanted {t = t} i) (both (wanted {t = o} j) (both {u = v} w (both (wanted {t = k} l) n)))) = settle n (λ z x. Guarded word (t ∷ o ∷ (v ++ k ∷ z)) x) (guarded i j w l)
 
   -- a call from its procedure's name on
-  data Applied (p : Place) (xs : List Text) : Tokens → Stmt → Type 0 where
+  pub data Applied (p : Place) (xs : List Text) : Tokens → Stmt → Type 0 where
     applied_text : {n k : Token} {f : Text} {u : Tokens} {es : List Expr} → IsName f n → Low (Enclosed Expression) d u es → Is s.Semi k → Applied p xs (n ∷ u ++ k ∷ []) (stated p (Call xs f es))
 
   -- a call after its first name
-  data CallFrom (p : Place) (x : Text) : Tokens → Stmt → Type 0 where
+  pub data CallFrom (p : Place) (x : Text) : Tokens → Stmt → Type 0 where
     through : {b : Token} {u v : Tokens} {xs : List Text} {y : Stmt} → NextNames u xs → Is s.Becomes b → Applied p (x ∷ xs) v y → CallFrom p x (u ++ b ∷ v) y
     direct : {k : Token} {u : Tokens} {es : List Expr} → Low (Enclosed Expression) d u es → Is s.Semi k → CallFrom p x (u ++ k ∷ []) (stated p (Call [] x es))
 
 -- ---- invariants
 
 module _ (limit d : ℕ) where
-  data StatedInvariant (f : Bool) : Tokens → Invariant → Type 0 where
+  pub data StatedInvariant (f : Bool) : Tokens → Invariant → Type 0 where
     stated_line : {u : Tokens} {k : Place × Expr} → Low (Claim limit s.Invariant) d u k → StatedInvariant f u (record { free = f; expr = k.1 })
 
-  to_stated : (f : Bool) (u : Tokens) (x : Invariant) → Both (Low (Claim limit s.Invariant) d) (λ k. Nothing (record { free = f; expr = k.1 })) u x → StatedInvariant f u x
+  pub to_stated : (f : Bool) (u : Tokens) (x : Invariant) → Both (Low (Claim limit s.Invariant) d) (λ k. Nothing (record { free = f; expr = k.1 })) u x → StatedInvariant f u x
   to_stated f u x (both {u = v} {x = k} w n) = settle n (λ z x. StatedInvariant f (v ++ z) x) (subst (λ z. StatedInvariant f z (record { free = f; expr = k.1 })) (sym (append-nil v)) (stated_line w))
 
   stated_law : (f : Bool) (ts : Tokens) → Sound (StatedInvariant f) ts (stated_invariant limit d f ts)
   unfolding stated_invariant
   stated_law f ts = into (to_stated f) (seq (claim_sound limit d s.Invariant ts) (λ k ts. done (record { free = f; expr = k.1 }) ts))
 
-  to_free : (u : Tokens) (x : Invariant) → Both (Wanted s.Free) (λ _. StatedInvariant true) u x → Low (InvariantLine limit) d u x
+  pub to_free : (u : Tokens) (x : Invariant) → Both (Wanted s.Free) (λ _. StatedInvariant true) u x → Low (InvariantLine limit) d u x
   to_free u x (both (wanted i) (stated_line w)) = record { height = w.height; spelt = st.line (c.free i w.spelt); low = w.low }
 
-  to_checked : (u : Tokens) (x : Invariant) → StatedInvariant false u x → Low (InvariantLine limit) d u x
+  pub to_checked : (u : Tokens) (x : Invariant) → StatedInvariant false u x → Low (InvariantLine limit) d u x
   to_checked u x (stated_line w) = record { height = w.height; spelt = st.line (c.checked w.spelt); low = w.low }
 
-  invariant_law : (ts : Tokens) → Sound (Low (InvariantLine limit) d) ts (loop_invariant limit d ts)
+  pub invariant_law : (ts : Tokens) → Sound (Low (InvariantLine limit) d) ts (loop_invariant limit d ts)
   unfolding loop_invariant
   invariant_law ts = by_sign (sign_of (ahead ts)) refl
     where
@@ -155,24 +155,15 @@ module _ (limit d : ℕ) where
 
 -- ---- statements
 
-module _ (limit d : ℕ) (inner : Reader Stmt) (law : (ts : Tokens) → Sound (Low (Statement limit) d) ts (inner ts)) where
-  to_asserted : (u : Tokens) (x : Stmt) → Both (Low (Claim limit s.Assert) d) (λ k. Nothing (stated k.0 (Assert k.1))) u x → Low (Statement limit) (suc d) u x
+-- what the parts of a statement make
+module _ (limit d : ℕ) where
+  pub to_asserted : (u : Tokens) (x : Stmt) → Both (Low (Claim limit s.Assert) d) (λ k. Nothing (stated k.0 (Assert k.1))) u x → Low (Statement limit) (suc d) u x
   to_asserted u x (both {u = v} {x = k} w n) = settle n (λ z x. Low (Statement limit) (suc d) (v ++ z) x)
       (subst (λ z. Low (Statement limit) (suc d) z (stated k.0 (Assert k.1))) (sym (append-nil v)) (record { height = suc w.height; spelt = st.asserted w.spelt; low = let z = w.low in omega arith }))
 
-  asserted_law : (ts : Tokens) → Sound (Low (Statement limit) (suc d)) ts (asserted limit d inner ts)
-  unfolding asserted
-  asserted_law ts = deeper_sound (Low (Statement limit) (suc d)) d (λ ts. and_then (claim limit d s.Assert ts) (λ k ts. Got (stated k.0 (Assert k.1)) ts)) ts
-      (into to_asserted (seq (claim_sound limit d s.Assert ts) (λ k ts. done (stated k.0 (Assert k.1)) ts)))
-
-  to_assumed : (u : Tokens) (x : Stmt) → Both (Low (Claim limit s.Assume) d) (λ k. Nothing (stated k.0 (Assume k.1))) u x → Low (Statement limit) (suc d) u x
+  pub to_assumed : (u : Tokens) (x : Stmt) → Both (Low (Claim limit s.Assume) d) (λ k. Nothing (stated k.0 (Assume k.1))) u x → Low (Statement limit) (suc d) u x
   to_assumed u x (both {u = v} {x = k} w n) = settle n (λ z x. Low (Statement limit) (suc d) (v ++ z) x)
       (subst (λ z. Low (Statement limit) (suc d) z (stated k.0 (Assume k.1))) (sym (append-nil v)) (record { height = suc w.height; spelt = st.assumed w.spelt; low = let z = w.low in omega arith }))
-
-  assumed_law : (ts : Tokens) → Sound (Low (Statement limit) (suc d)) ts (assumed limit d inner ts)
-  unfolding assumed
-  assumed_law ts = deeper_sound (Low (Statement limit) (suc d)) d (λ ts. and_then (claim limit d s.Assume ts) (λ k ts. Got (stated k.0 (Assume k.1)) ts)) ts
-      (into to_assumed (seq (claim_sound limit d s.Assume ts) (λ k ts. done (stated k.0 (Assume k.1)) ts)))
 
   assigned_of : {t b k : Token} {u v q : Tokens} {l : Left} {ls : List Left} {es : List Expr} → Low LeftSide d (t ∷ u) l → Behind (Many (Next (Low LeftSide d))) (l ∷ []) v ls → Is s.Becomes b → Low (Commas Expression) d q es → Is s.Semi k
       → Low (Statement limit) (suc d) (t ∷ (u ++ (v ++ b ∷ (q ++ k ∷ [])))) (stated t.at (Assign ls es))
@@ -183,52 +174,23 @@ module _ (limit d : ℕ) (inner : Reader Stmt) (law : (ts : Tokens) → Sound (L
       subst (λ ls. Low (Statement limit) (suc d) (t ∷ (u ++ (v ++ b ∷ (q ++ k ∷ [])))) (stated t.at (Assign ls es))) (sym m.same)
       (subst (λ z. Low (Statement limit) (suc d) (t ∷ z) (stated t.at (Assign (l ∷ m.items) es))) (append_assoc u v (b ∷ (q ++ k ∷ []))) made)
 
-  to_assigned : (u : Tokens) (x : Stmt)
+  pub to_assigned : (u : Tokens) (x : Stmt)
       → Both (PlacedLeft d) (λ l. Both (Behind (Many (Next (Low LeftSide d))) (l.0 ∷ [])) (λ ls. Both (Wanted s.Becomes) (λ _. Both (Low (Commas Expression) d) (λ es. Both (Wanted s.Semi) (λ _. Nothing (stated l.1 (Assign ls es))))))) u x
       → Low (Statement limit) (suc d) u x
   to_assigned u x (both (placed_left {t = t} {u = y} f) (both {u = v} m (both (wanted {t = b} i) (both {u = q} w (both (wanted {t = k} j) n))))) =
       settle n (λ z x. Low (Statement limit) (suc d) (t ∷ (y ++ (v ++ b ∷ (q ++ k ∷ z)))) x) (assigned_of f m i w j)
 
-  assigned_law : (ts : Tokens) → Sound (Low (Statement limit) (suc d)) ts (assigned limit d inner ts)
-  unfolding assigned
-  assigned_law ts = deeper_sound (Low (Statement limit) (suc d)) d
-      (λ ts. and_then (left d ts) (λ l ts. and_then (reading.more (plain_left d) (l.0 ∷ []) ts) (λ ls ts. and_then (want s.Becomes ts) (λ _ ts. and_then (reading.commas (expression d) ts) (λ es ts. and_then (want s.Semi ts) (λ _ ts. Got (stated l.1 (Assign ls es)) ts)))))) ts
-      (into to_assigned (seq (left_law d ts) (λ l ts. seq (more_sound (Low LeftSide d) (plain_left d) (plain_law d) (l.0 ∷ []) ts) (λ ls ts. seq (want_sound s.Becomes ts) (λ _ ts. seq (values_law d ts) (λ es ts. seq (want_sound s.Semi ts) (λ _ ts. done (stated l.1 (Assign ls es)) ts)))))))
-
-  -- ---- calls
-
-  to_applied : (p : Place) (xs : List Text) (u : Tokens) (x : Stmt) → Both Named (λ f. Both (Low (Enclosed Expression) d) (λ es. Both (Wanted s.Semi) (λ _. Nothing (stated p (Call xs f.0 es))))) u x → Applied d p xs u x
+  pub to_applied : (p : Place) (xs : List Text) (u : Tokens) (x : Stmt) → Both Named (λ f. Both (Low (Enclosed Expression) d) (λ es. Both (Wanted s.Semi) (λ _. Nothing (stated p (Call xs f.0 es))))) u x → Applied d p xs u x
   to_applied p xs u x (both (named {t = m} i) (both {u = v} w (both (wanted {t = k} j) n))) = settle n (λ z x. Applied d p xs (m ∷ (v ++ k ∷ z)) x) (applied_text i w j)
-
-  applied_law : (p : Place) (xs : List Text) (ts : Tokens) → Sound (Applied d p xs) ts (applied limit d inner p xs ts)
-  unfolding applied
-  applied_law p xs ts = into (to_applied p xs) (seq (name_sound ts) (λ f ts. seq (arguments_law d ts) (λ es ts. seq (want_sound s.Semi ts) (λ _ ts. done (stated p (Call xs f.0 es)) ts))))
 
   through_of : {p : Place} {x : Text} {b : Token} {u v : Tokens} {ys : List Text} {y : Stmt} → Behind NextNames (x ∷ []) u ys → Is s.Becomes b → Applied d p ys v y → CallFrom d p x (u ++ b ∷ v) y
   through_of {p = p} {v = v} {y = y} m i a = through m.list i (subst (λ ys. Applied d p ys v y) m.same a)
 
-  to_received : (p : Place) (x : Text) (u : Tokens) (y : Stmt) → Both (Behind NextNames (x ∷ [])) (λ ys. Both (Wanted s.Becomes) (λ _. Applied d p ys)) u y → CallFrom d p x u y
+  pub to_received : (p : Place) (x : Text) (u : Tokens) (y : Stmt) → Both (Behind NextNames (x ∷ [])) (λ ys. Both (Wanted s.Becomes) (λ _. Applied d p ys)) u y → CallFrom d p x u y
   to_received p x u y (both m (both (wanted i) a)) = through_of m i a
 
-  received_law : (p : Place) (x : Text) (ts : Tokens) → Sound (CallFrom d p x) ts (received limit d inner p x ts)
-  unfolding received
-  received_law p x ts = into (to_received p x) (seq (more_names_sound (x ∷ []) ts) (λ ys ts. seq (want_sound s.Becomes ts) (λ _ ts. applied_law p ys ts)))
-
-  to_direct : (p : Place) (x : Text) (u : Tokens) (y : Stmt) → Both (Low (Enclosed Expression) d) (λ es. Both (Wanted s.Semi) (λ _. Nothing (stated p (Call [] x es)))) u y → CallFrom d p x u y
+  pub to_direct : (p : Place) (x : Text) (u : Tokens) (y : Stmt) → Both (Low (Enclosed Expression) d) (λ es. Both (Wanted s.Semi) (λ _. Nothing (stated p (Call [] x es)))) u y → CallFrom d p x u y
   to_direct p x u y (both {u = v} w (both (wanted {t = k} j) n)) = settle n (λ z y. CallFrom d p x (v ++ k ∷ z) y) (direct w j)
-
-  direct_law : (p : Place) (x : Text) (ts : Tokens) → Sound (CallFrom d p x) ts (applied_to limit d inner p x ts)
-  unfolding applied_to
-  direct_law p x ts = into (to_direct p x) (seq (arguments_law d ts) (λ es ts. seq (want_sound s.Semi ts) (λ _ ts. done (stated p (Call [] x es)) ts)))
-
-  call_from_law : (p : Place) (x : Text) (ts : Tokens) → Sound (CallFrom d p x) ts (call_from limit d inner p x ts)
-  unfolding call_from
-  call_from_law p x ts = by_sign (sign_of (ahead ts))
-    where
-      by_sign : (y : Sign) → Sound (CallFrom d p x) ts (call_by limit d inner p x y ts)
-      by_sign s.Comma = received_law p x ts
-      by_sign s.Becomes = received_law p x ts
-      by_sign _ = direct_law p x ts
 
   through_text : {t n b : Token} {x : Text} {a u v : Tokens} {ys : List Text} {y : Stmt} → Is s.Call t → Attributes limit a → IsName x n → NextNames u ys → Is s.Becomes b → Applied d t.at (x ∷ ys) v y → Low (Statement limit) (suc d) (t ∷ a ++ (n ∷ (u ++ b ∷ v))) y
   through_text {t = t} {n = n} {b = b} {x = x} {a = a} {u = u} {ys = ys} i l j m k (applied_text {n = f} {k = e} {f = y} {u = v} {es = es} o w z) =
@@ -239,12 +201,87 @@ module _ (limit d : ℕ) (inner : Reader Stmt) (law : (ts : Tokens) → Sound (L
   called_of i l j (through m k a) = through_text i l j m k a
   called_of i l j (direct w k) = record { height = suc w.height; spelt = st.called i l st.none j w.spelt k; low = let y = w.low in omega arith }
 
-  to_called : (u : Tokens) (x : Stmt) → Both (Wanted s.Call) (λ p. Both (AttributesText limit) (λ _. Both Named (λ y. CallFrom d p y.0))) u x → Low (Statement limit) (suc d) u x
+  pub to_called : (u : Tokens) (x : Stmt) → Both (Wanted s.Call) (λ p. Both (AttributesText limit) (λ _. Both Named (λ y. CallFrom d p y.0))) u x → Low (Statement limit) (suc d) u x
   to_called u x (both (wanted i) (both l (both (named j) w))) = called_of i l j w
+
+  pub to_block : (u : Tokens) (xs : List Stmt) → Both (Wanted s.OpenBrace) (λ _. Both (Low (Statements limit) d) (λ ys. Both (Wanted s.CloseBrace) (λ _. Nothing ys))) u xs → Low (Block limit) d u xs
+  to_block u xs (both (wanted {t = o} i) (both {u = v} w (both (wanted {t = k} j) n))) = settle n (λ z xs. Low (Block limit) d (o ∷ (v ++ k ∷ z)) xs) (record { height = w.height; spelt = st.braces i w.spelt j; low = w.low })
+
+  pub to_if : (u : Tokens) (xs : List Stmt) → Both (IfStatement limit d) (λ x. Nothing (x ∷ [])) u xs → Branch limit d u xs
+  to_if u xs (both {u = v} {x = x} w n) = settle n (λ z xs. Branch limit d (v ++ z) xs) (subst (λ z. Branch limit d z (x ∷ [])) (sym (append-nil v)) (of_if w))
+
+  pub to_otherwise : (u : Tokens) (xs : List Stmt) → Both (Wanted s.Else) (λ _. Branch limit d) u xs → Low (Otherwise limit) d u xs
+  to_otherwise u xs (both (wanted i) b) = after_else i b
+
+  conditional_of : {u v w : Tokens} {g : Place × Expr} {a b : List Stmt} → Guarded d s.If u g → Low (Block limit) d v a → Low (Otherwise limit) d w b → Low (Statement limit) (suc d) (u ++ (v ++ w)) (stated g.0 (If g.1 a b))
+  conditional_of {v = v} {w = w} {a = a} {b = b} (guarded {t = t} {o = o} {k = k} {u = u} {e = e} i j f l) y z =
+      subst (λ q. Low (Statement limit) (suc d) (t ∷ o ∷ q) (stated t.at (If e a b))) (sym (append_assoc u (k ∷ []) (v ++ w)))
+      (record { height = suc (max f.height (max y.height z.height)); spelt = st.conditional i j f.spelt l y.spelt z.spelt; low = let l = f.low in let m = y.low in let n = z.low in omega arith })
+
+  pub to_conditional : (u : Tokens) (x : Stmt) → Both (Guarded d s.If) (λ g. Both (Low (Block limit) d) (λ a. Both (Low (Otherwise limit) d) (λ b. Nothing (stated g.0 (If g.1 a b))))) u x → Low (Statement limit) (suc d) u x
+  to_conditional u x (both {u = v} {x = g} f (both {u = p} {x = a} y (both {u = q} {x = b} z n))) =
+      settle n (λ r x. Low (Statement limit) (suc d) (v ++ (p ++ (q ++ r))) x)
+      (subst (λ r. Low (Statement limit) (suc d) (v ++ (p ++ r)) (stated g.0 (If g.1 a b))) (sym (append-nil q)) (conditional_of f y z))
+
+  loop_of : {u v w : Tokens} {g : Place × Expr} {a : List Invariant} {b : List Stmt} → Guarded d s.While u g → Low (Row (InvariantLine limit)) d v a → Low (Block limit) d w b → Low (Statement limit) (suc d) (u ++ (v ++ w)) (stated g.0 (While g.1 a b))
+  loop_of {v = v} {w = w} {a = a} {b = b} (guarded {t = t} {o = o} {k = k} {u = u} {e = e} i j f l) y z =
+      subst (λ q. Low (Statement limit) (suc d) (t ∷ o ∷ q) (stated t.at (While e a b))) (sym (append_assoc u (k ∷ []) (v ++ w)))
+      (record { height = suc (max f.height (max y.height z.height)); spelt = st.loop i j f.spelt l y.spelt z.spelt; low = let l = f.low in let m = y.low in let n = z.low in omega arith })
+
+  pub to_loop : (u : Tokens) (x : Stmt) → Both (Guarded d s.While) (λ g. Both (Low (Row (InvariantLine limit)) d) (λ a. Both (Low (Block limit) d) (λ b. Nothing (stated g.0 (While g.1 a b))))) u x → Low (Statement limit) (suc d) u x
+  to_loop u x (both {u = v} {x = g} f (both {u = p} {x = a} y (both {u = q} {x = b} z n))) =
+      settle n (λ r x. Low (Statement limit) (suc d) (v ++ (p ++ (q ++ r))) x)
+      (subst (λ r. Low (Statement limit) (suc d) (v ++ (p ++ r)) (stated g.0 (While g.1 a b))) (sym (append-nil q)) (loop_of f y z))
+
+  pub to_broken : (u : Tokens) (x : Stmt) → Both (Wanted s.Break) (λ p. Both (Wanted s.Semi) (λ _. Nothing (stated p Break))) u x → Low (Statement limit) (suc d) u x
+  to_broken u x (both (wanted {t = t} i) (both (wanted {t = k} j) n)) = settle n (λ z x. Low (Statement limit) (suc d) (t ∷ k ∷ z) x) (record { height = 1; spelt = st.broken i j; low = omega arith })
+
+  pub to_returned : (u : Tokens) (x : Stmt) → Both (Wanted s.Return) (λ p. Both (Wanted s.Semi) (λ _. Nothing (stated p Return))) u x → Low (Statement limit) (suc d) u x
+  to_returned u x (both (wanted {t = t} i) (both (wanted {t = k} j) n)) = settle n (λ z x. Low (Statement limit) (suc d) (t ∷ k ∷ z) x) (record { height = 1; spelt = st.returned i j; low = omega arith })
+
+module _ (limit d : ℕ) (inner : Reader Stmt) (law : (ts : Tokens) → Sound (Low (Statement limit) d) ts (inner ts)) where
+  asserted_law : (ts : Tokens) → Sound (Low (Statement limit) (suc d)) ts (asserted limit d inner ts)
+  unfolding asserted
+  asserted_law ts = deeper_sound (Low (Statement limit) (suc d)) d (λ ts. and_then (claim limit d s.Assert ts) (λ k ts. Got (stated k.0 (Assert k.1)) ts)) ts
+      (into (to_asserted limit d) (seq (claim_sound limit d s.Assert ts) (λ k ts. done (stated k.0 (Assert k.1)) ts)))
+
+  assumed_law : (ts : Tokens) → Sound (Low (Statement limit) (suc d)) ts (assumed limit d inner ts)
+  unfolding assumed
+  assumed_law ts = deeper_sound (Low (Statement limit) (suc d)) d (λ ts. and_then (claim limit d s.Assume ts) (λ k ts. Got (stated k.0 (Assume k.1)) ts)) ts
+      (into (to_assumed limit d) (seq (claim_sound limit d s.Assume ts) (λ k ts. done (stated k.0 (Assume k.1)) ts)))
+
+  assigned_law : (ts : Tokens) → Sound (Low (Statement limit) (suc d)) ts (assigned limit d inner ts)
+  unfolding assigned
+  assigned_law ts = deeper_sound (Low (Statement limit) (suc d)) d
+      (λ ts. and_then (left d ts) (λ l ts. and_then (reading.more (plain_left d) (l.0 ∷ []) ts) (λ ls ts. and_then (want s.Becomes ts) (λ _ ts. and_then (reading.commas (expression d) ts) (λ es ts. and_then (want s.Semi ts) (λ _ ts. Got (stated l.1 (Assign ls es)) ts)))))) ts
+      (into (to_assigned limit d) (seq (left_law d ts) (λ l ts. seq (more_sound (Low LeftSide d) (plain_left d) (plain_law d) (l.0 ∷ []) ts) (λ ls ts. seq (want_sound s.Becomes ts) (λ _ ts. seq (values_law d ts) (λ es ts. seq (want_sound s.Semi ts) (λ _ ts. done (stated l.1 (Assign ls es)) ts)))))))
+
+  -- ---- calls
+
+  applied_law : (p : Place) (xs : List Text) (ts : Tokens) → Sound (Applied d p xs) ts (applied limit d inner p xs ts)
+  unfolding applied
+  applied_law p xs ts = into (to_applied limit d p xs) (seq (name_sound ts) (λ f ts. seq (arguments_law d ts) (λ es ts. seq (want_sound s.Semi ts) (λ _ ts. done (stated p (Call xs f.0 es)) ts))))
+
+  received_law : (p : Place) (x : Text) (ts : Tokens) → Sound (CallFrom d p x) ts (received limit d inner p x ts)
+  unfolding received
+  received_law p x ts = into (to_received limit d p x) (seq (more_names_sound (x ∷ []) ts) (λ ys ts. seq (want_sound s.Becomes ts) (λ _ ts. applied_law p ys ts)))
+
+  direct_law : (p : Place) (x : Text) (ts : Tokens) → Sound (CallFrom d p x) ts (applied_to limit d inner p x ts)
+  unfolding applied_to
+  direct_law p x ts = into (to_direct limit d p x) (seq (arguments_law d ts) (λ es ts. seq (want_sound s.Semi ts) (λ _ ts. done (stated p (Call [] x es)) ts)))
+
+  call_from_law : (p : Place) (x : Text) (ts : Tokens) → Sound (CallFrom d p x) ts (call_from limit d inner p x ts)
+  unfolding call_from
+  call_from_law p x ts = by_sign (sign_of (ahead ts))
+    where
+      by_sign : (y : Sign) → Sound (CallFrom d p x) ts (call_by limit d inner p x y ts)
+      by_sign s.Comma = received_law p x ts
+      by_sign s.Becomes = received_law p x ts
+      by_sign _ = direct_law p x ts
 
   called_law : (ts : Tokens) → sign_of (ahead ts) ≡ s.Call → Sound (Low (Statement limit) (suc d)) ts (called limit d inner ts)
   unfolding called
-  called_law ts e = into to_called (seq (skip_sound s.Call ts e) (λ p ts. seq (attributes_sound limit ts) (λ _ ts. seq (name_sound ts) (λ y ts. call_from_law p y.0 ts))))
+  called_law ts e = into (to_called limit d) (seq (skip_sound s.Call ts e) (λ p ts. seq (attributes_sound limit ts) (λ _ ts. seq (name_sound ts) (λ y ts. call_from_law p y.0 ts))))
 
   -- ---- blocks
 
@@ -253,84 +290,49 @@ module _ (limit d : ℕ) (inner : Reader Stmt) (law : (ts : Tokens) → Sound (L
   statements_law ts = into (λ u y m. let w = pushed (Low (Statement limit) d) begins_statement m in subst (λ ys. Low (Statements limit) d u ys) (sym w.same) (low_statements limit d w.list))
       (many_sound (Low (Statement limit) d) begins_statement inner push (λ ts e. law ts) (suc (length ts)) [] ts)
 
-  to_block : (u : Tokens) (xs : List Stmt) → Both (Wanted s.OpenBrace) (λ _. Both (Low (Statements limit) d) (λ ys. Both (Wanted s.CloseBrace) (λ _. Nothing ys))) u xs → Low (Block limit) d u xs
-  to_block u xs (both (wanted {t = o} i) (both {u = v} w (both (wanted {t = k} j) n))) = settle n (λ z xs. Low (Block limit) d (o ∷ (v ++ k ∷ z)) xs) (record { height = w.height; spelt = st.braces i w.spelt j; low = w.low })
-
   block_law : (ts : Tokens) → Sound (Low (Block limit) d) ts (block limit d inner ts)
   unfolding block
-  block_law ts = into to_block (seq (want_sound s.OpenBrace ts) (λ _ ts. seq (statements_law ts) (λ ys ts. seq (want_sound s.CloseBrace ts) (λ _ ts. done ys ts))))
-
-  to_if : (u : Tokens) (xs : List Stmt) → Both (IfStatement limit d) (λ x. Nothing (x ∷ [])) u xs → Branch limit d u xs
-  to_if u xs (both {u = v} {x = x} w n) = settle n (λ z xs. Branch limit d (v ++ z) xs) (subst (λ z. Branch limit d z (x ∷ [])) (sym (append-nil v)) (of_if w))
+  block_law ts = into (to_block limit d) (seq (want_sound s.OpenBrace ts) (λ _ ts. seq (statements_law ts) (λ ys ts. seq (want_sound s.CloseBrace ts) (λ _ ts. done ys ts))))
 
   branch_law : (ts : Tokens) → Sound (Branch limit d) ts (branch limit d inner ts)
   unfolding branch
   branch_law ts = by_sign (sign_of (ahead ts)) refl
     where
       by_sign : (x : Sign) → sign_of (ahead ts) ≡ x → Sound (Branch limit d) ts (branch_by limit d inner x ts)
-      by_sign s.If e = into to_if (seq (starts_if limit d ts (inner ts) e (law ts)) (λ x ts. done (x ∷ []) ts))
+      by_sign s.If e = into (to_if limit d) (seq (starts_if limit d ts (inner ts) e (law ts)) (λ x ts. done (x ∷ []) ts))
       by_sign _ e = into (λ u xs w. of_block w) (block_law ts)
-
-  to_otherwise : (u : Tokens) (xs : List Stmt) → Both (Wanted s.Else) (λ _. Branch limit d) u xs → Low (Otherwise limit) d u xs
-  to_otherwise u xs (both (wanted i) b) = after_else i b
 
   otherwise_law : (ts : Tokens) → Sound (Low (Otherwise limit) d) ts (otherwise limit d inner ts)
   unfolding otherwise
   otherwise_law ts = by_sign (sign_of (ahead ts)) refl
     where
       by_sign : (x : Sign) → sign_of (ahead ts) ≡ x → Sound (Low (Otherwise limit) d) ts (otherwise_by limit d inner x ts)
-      by_sign s.Else e = into to_otherwise (seq (skip_sound s.Else ts e) (λ _ ts. branch_law ts))
+      by_sign s.Else e = into (to_otherwise limit d) (seq (skip_sound s.Else ts e) (λ _ ts. branch_law ts))
       by_sign _ e = record { fact = ([], refl, record { height = 0; spelt = st.nothing; low = omega arith }) }
 
   guard_law : (word : Sign) (ts : Tokens) → sign_of (ahead ts) ≡ word → Sound (Guarded d word) ts (guard limit d inner ts)
   unfolding guard
   guard_law word ts e = into (to_guard d word) (seq (skip_sound word ts e) (λ p ts. seq (want_sound s.Open ts) (λ _ ts. seq (expression_sound d ts) (λ e ts. seq (want_sound s.Close ts) (λ _ ts. done (p, e) ts)))))
 
-  conditional_of : {u v w : Tokens} {g : Place × Expr} {a b : List Stmt} → Guarded d s.If u g → Low (Block limit) d v a → Low (Otherwise limit) d w b → Low (Statement limit) (suc d) (u ++ (v ++ w)) (stated g.0 (If g.1 a b))
-  conditional_of {v = v} {w = w} {a = a} {b = b} (guarded {t = t} {o = o} {k = k} {u = u} {e = e} i j f l) y z =
-      subst (λ q. Low (Statement limit) (suc d) (t ∷ o ∷ q) (stated t.at (If e a b))) (sym (append_assoc u (k ∷ []) (v ++ w)))
-      (record { height = suc (max f.height (max y.height z.height)); spelt = st.conditional i j f.spelt l y.spelt z.spelt; low = let l = f.low in let m = y.low in let n = z.low in omega arith })
-
-  to_conditional : (u : Tokens) (x : Stmt) → Both (Guarded d s.If) (λ g. Both (Low (Block limit) d) (λ a. Both (Low (Otherwise limit) d) (λ b. Nothing (stated g.0 (If g.1 a b))))) u x → Low (Statement limit) (suc d) u x
-  to_conditional u x (both {u = v} {x = g} f (both {u = p} {x = a} y (both {u = q} {x = b} z n))) =
-      settle n (λ r x. Low (Statement limit) (suc d) (v ++ (p ++ (q ++ r))) x)
-      (subst (λ r. Low (Statement limit) (suc d) (v ++ (p ++ r)) (stated g.0 (If g.1 a b))) (sym (append-nil q)) (conditional_of f y z))
-
   conditional_law : (ts : Tokens) → sign_of (ahead ts) ≡ s.If → Sound (Low (Statement limit) (suc d)) ts (conditional limit d inner ts)
   unfolding conditional
   conditional_law ts e = deeper_sound (Low (Statement limit) (suc d)) d
       (λ ts. and_then (guard limit d inner ts) (λ g ts. and_then (block limit d inner ts) (λ a ts. and_then (otherwise limit d inner ts) (λ b ts. Got (stated g.0 (If g.1 a b)) ts)))) ts
-      (into to_conditional (seq (guard_law s.If ts e) (λ g ts. seq (block_law ts) (λ a ts. seq (otherwise_law ts) (λ b ts. done (stated g.0 (If g.1 a b)) ts)))))
-
-  loop_of : {u v w : Tokens} {g : Place × Expr} {a : List Invariant} {b : List Stmt} → Guarded d s.While u g → Low (Row (InvariantLine limit)) d v a → Low (Block limit) d w b → Low (Statement limit) (suc d) (u ++ (v ++ w)) (stated g.0 (While g.1 a b))
-  loop_of {v = v} {w = w} {a = a} {b = b} (guarded {t = t} {o = o} {k = k} {u = u} {e = e} i j f l) y z =
-      subst (λ q. Low (Statement limit) (suc d) (t ∷ o ∷ q) (stated t.at (While e a b))) (sym (append_assoc u (k ∷ []) (v ++ w)))
-      (record { height = suc (max f.height (max y.height z.height)); spelt = st.loop i j f.spelt l y.spelt z.spelt; low = let l = f.low in let m = y.low in let n = z.low in omega arith })
-
-  to_loop : (u : Tokens) (x : Stmt) → Both (Guarded d s.While) (λ g. Both (Low (Row (InvariantLine limit)) d) (λ a. Both (Low (Block limit) d) (λ b. Nothing (stated g.0 (While g.1 a b))))) u x → Low (Statement limit) (suc d) u x
-  to_loop u x (both {u = v} {x = g} f (both {u = p} {x = a} y (both {u = q} {x = b} z n))) =
-      settle n (λ r x. Low (Statement limit) (suc d) (v ++ (p ++ (q ++ r))) x)
-      (subst (λ r. Low (Statement limit) (suc d) (v ++ (p ++ r)) (stated g.0 (While g.1 a b))) (sym (append-nil q)) (loop_of f y z))
+      (into (to_conditional limit d) (seq (guard_law s.If ts e) (λ g ts. seq (block_law ts) (λ a ts. seq (otherwise_law ts) (λ b ts. done (stated g.0 (If g.1 a b)) ts)))))
 
   loop_law : (ts : Tokens) → sign_of (ahead ts) ≡ s.While → Sound (Low (Statement limit) (suc d)) ts (looped limit d inner ts)
   unfolding looped
   loop_law ts e = deeper_sound (Low (Statement limit) (suc d)) d
       (λ ts. and_then (guard limit d inner ts) (λ g ts. and_then (invariants limit d ts) (λ a ts. and_then (block limit d inner ts) (λ b ts. Got (stated g.0 (While g.1 a b)) ts)))) ts
-      (into to_loop (seq (guard_law s.While ts e) (λ g ts. seq (invariants_law limit d ts) (λ a ts. seq (block_law ts) (λ b ts. done (stated g.0 (While g.1 a b)) ts)))))
-
-  to_broken : (u : Tokens) (x : Stmt) → Both (Wanted s.Break) (λ p. Both (Wanted s.Semi) (λ _. Nothing (stated p Break))) u x → Low (Statement limit) (suc d) u x
-  to_broken u x (both (wanted {t = t} i) (both (wanted {t = k} j) n)) = settle n (λ z x. Low (Statement limit) (suc d) (t ∷ k ∷ z) x) (record { height = 1; spelt = st.broken i j; low = omega arith })
+      (into (to_loop limit d) (seq (guard_law s.While ts e) (λ g ts. seq (invariants_law limit d ts) (λ a ts. seq (block_law ts) (λ b ts. done (stated g.0 (While g.1 a b)) ts)))))
 
   broken_law : (ts : Tokens) → sign_of (ahead ts) ≡ s.Break → Sound (Low (Statement limit) (suc d)) ts (broken limit d inner ts)
   unfolding broken
-  broken_law ts e = into to_broken (seq (skip_sound s.Break ts e) (λ p ts. seq (want_sound s.Semi ts) (λ _ ts. done (stated p Break) ts)))
-
-  to_returned : (u : Tokens) (x : Stmt) → Both (Wanted s.Return) (λ p. Both (Wanted s.Semi) (λ _. Nothing (stated p Return))) u x → Low (Statement limit) (suc d) u x
-  to_returned u x (both (wanted {t = t} i) (both (wanted {t = k} j) n)) = settle n (λ z x. Low (Statement limit) (suc d) (t ∷ k ∷ z) x) (record { height = 1; spelt = st.returned i j; low = omega arith })
+  broken_law ts e = into (to_broken limit d) (seq (skip_sound s.Break ts e) (λ p ts. seq (want_sound s.Semi ts) (λ _ ts. done (stated p Break) ts)))
 
   returned_law : (ts : Tokens) → sign_of (ahead ts) ≡ s.Return → Sound (Low (Statement limit) (suc d)) ts (returned limit d inner ts)
   unfolding returned
-  returned_law ts e = into to_returned (seq (skip_sound s.Return ts e) (λ p ts. seq (want_sound s.Semi ts) (λ _ ts. done (stated p Return) ts)))
+  returned_law ts e = into (to_returned limit d) (seq (skip_sound s.Return ts e) (λ p ts. seq (want_sound s.Semi ts) (λ _ ts. done (stated p Return) ts)))
 
   layer_law : (ts : Tokens) → Sound (Low (Statement limit) (suc d)) ts (statement_layer limit d inner ts)
   unfolding statement_layer

@@ -32,35 +32,37 @@ type_high (ty.bool i) = omega arith
 type_high (ty.named i) = omega arith
 type_high (ty.map i a j b) = omega arith
 
+-- what the parts of a type make
+module _ (d : ℕ) where
+  pub to_int : (u : Tokens) (x : Sort) → Both (Wanted s.Int) (λ _. Nothing sort.Int) u x → Low TypeText (suc d) u x
+  to_int u x (both (wanted {t = t} i) n) = settle n (λ z x. Low TypeText (suc d) (t ∷ z) x) (record { height = 1; spelt = ty.int i; low = omega arith })
+
+  pub to_bool : (u : Tokens) (x : Sort) → Both (Wanted s.Bool) (λ _. Nothing sort.Bool) u x → Low TypeText (suc d) u x
+  to_bool u x (both (wanted {t = t} i) n) = settle n (λ z x. Low TypeText (suc d) (t ∷ z) x) (record { height = 1; spelt = ty.bool i; low = omega arith })
+
+  pub to_named : (u : Tokens) (x : Sort) → Both Named (λ y. Nothing (sort.Named y.0)) u x → Low TypeText (suc d) u x
+  to_named u x (both (named {t = t} i) n) = settle n (λ z x. Low TypeText (suc d) (t ∷ z) x) (record { height = 1; spelt = ty.named i; low = omega arith })
+
+  pub to_map : (u : Tokens) (x : Sort) → Both (Wanted s.OpenBracket) (λ _. Both (Low TypeText d) (λ a. Both (Wanted s.CloseBracket) (λ _. Both (Low TypeText d) (λ b. Nothing (sort.Map a b))))) u x → Low TypeText (suc d) u x
+  to_map u x (both (wanted {t = o} i) (both {u = v} {x = a} w (both (wanted {t = c} j) (both {u = q} {x = b} y n)))) =
+      settle n (λ z x. Low TypeText (suc d) (o ∷ (v ++ c ∷ (q ++ z))) x)
+      (subst (λ z. Low TypeText (suc d) (o ∷ (v ++ c ∷ z)) (sort.Map a b)) (sym (append-nil q)) (record { height = suc (max w.height y.height); spelt = ty.map i w.spelt j y.spelt; low = let l = w.low in let m = y.low in omega arith }))
+
 module _ (d : ℕ) (inner : Reader Sort) where
   module _ (law : (ts : Tokens) → Sound (Low TypeText d) ts (inner ts)) where
-    to_int : (u : Tokens) (x : Sort) → Both (Wanted s.Int) (λ _. Nothing sort.Int) u x → Low TypeText (suc d) u x
-    to_int u x (both (wanted {t = t} i) n) = settle n (λ z x. Low TypeText (suc d) (t ∷ z) x) (record { height = 1; spelt = ty.int i; low = omega arith })
-
-    to_bool : (u : Tokens) (x : Sort) → Both (Wanted s.Bool) (λ _. Nothing sort.Bool) u x → Low TypeText (suc d) u x
-    to_bool u x (both (wanted {t = t} i) n) = settle n (λ z x. Low TypeText (suc d) (t ∷ z) x) (record { height = 1; spelt = ty.bool i; low = omega arith })
-
-    to_named : (u : Tokens) (x : Sort) → Both Named (λ y. Nothing (sort.Named y.0)) u x → Low TypeText (suc d) u x
-    to_named u x (both (named {t = t} i) n) = settle n (λ z x. Low TypeText (suc d) (t ∷ z) x) (record { height = 1; spelt = ty.named i; low = omega arith })
-
-    to_map : (u : Tokens) (x : Sort) → Both (Wanted s.OpenBracket) (λ _. Both (Low TypeText d) (λ a. Both (Wanted s.CloseBracket) (λ _. Both (Low TypeText d) (λ b. Nothing (sort.Map a b))))) u x → Low TypeText (suc d) u x
-    to_map u x (both (wanted {t = o} i) (both {u = v} {x = a} w (both (wanted {t = c} j) (both {u = q} {x = b} y n)))) =
-        settle n (λ z x. Low TypeText (suc d) (o ∷ (v ++ c ∷ (q ++ z))) x)
-        (subst (λ z. Low TypeText (suc d) (o ∷ (v ++ c ∷ z)) (sort.Map a b)) (sym (append-nil q)) (record { height = suc (max w.height y.height); spelt = ty.map i w.spelt j y.spelt; low = let l = w.low in let m = y.low in omega arith }))
-
     map_sound : (ts : Tokens) → sign_of (ahead ts) ≡ s.OpenBracket → Sound (Low TypeText (suc d)) ts (map_type d inner ts)
     unfolding map_type
     map_sound ts e = deeper_sound (Low TypeText (suc d)) d (λ ts. and_then (skip ts) (λ _ ts. and_then (inner ts) (λ a ts. and_then (want s.CloseBracket ts) (λ _ ts. and_then (inner ts) (λ b ts. Got (sort.Map a b) ts))))) ts
-        (into to_map (seq (skip_sound s.OpenBracket ts e) (λ _ ts. seq (law ts) (λ a ts. seq (want_sound s.CloseBracket ts) (λ _ ts. seq (law ts) (λ b ts. done (sort.Map a b) ts))))))
+        (into (to_map d) (seq (skip_sound s.OpenBracket ts e) (λ _ ts. seq (law ts) (λ a ts. seq (want_sound s.CloseBracket ts) (λ _ ts. seq (law ts) (λ b ts. done (sort.Map a b) ts))))))
 
     layer_sound : (ts : Tokens) → Sound (Low TypeText (suc d)) ts (type_layer d inner ts)
     unfolding type_layer
     layer_sound ts = by_sign (sign_of (ahead ts)) refl
       where
         by_sign : (x : Sign) → sign_of (ahead ts) ≡ x → Sound (Low TypeText (suc d)) ts (type_by d inner x ts)
-        by_sign s.Int e = into to_int (seq (skip_sound s.Int ts e) (λ _ ts. done sort.Int ts))
-        by_sign s.Bool e = into to_bool (seq (skip_sound s.Bool ts e) (λ _ ts. done sort.Bool ts))
-        by_sign s.Name e = into to_named (seq (name_sound ts) (λ y ts. done (sort.Named y.0) ts))
+        by_sign s.Int e = into (to_int d) (seq (skip_sound s.Int ts e) (λ _ ts. done sort.Int ts))
+        by_sign s.Bool e = into (to_bool d) (seq (skip_sound s.Bool ts e) (λ _ ts. done sort.Bool ts))
+        by_sign s.Name e = into (to_named d) (seq (name_sound ts) (λ y ts. done (sort.Named y.0) ts))
         by_sign s.OpenBracket e = map_sound ts e
         by_sign _ e = record { fact = tt }
 

@@ -6,6 +6,7 @@ pub mod Clauses
 pub mod Statements
 pub mod Programs
 pub mod Text
+pub mod Refusals
 pub mod Reading
 pub mod ReadingRows
 pub mod ReadingTypes
