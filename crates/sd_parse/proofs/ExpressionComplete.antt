@@ -1,13 +1,14 @@
 -- What is spelled is read, whatever follows that doesn't go on with it.
-use Rattle.std.proofs.Common.{◌≡◌, ℕ, zero, suc, ◌+◌, ◌<◌, ◌≤◌, max, true, false, [], ◌∷◌, ◌++◌, refl, ap, sym, ◌∙◌, subst, arith, append_assoc}
-use Rattle.std.specs.Prelude.{Some, None, nat_lt}
+use Rattle.std.proofs.Common.{◌≡◌, ℕ, zero, suc, ◌+◌, ◌<◌, ◌≤◌, max, true, false, List, [], ◌∷◌, ◌++◌, length, refl, ap, sym, ◌∙◌, subst, arith, append_assoc}
+use Rattle.std.specs.Prelude.{Bool, Some, None, nat_lt}
 use Rattle.std.proofs.lemmas.Bool.Decides.{nat_tests}
+use Rattle.std.proofs.lemmas.List.{append-nil}
 use denote.Enum.Bare.{true_same}
 use Rattle.sd_base.specs.declared.Place.{Place}
 use Rattle.sd_base.specs.Value.{Text}
 use Rattle.sd_lex.specs.declared.Token.{Token}
 use Rattle.sd_ast.specs.declared.Expr.{Expr}
-use Rattle.sd_ast.specs.declared.ExprKind.{Unary, Binary}
+use Rattle.sd_ast.specs.declared.ExprKind.{Var, Apply, Old, Unary, Binary, Select, Store}
 use Rattle.sd_ast.specs.declared.UnOp.{UnOp}
 use Rattle.sd_ast.specs.declared.BinOp.{BinOp}
 use Rattle.sd_ast.specs.declared.BinOp.TheVariants as op
@@ -16,27 +17,13 @@ use Rattle.sd_parse.specs.declared.sign.Sign.TheVariants as s
 use Rattle.sd_parse.specs.contracts.sign.Sign.{the_type}
 use Rattle.sd_parse.specs.Signs.{sign, sign_of_kind, same_sign}
 use Rattle.sd_parse.specs.Grammar as g
-use Rattle.sd_parse.specs.Grammar.{Tokens, Level, Whole, Implication, Right, Explied, Junction, Conjunction, Disjunction, Relation, Sum, Product, Prefix, Atom, Phrase, Is, IsName, IsNumber, repeated, operand, has_operand, compares, prefixes, placed}
-use Rattle.sd_parse.specs.Reading.{Step, Got, Bad, Reader, and_then, ahead, sign_of, skip, want, name_by, name, number_by, number, Tall, deeper, parenthesized, atom_by, atom, prefixed, prefix, operation, turn, turns, product, sum, relation, junction_by, junction, right_by, right, implication_by, implication, whole, layer, read}
-
-pub tall : {l : Level} {u : Tokens} {e : Expr} {h : ℕ} {p : Place} → Phrase l u e h p → 1 ≤ h
-tall (g.number i) = omega arith
-tall (g.yes i) = omega arith
-tall (g.no i) = omega arith
-tall (g.name i) = omega arith
-tall (g.parens o p c) = omega arith
-tall (g.atom p) = tall p
-tall (g.unary f p) = omega arith
-tall (g.only o p) = tall p
-tall (g.repeat p f q) = omega arith
-tall (g.sum p) = tall p
-tall (g.compare p f q) = omega arith
-tall (g.all p) = tall p
-tall (g.any p) = tall p
-tall (g.last p) = tall p
-tall (g.right p t q) = omega arith
-tall (g.implies p) = tall p
-tall (g.explied p) = tall p
+use Rattle.sd_parse.specs.Grammar.{Tokens, Level, Whole, Implication, Right, Explied, Junction, Conjunction, Disjunction, Relation, Sum, Product, Prefix, Postfix, Atom, Phrase, Arguments, Expressions, Is, IsName, IsNumber, repeated, operand, has_operand, compares, prefixes, placed}
+use Rattle.sd_parse.specs.Reading as spec
+use Rattle.sd_parse.specs.Reading.{Step, Got, Bad, Reader, and_then, ahead, sign_of, skip, want, begins, name_by, name, number_by, number, Tall, Group, add, comma, opens_bracket, deeper, next_expression, more_expressions, expressions, arguments_by, arguments, application, named_by, indexed_by, indexed, bracket_by, bracket, brackets_by, brackets, parenthesized, atom_by, atom, prefixed, prefix, operation, turn, turns, product, sum, relation, junction_by, junction, right_by, right, implication_by, implication, whole, layer, read}
+use Rattle.sd_parse.proofs.Sound as r
+use Rattle.sd_parse.proofs.Sound.{Repeat}
+use Rattle.sd_parse.proofs.Heights.{tall}
+use Rattle.sd_parse.proofs.Lists.{all_complete}
 
 -- ---- tokens
 
@@ -66,36 +53,39 @@ number_sign n t i = ap sign_of_kind i.same
 
 -- how loosely a sign goes on with what stands before it
 abbrev pub rank : Sign → ℕ
-rank s.Star = 1
-rank s.Plus = 2
-rank s.Minus = 2
-rank s.Equal = 3
-rank s.Unequal = 3
-rank s.Less = 3
-rank s.AtMost = 3
-rank s.Greater = 3
-rank s.AtLeast = 3
-rank s.And = 4
-rank s.Or = 4
-rank s.Implies = 5
-rank s.Explies = 5
-rank s.Iff = 6
-rank _ = 7
+rank s.Open = 0
+rank s.OpenBracket = 1
+rank s.Star = 2
+rank s.Plus = 3
+rank s.Minus = 3
+rank s.Equal = 4
+rank s.Unequal = 4
+rank s.Less = 4
+rank s.AtMost = 4
+rank s.Greater = 4
+rank s.AtLeast = 4
+rank s.And = 5
+rank s.Or = 5
+rank s.Implies = 6
+rank s.Explies = 6
+rank s.Iff = 7
+rank _ = 8
 
 -- the loosest sign that may go on with a phrase of the level
 abbrev pub limit : Level → ℕ
 limit Atom = 0
-limit Prefix = 0
-limit Product = 1
-limit Sum = 2
-limit Relation = 3
-limit Conjunction = 4
-limit Disjunction = 4
-limit Junction = 4
-limit Explied = 5
-limit Right = 5
-limit Implication = 5
-limit Whole = 6
+limit Postfix = 1
+limit Prefix = 1
+limit Product = 2
+limit Sum = 3
+limit Relation = 4
+limit Conjunction = 5
+limit Disjunction = 5
+limit Junction = 5
+limit Explied = 6
+limit Right = 6
+limit Implication = 6
+limit Whole = 7
 
 -- What follows doesn't go on with a phrase of the level.
 pub record Stops (l : Level) (rest : Tokens) : Type 0 where
@@ -139,7 +129,7 @@ lower Sum e = omega arith
 lower Product e = omega arith
 lower _ e = absurd (cc)
 
-compares_quiet : (x : Sign) → 3 < rank x → compares x ≡ None
+compares_quiet : (x : Sign) → 4 < rank x → compares x ≡ None
 compares_quiet s.Equal h = absurd (omega arith)
 compares_quiet s.Unequal h = absurd (omega arith)
 compares_quiet s.Less h = absurd (omega arith)
@@ -148,7 +138,7 @@ compares_quiet s.Greater h = absurd (omega arith)
 compares_quiet s.AtLeast h = absurd (omega arith)
 compares_quiet _ h = refl
 
-compares_rank : (x : Sign) (f : BinOp) → compares x ≡ Some f → 2 < rank x
+compares_rank : (x : Sign) (f : BinOp) → compares x ≡ Some f → 3 < rank x
 compares_rank s.Equal f e = omega arith
 compares_rank s.Unequal f e = omega arith
 compares_rank s.Less f e = omega arith
@@ -157,15 +147,123 @@ compares_rank s.Greater f e = omega arith
 compares_rank s.AtLeast f e = omega arith
 compares_rank _ f e = absurd (cc)
 
--- no atom begins as a prefixed phrase does
-atom_first : {u : Tokens} {e : Expr} {h : ℕ} {p : Place} (rest : Tokens) → Phrase Atom u e h p → prefixes (sign_of (ahead (u ++ rest))) ≡ None
-atom_first rest (g.number {t = t} {n = n} i) = ap prefixes (number_sign n t i)
-atom_first rest (g.yes i) = ap prefixes i.same
-atom_first rest (g.no i) = ap prefixes i.same
-atom_first rest (g.name {t = t} {x = x} i) = ap prefixes (name_sign x t i)
-atom_first rest (g.parens o p c) = ap prefixes o.same
-atom_first rest (g.only has p) = absurd (cc)
-atom_first rest (g.repeat p f q) = absurd (let z : None ≡ Some _ = f.operator in cc)
+-- the levels of atoms and brackets
+abbrev is_low : Level → Bool
+is_low Atom = true
+is_low Postfix = true
+is_low _ = false
+
+abbrev has_brackets : Level → Bool
+has_brackets Postfix = true
+has_brackets _ = false
+
+low_operand : (l : Level) → is_low l ≡ true → has_operand l ≡ true → ⊥
+low_operand Atom e f = cc
+low_operand Postfix e f = cc
+low_operand _ e f = cc
+
+brackets_operand : (l : Level) → has_brackets l ≡ true → has_operand l ≡ true → ⊥
+brackets_operand Postfix e f = cc
+brackets_operand _ e f = cc
+
+-- none begins as a prefixed phrase does
+postfix_first : {l : Level} {u : Tokens} {e : Expr} {h : ℕ} {p : Place} (rest : Tokens) → is_low l ≡ true → Phrase l u e h p → prefixes (sign_of (ahead (u ++ rest))) ≡ None
+postfix_first rest low (g.number {t = t} {n = n} i) = ap prefixes (number_sign n t i)
+postfix_first rest low (g.yes i) = ap prefixes i.same
+postfix_first rest low (g.no i) = ap prefixes i.same
+postfix_first rest low (g.name {t = t} {x = x} i) = ap prefixes (name_sign x t i)
+postfix_first rest low (g.application {t = t} {x = x} i o a c) = ap prefixes (name_sign x t i)
+postfix_first rest low (g.old i o p c) = ap prefixes i.same
+postfix_first rest low (g.parens o p c) = ap prefixes o.same
+postfix_first rest low (g.atom q) = postfix_first rest refl q
+postfix_first rest low (g.select {o = o} {c = c} {u = u} {v = v} q i r j) = ap (λ z. prefixes (sign_of (ahead z))) (append_assoc u (o ∷ (v ++ c ∷ [])) rest) ∙ postfix_first ((o ∷ (v ++ c ∷ [])) ++ rest) refl q
+postfix_first rest low (g.store {o = o} {b = b} {c = c} {u = u} {v = v} {w = w} q i r k y j) =
+    ap (λ z. prefixes (sign_of (ahead z))) (append_assoc u (o ∷ (v ++ b ∷ (w ++ c ∷ []))) rest) ∙ postfix_first ((o ∷ (v ++ b ∷ (w ++ c ∷ []))) ++ rest) refl q
+postfix_first rest low (g.postfix q) = absurd (cc)
+postfix_first rest low (g.unary f q) = absurd (cc)
+postfix_first rest low (g.only {l = l} has p) = absurd (low_operand l low has)
+postfix_first rest low (g.repeat {l = l} {t = t} {f = f} p o q) = absurd (low_operand l low (repeated_has l (sign t) f o.operator))
+postfix_first rest low (g.sum q) = absurd (cc)
+postfix_first rest low (g.compare p f q) = absurd (cc)
+postfix_first rest low (g.all q) = absurd (cc)
+postfix_first rest low (g.any q) = absurd (cc)
+postfix_first rest low (g.last q) = absurd (cc)
+postfix_first rest low (g.right p t q) = absurd (cc)
+postfix_first rest low (g.implies q) = absurd (cc)
+postfix_first rest low (g.explied q) = absurd (cc)
+
+prefix_begins : (x : Sign) (f : UnOp) → prefixes x ≡ Some f → begins x ≡ true
+prefix_begins s.Not f e = refl
+prefix_begins s.Minus f e = refl
+prefix_begins _ f e = absurd (cc)
+
+-- each phrase begins with a token that begins one
+pub phrase_first : {l : Level} {u : Tokens} {e : Expr} {h : ℕ} {p : Place} (rest : Tokens) → Phrase l u e h p → begins (sign_of (ahead (u ++ rest))) ≡ true
+phrase_first rest (g.number {t = t} {n = n} i) = ap begins (number_sign n t i)
+phrase_first rest (g.yes i) = ap begins i.same
+phrase_first rest (g.no i) = ap begins i.same
+phrase_first rest (g.name {t = t} {x = x} i) = ap begins (name_sign x t i)
+phrase_first rest (g.application {t = t} {x = x} i o a c) = ap begins (name_sign x t i)
+phrase_first rest (g.old i o p c) = ap begins i.same
+phrase_first rest (g.parens o p c) = ap begins o.same
+phrase_first rest (g.atom q) = phrase_first rest q
+phrase_first rest (g.select {o = o} {c = c} {u = u} {v = v} q i r j) = ap (λ z. begins (sign_of (ahead z))) (append_assoc u (o ∷ (v ++ c ∷ [])) rest) ∙ phrase_first ((o ∷ (v ++ c ∷ [])) ++ rest) q
+phrase_first rest (g.store {o = o} {b = b} {c = c} {u = u} {v = v} {w = w} q i r k y j) =
+    ap (λ z. begins (sign_of (ahead z))) (append_assoc u (o ∷ (v ++ b ∷ (w ++ c ∷ []))) rest) ∙ phrase_first ((o ∷ (v ++ b ∷ (w ++ c ∷ []))) ++ rest) q
+phrase_first rest (g.postfix q) = phrase_first rest q
+phrase_first rest (g.unary {t = t} {f = f} o q) = prefix_begins (sign t) f o.operator
+phrase_first rest (g.only has q) = phrase_first rest q
+phrase_first rest (g.repeat {t = t} {u = u} {v = v} p o q) = ap (λ z. begins (sign_of (ahead z))) (append_assoc u (t ∷ v) rest) ∙ phrase_first ((t ∷ v) ++ rest) p
+phrase_first rest (g.sum q) = phrase_first rest q
+phrase_first rest (g.compare {t = t} {u = u} {v = v} p o q) = ap (λ z. begins (sign_of (ahead z))) (append_assoc u (t ∷ v) rest) ∙ phrase_first ((t ∷ v) ++ rest) p
+phrase_first rest (g.all q) = phrase_first rest q
+phrase_first rest (g.any q) = phrase_first rest q
+phrase_first rest (g.last q) = phrase_first rest q
+phrase_first rest (g.right {t = t} {u = u} {v = v} p o q) = ap (λ z. begins (sign_of (ahead z))) (append_assoc u (t ∷ v) rest) ∙ phrase_first ((t ∷ v) ++ rest) p
+phrase_first rest (g.implies q) = phrase_first rest q
+phrase_first rest (g.explied q) = phrase_first rest q
+
+pub expressions_first : {u : Tokens} {es : List Expr} {h : ℕ} (rest : Tokens) → Expressions u es h → begins (sign_of (ahead (u ++ rest))) ≡ true
+expressions_first rest (g.one q) = phrase_first rest q
+expressions_first rest (g.more {c = c} {u = u} {v = v} q i m) = ap (λ z. begins (sign_of (ahead z))) (append_assoc u (c ∷ v) rest) ∙ phrase_first ((c ∷ v) ++ rest) q
+
+some_arguments : (d : ℕ) (inner : Level → Reader Tall) (x : Sign) (ts : Tokens) → begins x ≡ true → arguments_by d inner x ts ≡ expressions d inner ts
+some_arguments d inner s.Close ts e = absurd (cc)
+some_arguments d inner _ ts e = refl
+
+named_quiet : (d : ℕ) (inner : Level → Reader Tall) (x : Text × Place) (y : Sign) (ts : Tokens) → 0 < rank y → named_by d inner x y ts ≡ Got (placed x.1 (Var x.0), 1, x.1) ts
+named_quiet d inner x s.Open ts h = absurd (omega arith)
+named_quiet d inner x _ ts h = refl
+
+brackets_quiet : (x : Sign) → 1 < rank x → opens_bracket x ≡ false
+brackets_quiet s.OpenBracket h = absurd (omega arith)
+brackets_quiet _ h = refl
+
+-- ---- expressions with commas between them
+
+-- a comma and an expression
+data CommaAnd (d : ℕ) : Tokens → Tall → Type 0 where
+  comma_and : {c : Token} {u : Tokens} {e : Expr} {h : ℕ} {p : Place} → Is s.Comma c → Phrase Whole u e h p → h ≤ d → CommaAnd d (c ∷ u) (e, h, p)
+
+-- the expressions of a list, as they are read after others
+spread : {d : ℕ} {v : Tokens} {es : List Expr} {k : ℕ} → Expressions v es k → k ≤ d → (c : Token) → Is s.Comma c → (xs : Group) → Repeat (CommaAnd d) comma add xs (c ∷ v) (xs.0 ++ es, max xs.1 k)
+spread {d = d} {v = v} (g.one {e = e} {h = h} {p = p} q) low c i xs =
+    subst (λ z. Repeat (CommaAnd d) comma add xs z (xs.0 ++ e ∷ [], max xs.1 h)) (append-nil (c ∷ v)) (r.more {x = (e, h, p)} (comma_and i q low) r.none)
+spread {d = d} (g.more {c = o} {u = u} {v = v} {e = e} {es = es} {h = h} {k = k} {p = p} q j m) low c i xs =
+    let high : max (max xs.1 h) k ≡ max xs.1 (max h k) = omega arith in
+    subst (λ n. Repeat (CommaAnd d) comma add xs (c ∷ u ++ o ∷ v) (xs.0 ++ e ∷ es, n)) high
+    (subst (λ es. Repeat (CommaAnd d) comma add xs (c ∷ u ++ o ∷ v) (es, max (max xs.1 h) k)) (append_assoc xs.0 (e ∷ []) es)
+    (r.more {x = (e, h, p)} (comma_and i q (omega arith)) (spread m (omega arith) o j (add xs (e, h, p)))))
+
+comma_some : (d : ℕ) (u : Tokens) (x : Tall) → CommaAnd d u x → 0 < length u
+comma_some d u x (comma_and i q low) = omega arith
+
+comma_first : (d : ℕ) (u : Tokens) (x : Tall) (rest : Tokens) → CommaAnd d u x → comma (sign_of (ahead (u ++ rest))) ≡ true
+comma_first d u x rest (comma_and i q low) = ap comma i.same
+
+comma_ends : (x : Sign) → comma x ≡ true → 7 < rank x
+comma_ends s.Comma e = omega arith
+comma_ends _ e = absurd (cc)
 
 module _ (d : ℕ) (inner : Level → Reader Tall)
     (completes : (l : Level) (u : Tokens) (e : Expr) (h : ℕ) (p : Place) (rest : Tokens) → Phrase l u e h p → h ≤ d → Stops l rest → inner l (u ++ rest) ≡ Got (e, h, p) rest) where
@@ -183,6 +281,11 @@ module _ (d : ℕ) (inner : Level → Reader Tall)
   unfolding turns
   turns_stop zero l x rest pos e = absurd (omega arith)
   turns_stop (suc n) l x rest pos e = rw e refl
+
+  brackets_stop : (n : ℕ) (x : Tall) (rest : Tokens) → 0 < n → opens_bracket (sign_of (ahead rest)) ≡ false → brackets d inner n x rest ≡ Got x rest
+  unfolding brackets
+  brackets_stop zero x rest pos e = absurd (omega arith)
+  brackets_stop (suc n) x rest pos e = rw e refl
 
   operation_goes : (l : Level) (next : Tall → Reader Tall) (f : BinOp) (t : Token) (a b : Expr) (h k : ℕ) (i j : Place) (v rest : Tokens) → suc (max h k) ≤ suc d → Phrase l v b k j → Stops l rest
       → operation d inner l next (a, h, i) f (t ∷ v ++ rest) ≡ next (placed i (Binary f a b), suc (max h k), i) rest
@@ -202,6 +305,7 @@ module _ (d : ℕ) (inner : Level → Reader Tall)
   record Reads (l : Level) (u : Tokens) (e : Expr) (h : ℕ) (p : Place) : Type 0 where
     alone : (rest : Tokens) → Stops l rest → layer d inner l (u ++ rest) ≡ Got (e, h, p) rest
     spine : has_operand l ≡ true → (rest : Tokens) → Stops (operand l) rest → (n : ℕ) × (suc (suc d) ≤ h + n) × (layer d inner l (u ++ rest) ≡ turns d inner n l (e, h, p) rest)
+    bracketed : has_brackets l ≡ true → (rest : Tokens) → Stops Atom rest → (n : ℕ) × (suc (suc d) ≤ h + n) × (layer d inner l (u ++ rest) ≡ brackets d inner n (e, h, p) rest)
 
   from_spine : (l : Level) (u : Tokens) (e : Expr) (h : ℕ) (p : Place) → h ≤ suc d → has_operand l ≡ true
       → ((rest : Tokens) → Stops (operand l) rest → (n : ℕ) × (suc (suc d) ≤ h + n) × (layer d inner l (u ++ rest) ≡ turns d inner n l (e, h, p) rest)) → Reads l u e h p
@@ -212,10 +316,21 @@ module _ (d : ℕ) (inner : Level → Reader Tall)
         let r = spine rest (record { looser = omega arith }) in
         r.2 ∙ turns_stop r.0 l (e, h, p) rest (let room = r.1 in omega arith) (quiet l (sign_of (ahead rest)) stops.looser);
     spine = λ _. spine;
+    bracketed = λ yes. absurd (brackets_operand l yes has);
   }
 
-  no_spine : (l : Level) (u : Tokens) (e : Expr) (h : ℕ) (p : Place) → has_operand l ≡ false → ((rest : Tokens) → Stops l rest → layer d inner l (u ++ rest) ≡ Got (e, h, p) rest) → Reads l u e h p
-  no_spine l u e h p has alone = record { alone = alone; spine = λ yes. absurd (let z : true ≡ false = sym yes ∙ has in cc) }
+  from_brackets : (u : Tokens) (e : Expr) (h : ℕ) (p : Place) → h ≤ suc d → ((rest : Tokens) → Stops Atom rest → (n : ℕ) × (suc (suc d) ≤ h + n) × (layer d inner Postfix (u ++ rest) ≡ brackets d inner n (e, h, p) rest)) → Reads Postfix u e h p
+  from_brackets u e h p low bracketed = record {
+    alone = λ rest stops.
+        let w = stops.looser in
+        let r = bracketed rest (record { looser = omega arith }) in
+        r.2 ∙ brackets_stop r.0 (e, h, p) rest (let room = r.1 in omega arith) (brackets_quiet (sign_of (ahead rest)) stops.looser);
+    spine = λ yes. absurd (let z : true ≡ false = sym yes in cc);
+    bracketed = λ _. bracketed;
+  }
+
+  no_spine : (l : Level) (u : Tokens) (e : Expr) (h : ℕ) (p : Place) → has_operand l ≡ false → has_brackets l ≡ false → ((rest : Tokens) → Stops l rest → layer d inner l (u ++ rest) ≡ Got (e, h, p) rest) → Reads l u e h p
+  no_spine l u e h p has none alone = record { alone = alone; spine = λ yes. absurd (let z : true ≡ false = sym yes ∙ has in cc); bracketed = λ yes. absurd (let z : true ≡ false = sym yes ∙ none in cc) }
 
   one_token : (t : Token) (x : Sign) (rest : Tokens) (y : Step Tall) → (sign t) ≡ x → atom_by d inner x (t ∷ rest) ≡ y → layer d inner Atom (t ∷ rest) ≡ y
   unfolding atom
@@ -231,6 +346,83 @@ module _ (d : ℕ) (inner : Level → Reader Tall)
           let read : inner Whole (u ++ c ∷ rest) ≡ Got (e, h, p) (c ∷ rest) = completes Whole u e h p (c ∷ rest) q (omega arith) (record { looser = rw j.same (omega arith) }) in
           rw (read, want_goes s.Close c rest j) refl
 
+  in_old : (t o c : Token) (u rest : Tokens) (e : Expr) (h : ℕ) (p : Place) → suc h ≤ suc d → Is s.Old t → Is s.Open o → Phrase Whole u e h p → Is s.Close c → layer d inner Atom ((t ∷ o ∷ u ++ c ∷ []) ++ rest) ≡ Got (placed t.at (Old e), suc h, t.at) rest
+  unfolding atom spec.old
+  in_old t o c u rest e h p low i k q j = ap (λ x. atom_by d inner x ((t ∷ o ∷ u ++ c ∷ []) ++ rest)) i.same ∙ ap (λ ts. spec.old d inner (t ∷ o ∷ ts)) (append_assoc u (c ∷ []) rest) ∙ by_depth d refl
+    where
+      by_depth : (n : ℕ) → d ≡ n → deeper {A = Tall} n (λ ts. and_then (skip ts) (λ p ts. and_then (want s.Open ts) (λ _ ts. and_then (inner Whole ts) (λ x ts. and_then (want s.Close ts) (λ _ ts. Got (placed p (Old x.0), suc x.1, p) ts))))) (t ∷ o ∷ (u ++ c ∷ rest))
+          ≡ Got (placed t.at (Old e), suc h, t.at) rest
+      by_depth zero z = absurd (let y = tall q in omega arith)
+      by_depth (suc n) z =
+          let read : inner Whole (u ++ c ∷ rest) ≡ Got (e, h, p) (c ∷ rest) = completes Whole u e h p (c ∷ rest) q (omega arith) (record { looser = rw j.same (omega arith) }) in
+          rw (want_goes s.Open o (u ++ c ∷ rest) k, read, want_goes s.Close c rest j) refl
+
+  next_goes : (u : Tokens) (x : Tall) (rest : Tokens) → CommaAnd d u x → Stops Whole rest → next_expression d inner (u ++ rest) ≡ Got x rest
+  unfolding next_expression
+  next_goes u x rest (comma_and {u = v} {e = e} {h = h} {p = p} i q low) stops = completes Whole v e h p rest q low stops
+
+  more_go : (rest : Tokens) → Stops Whole rest → comma (sign_of (ahead rest)) ≡ false → {xs ys : Group} {u : Tokens} → Repeat (CommaAnd d) comma add xs u ys → more_expressions d inner xs (u ++ rest) ≡ Got ys rest
+  unfolding more_expressions
+  more_go rest stops none m = all_complete (CommaAnd d) comma (next_expression d inner) add (Stops Whole) (comma_some d) (comma_first d) (λ rest e. record { looser = comma_ends (sign_of (ahead rest)) e }) next_goes rest stops none m
+
+  pub expressions_go : {u : Tokens} {es : List Expr} {h : ℕ} → Expressions u es h → h ≤ d → (rest : Tokens) → Stops Whole rest → comma (sign_of (ahead rest)) ≡ false → expressions d inner (u ++ rest) ≡ Got (es, h) rest
+  unfolding expressions
+  expressions_go (g.one {u = u} {e = e} {h = h} {p = p} q) low rest stops none = rw (completes Whole u e h p rest q low stops) (more_go rest stops none r.none)
+  expressions_go (g.more {c = c} {u = u} {v = v} {e = e} {es = es} {h = h} {k = k} {p = p} q i m) low rest stops none =
+      let first : inner Whole (u ++ (c ∷ v ++ rest)) ≡ Got (e, h, p) (c ∷ v ++ rest) = completes Whole u e h p (c ∷ v ++ rest) q (omega arith) (record { looser = rw i.same (omega arith) }) in
+      rw (append_assoc u (c ∷ v) rest, first) (more_go rest stops none (spread m (omega arith) c i (e ∷ [], h)))
+
+  arguments_go : {u : Tokens} {es : List Expr} {h : ℕ} → Arguments u es h → h ≤ d → (c : Token) (rest : Tokens) → Is s.Close c → arguments d inner (u ++ c ∷ rest) ≡ Got (es, h) (c ∷ rest)
+  unfolding arguments
+  arguments_go g.none low c rest i = ap (λ x. arguments_by d inner x (c ∷ rest)) i.same
+  arguments_go (g.some {u = u} m) low c rest i =
+      some_arguments d inner (sign_of (ahead (u ++ c ∷ rest))) (u ++ c ∷ rest) (expressions_first (c ∷ rest) m) ∙ expressions_go m low (c ∷ rest) (record { looser = rw i.same (omega arith) }) (ap comma i.same)
+
+  in_application : (t o c : Token) (x : Text) (u rest : Tokens) (es : List Expr) (h : ℕ) → suc h ≤ suc d → IsName x t → Is s.Open o → Arguments u es h → Is s.Close c → layer d inner Atom ((t ∷ o ∷ u ++ c ∷ []) ++ rest) ≡ Got (placed t.at (Apply x es), suc h, t.at) rest
+  unfolding atom spec.named application
+  in_application t o c x u rest es h low i k a j =
+      let read : arguments d inner (u ++ c ∷ rest) ≡ Got (es, h) (c ∷ rest) = arguments_go a (omega arith) c rest j in
+      ap (λ y. atom_by d inner y ((t ∷ o ∷ u ++ c ∷ []) ++ rest)) (name_sign x t i) ∙ ap (λ ts. spec.named d inner (t ∷ o ∷ ts)) (append_assoc u (c ∷ []) rest) ∙
+      rw (name_goes x t (o ∷ (u ++ c ∷ rest)) i) (ap (λ y. named_by d inner (x, t.at) y (o ∷ (u ++ c ∷ rest))) k.same ∙ rw (read, want_goes s.Close c rest j) refl)
+
+  in_name : (t : Token) (x : Text) (rest : Tokens) → IsName x t → 0 < rank (sign_of (ahead rest)) → layer d inner Atom (t ∷ rest) ≡ Got (placed t.at (Var x), 1, t.at) rest
+  unfolding atom spec.named
+  in_name t x rest i loose = ap (λ y. atom_by d inner y (t ∷ rest)) (name_sign x t i) ∙ rw (name_goes x t rest i) (named_quiet d inner (x, t.at) (sign_of (ahead rest)) rest loose)
+
+  -- ---- brackets
+
+  close_goes : (m i : Tall) (c : Token) (rest : Tokens) → Is s.CloseBracket c → indexed d inner m i (c ∷ rest) ≡ Got (spec.select m i) rest
+  unfolding indexed
+  close_goes m i c rest j = ap (λ x. indexed_by d inner m i x (c ∷ rest)) j.same ∙ rw (want_goes s.CloseBracket c rest j) refl
+
+  write_goes : (m i : Tall) (b c : Token) (w : Tokens) (e : Expr) (k : ℕ) (p : Place) (rest : Tokens) → Is s.Becomes b → Phrase Whole w e k p → k ≤ d → Is s.CloseBracket c → indexed d inner m i (b ∷ (w ++ c ∷ rest)) ≡ Got (spec.store m i (e, k, p)) rest
+  unfolding indexed
+  write_goes m i b c w e k p rest z q low j =
+      let read : inner Whole (w ++ c ∷ rest) ≡ Got (e, k, p) (c ∷ rest) = completes Whole w e k p (c ∷ rest) q low (record { looser = rw j.same (omega arith) }) in
+      ap (λ x. indexed_by d inner m i x (b ∷ (w ++ c ∷ rest))) z.same ∙ rw (read, want_goes s.CloseBracket c rest j) refl
+
+  bracket_goes : (n : ℕ) (o : Token) (m : Tall) (v : Tokens) (i : Expr) (k : ℕ) (q : Place) (after rest : Tokens) (y : Tall) → m.1 ≤ d → k ≤ d → Is s.OpenBracket o → Phrase Whole v i k q → Stops Whole after → indexed d inner m (i, k, q) after ≡ Got y rest
+      → brackets d inner (suc n) m (o ∷ (v ++ after)) ≡ brackets d inner n y rest
+  unfolding brackets bracket
+  bracket_goes n o m v i k q after rest y low high z r stops e =
+      let opens : opens_bracket (sign o) ≡ true = ap opens_bracket z.same in
+      let test : nat_lt m.1 (suc d) ≡ true = grind (arith, nat_tests) in
+      let read : inner Whole (v ++ after) ≡ Got (i, k, q) after = completes Whole v i k q after r high stops in
+      rw (opens, test, read, e) refl
+
+  select_goes : (n : ℕ) (o c : Token) (m i : Expr) (h k : ℕ) (p q : Place) (v rest : Tokens) → suc (suc d) ≤ h + n → suc (max h k) ≤ suc d → Is s.OpenBracket o → Phrase Whole v i k q → Is s.CloseBracket c
+      → (j : ℕ) × (suc (suc d) ≤ suc (max h k) + j) × (brackets d inner n (m, h, p) ((o ∷ (v ++ c ∷ [])) ++ rest) ≡ brackets d inner j (placed p (Select m i), suc (max h k), p) rest)
+  select_goes zero o c m i h k p q v rest room low z r j = absurd (omega arith)
+  select_goes (suc n) o c m i h k p q v rest room low z r j =
+      (n, omega arith, ap (λ ts. brackets d inner (suc n) (m, h, p) (o ∷ ts)) (append_assoc v (c ∷ []) rest) ∙ bracket_goes n o (m, h, p) v i k q (c ∷ rest) rest _ (omega arith) (omega arith) z r (record { looser = rw j.same (omega arith) }) (close_goes (m, h, p) (i, k, q) c rest j))
+
+  store_goes : (n : ℕ) (o b c : Token) (m i e : Expr) (h k l : ℕ) (p q r : Place) (v w rest : Tokens) → suc (suc d) ≤ h + n → suc (max h (max k l)) ≤ suc d → Is s.OpenBracket o → Phrase Whole v i k q → Is s.Becomes b → Phrase Whole w e l r → Is s.CloseBracket c
+      → (j : ℕ) × (suc (suc d) ≤ suc (max h (max k l)) + j) × (brackets d inner n (m, h, p) ((o ∷ (v ++ b ∷ (w ++ c ∷ []))) ++ rest) ≡ brackets d inner j (placed p (Store m i e), suc (max h (max k l)), p) rest)
+  store_goes zero o b c m i e h k l p q r v w rest room low z y a x j = absurd (omega arith)
+  store_goes (suc n) o b c m i e h k l p q r v w rest room low z y a x j =
+      (n, omega arith, ap (λ ts. brackets d inner (suc n) (m, h, p) (o ∷ ts)) (append_assoc v (b ∷ (w ++ c ∷ [])) rest ∙ ap (λ ts. v ++ b ∷ ts) (append_assoc w (c ∷ []) rest))
+      ∙ bracket_goes n o (m, h, p) v i k q (b ∷ (w ++ c ∷ rest)) rest _ (omega arith) (omega arith) z y (record { looser = rw a.same (omega arith) }) (write_goes (m, h, p) (i, k, q) b c w e l r rest a x (omega arith) j))
+
   in_prefix : (t : Token) (f : UnOp) (u rest : Tokens) (e : Expr) (h : ℕ) (p : Place) → suc h ≤ suc d → prefixes (sign t) ≡ Some f → Phrase Prefix u e h p → Stops Prefix rest → layer d inner Prefix (t ∷ u ++ rest) ≡ Got (placed t.at (Unary f e), suc h, t.at) rest
   unfolding prefix prefixed
   in_prefix t f u rest e h p low i q stops = rw i (by_depth d refl)
@@ -241,9 +433,9 @@ module _ (d : ℕ) (inner : Level → Reader Tall)
           let read : inner Prefix (u ++ rest) ≡ Got (e, h, p) rest = completes Prefix u e h p rest q (omega arith) stops in
           rw read refl
 
-  prefix_atom : (ts : Tokens) (y : Step Tall) → prefixes (sign_of (ahead ts)) ≡ None → layer d inner Atom ts ≡ y → layer d inner Prefix ts ≡ y
+  prefix_postfix : (ts : Tokens) (y : Step Tall) → prefixes (sign_of (ahead ts)) ≡ None → layer d inner Postfix ts ≡ y → layer d inner Prefix ts ≡ y
   unfolding prefix
-  prefix_atom ts y e r = rw e r
+  prefix_postfix ts y e r = rw e r
 
   relation_alone : (ts rest : Tokens) (x : Tall) → layer d inner Sum ts ≡ Got x rest → Stops Relation rest → layer d inner Relation ts ≡ Got x rest
   unfolding relation
@@ -267,11 +459,11 @@ module _ (d : ℕ) (inner : Level → Reader Tall)
       turns_stop (suc d) k x ts (omega arith) (quiet k (sign_of (ahead ts)) (subst (λ ts. limit k < rank (sign_of (ahead ts))) (sym same) loose)) ∙ sym (turns_stop (suc d) l x ts (omega arith) e) ∙ r
 
   -- A chain of `&&` or of `||` is what the reader of both reads.
-  by_all : (x z : Tall) (ts rest : Tokens) (y : Sign) → sign_of (ahead ts) ≡ y → 4 < rank (sign_of (ahead rest)) → turns d inner (suc d) Conjunction x ts ≡ Got z rest → junction_by d inner x y ts ≡ Got z rest
+  by_all : (x z : Tall) (ts rest : Tokens) (y : Sign) → sign_of (ahead ts) ≡ y → 5 < rank (sign_of (ahead rest)) → turns d inner (suc d) Conjunction x ts ≡ Got z rest → junction_by d inner x y ts ≡ Got z rest
   by_all x z ts rest s.And e loose r = r
   by_all x z ts rest y e loose r = other_chain Conjunction Disjunction x z ts rest (ap (repeated Conjunction) e) loose r
 
-  by_any : (x z : Tall) (ts rest : Tokens) (y : Sign) → sign_of (ahead ts) ≡ y → 4 < rank (sign_of (ahead rest)) → turns d inner (suc d) Disjunction x ts ≡ Got z rest → junction_by d inner x y ts ≡ Got z rest
+  by_any : (x z : Tall) (ts rest : Tokens) (y : Sign) → sign_of (ahead ts) ≡ y → 5 < rank (sign_of (ahead rest)) → turns d inner (suc d) Disjunction x ts ≡ Got z rest → junction_by d inner x y ts ≡ Got z rest
   by_any x z ts rest s.And e loose r = other_chain Disjunction Conjunction x z ts rest (ap (repeated Disjunction) e) loose r
   by_any x z ts rest _ e loose r = r
 
@@ -285,16 +477,16 @@ module _ (d : ℕ) (inner : Level → Reader Tall)
       by_step (Got x ts) r = turn x ts r
       by_step (Bad k ts) r = absurd (cc)
 
-  by_right : (x z : Tall) (ts rest : Tokens) (y : Sign) → sign_of (ahead ts) ≡ y → 5 < rank (sign_of (ahead rest)) → right_by d inner x y ts ≡ Got z rest → implication_by d inner x y ts ≡ Got z rest
+  by_right : (x z : Tall) (ts rest : Tokens) (y : Sign) → sign_of (ahead ts) ≡ y → 6 < rank (sign_of (ahead rest)) → right_by d inner x y ts ≡ Got z rest → implication_by d inner x y ts ≡ Got z rest
   by_right x z ts rest s.Implies e loose r = r
   by_right x z ts rest y e loose r =
       let same : ts ≡ rest = got_rest r in
-      turns_stop (suc d) Explied x ts (omega arith) (quiet Explied (sign_of (ahead ts)) (subst (λ ts. 5 < rank (sign_of (ahead ts))) (sym same) loose)) ∙ r
+      turns_stop (suc d) Explied x ts (omega arith) (quiet Explied (sign_of (ahead ts)) (subst (λ ts. 6 < rank (sign_of (ahead ts))) (sym same) loose)) ∙ r
 
-  by_explied : (x z : Tall) (ts rest : Tokens) (y : Sign) → sign_of (ahead ts) ≡ y → 5 < rank (sign_of (ahead rest)) → turns d inner (suc d) Explied x ts ≡ Got z rest → implication_by d inner x y ts ≡ Got z rest
+  by_explied : (x z : Tall) (ts rest : Tokens) (y : Sign) → sign_of (ahead ts) ≡ y → 6 < rank (sign_of (ahead rest)) → turns d inner (suc d) Explied x ts ≡ Got z rest → implication_by d inner x y ts ≡ Got z rest
   by_explied x z ts rest s.Implies e loose r =
       let same : ts ≡ rest = at_rest Explied x z ts rest (ap (repeated Explied) e) r in
-      absurd (let big : 5 < rank s.Implies = subst (λ y. 5 < rank y) e (subst (λ ts. 5 < rank (sign_of (ahead ts))) (sym same) loose) in omega arith)
+      absurd (let big : 6 < rank s.Implies = subst (λ y. 6 < rank y) e (subst (λ ts. 6 < rank (sign_of (ahead ts))) (sym same) loose) in omega arith)
   by_explied x z ts rest _ e loose r = r
 
   after_junction : (f : Tall → Reader Tall) (ts rest : Tokens) (z : Tall) → ((x : Tall) (ts : Tokens) → f x ts ≡ Got z rest → implication_by d inner x (sign_of (ahead ts)) ts ≡ Got z rest)
@@ -306,7 +498,7 @@ module _ (d : ℕ) (inner : Level → Reader Tall)
       by_step (Got x ts) r = turn x ts r
       by_step (Bad k ts) r = absurd (cc)
 
-  right_stop : (x : Tall) (ts : Tokens) (y : Sign) → 5 < rank y → right_by d inner x y ts ≡ Got x ts
+  right_stop : (x : Tall) (ts : Tokens) (y : Sign) → 6 < rank y → right_by d inner x y ts ≡ Got x ts
   right_stop x ts s.Implies h = absurd (omega arith)
   right_stop x ts _ h = refl
 
@@ -323,14 +515,29 @@ module _ (d : ℕ) (inner : Level → Reader Tall)
   unfolding right
   right_split ts = refl
 
+  postfix_split : (ts : Tokens) → layer d inner Postfix ts ≡ and_then (layer d inner Atom ts) (brackets d inner (suc d))
+  unfolding spec.postfix
+  postfix_split ts = refl
+
   spell : {l : Level} {u : Tokens} {e : Expr} {h : ℕ} {p : Place} → Phrase l u e h p → h ≤ suc d → Reads l u e h p
-  spell (g.number {t = t} {n = n} i) low = no_spine _ _ _ _ _ refl (λ rest stops. one_token t s.Number rest _ (number_sign n t i) (rw (number_goes n t rest i) refl))
-  spell (g.yes {t = t} i) low = no_spine _ _ _ _ _ refl (λ rest stops. one_token t s.True rest _ i.same refl)
-  spell (g.no {t = t} i) low = no_spine _ _ _ _ _ refl (λ rest stops. one_token t s.False rest _ i.same refl)
-  spell (g.name {t = t} {x = x} i) low = no_spine _ _ _ _ _ refl (λ rest stops. one_token t s.Name rest _ (name_sign x t i) (rw (name_goes x t rest i) refl))
-  spell (g.parens {o = o} {c = c} {u = u} {e = e} {h = h} {p = p} i q j) low = no_spine _ _ _ _ _ refl (λ rest stops. in_parens o c u rest e h p low i q j)
-  spell (g.atom {u = u} q) low = no_spine _ _ _ _ _ refl (λ rest stops. prefix_atom (u ++ rest) _ (atom_first rest q) ((spell q low).alone rest (record { looser = stops.looser })))
-  spell (g.unary {t = t} {f = f} {u = u} {e = e} {h = h} {p = p} i q) low = no_spine _ _ _ _ _ refl (λ rest stops. in_prefix t f u rest e h p low i.operator q stops)
+  spell (g.number {t = t} {n = n} i) low = no_spine _ _ _ _ _ refl refl (λ rest stops. one_token t s.Number rest _ (number_sign n t i) (rw (number_goes n t rest i) refl))
+  spell (g.yes {t = t} i) low = no_spine _ _ _ _ _ refl refl (λ rest stops. one_token t s.True rest _ i.same refl)
+  spell (g.no {t = t} i) low = no_spine _ _ _ _ _ refl refl (λ rest stops. one_token t s.False rest _ i.same refl)
+  spell (g.name {t = t} {x = x} i) low = no_spine _ _ _ _ _ refl refl (λ rest stops. in_name t x rest i stops.looser)
+  spell (g.application {t = t} {o = o} {c = c} {x = x} {u = u} {es = es} {h = h} i k a j) low = no_spine _ _ _ _ _ refl refl (λ rest stops. in_application t o c x u rest es h low i k a j)
+  spell (g.old {t = t} {o = o} {c = c} {u = u} {e = e} {h = h} {p = p} i k q j) low = no_spine _ _ _ _ _ refl refl (λ rest stops. in_old t o c u rest e h p low i k q j)
+  spell (g.parens {o = o} {c = c} {u = u} {e = e} {h = h} {p = p} i q j) low = no_spine _ _ _ _ _ refl refl (λ rest stops. in_parens o c u rest e h p low i q j)
+  spell (g.atom {u = u} {e = e} {h = h} {p = p} q) low = from_brackets u e h p low (λ rest stops. (suc d, let z = tall q in omega arith, postfix_split (u ++ rest) ∙ ap (λ s. and_then s (brackets d inner (suc d))) ((spell q low).alone rest stops)))
+  spell (g.select {o = o} {c = c} {u = u} {v = v} {m = m} {i = i} {h = h} {k = k} {p = p} {q = q} y z r j) low = from_brackets _ _ _ _ low (λ rest stops.
+      let before = (spell y (omega arith)).bracketed refl ((o ∷ (v ++ c ∷ [])) ++ rest) (record { looser = rw z.same (omega arith) }) in
+      let go = select_goes before.0 o c m i h k p q v rest before.1 low z r j in
+      (go.0, go.1, ap (layer d inner Postfix) (append_assoc u (o ∷ (v ++ c ∷ [])) rest) ∙ before.2 ∙ go.2))
+  spell (g.store {o = o} {b = b} {c = c} {u = u} {v = v} {w = w} {m = m} {i = i} {e = e} {h = h} {k = k} {j = l} {p = p} {q = q} {r = r} y z x a f j) low = from_brackets _ _ _ _ low (λ rest stops.
+      let before = (spell y (omega arith)).bracketed refl ((o ∷ (v ++ b ∷ (w ++ c ∷ []))) ++ rest) (record { looser = rw z.same (omega arith) }) in
+      let go = store_goes before.0 o b c m i e h k l p q r v w rest before.1 low z x a f j in
+      (go.0, go.1, ap (layer d inner Postfix) (append_assoc u (o ∷ (v ++ b ∷ (w ++ c ∷ []))) rest) ∙ before.2 ∙ go.2))
+  spell (g.postfix {u = u} q) low = no_spine _ _ _ _ _ refl refl (λ rest stops. prefix_postfix (u ++ rest) _ (postfix_first rest refl q) ((spell q low).alone rest (record { looser = stops.looser })))
+  spell (g.unary {t = t} {f = f} {u = u} {e = e} {h = h} {p = p} i q) low = no_spine _ _ _ _ _ refl refl (λ rest stops. in_prefix t f u rest e h p low i.operator q stops)
   spell (g.only {l = l} {u = u} {e = e} {h = h} {p = p} has q) low = from_spine l u e h p low has (λ rest stops. (suc d, let z = tall q in omega arith, layer_chain l has (u ++ rest) ∙ ap (λ s. and_then s (turns d inner (suc d) l)) ((spell q low).alone rest stops)))
   spell (g.repeat {l = l} {t = t} {f = f} {u = u} {v = v} {a = a} {b = b} {h = h} {k = k} {p = i} {q = j} p o q) low =
       let has : has_operand l ≡ true = repeated_has l (sign t) f o.operator in
@@ -338,22 +545,22 @@ module _ (d : ℕ) (inner : Level → Reader Tall)
       let before = (spell p (omega arith)).spine has (t ∷ v ++ rest) (record { looser = repeated_rank l (sign t) f o.operator }) in
       let go = turns_go before.0 l f t a b h k i j v rest before.1 o.operator low q stops in
       (go.0, go.1, ap (layer d inner l) (append_assoc u (t ∷ v) rest) ∙ before.2 ∙ go.2))
-  spell (g.sum {u = u} {e = e} {h = h} {p = p} q) low = no_spine _ _ _ _ _ refl (λ rest stops. relation_alone (u ++ rest) rest (e, h, p) ((spell q low).alone rest (record { looser = let z = stops.looser in omega arith })) stops)
-  spell (g.compare {t = t} {f = f} {u = u} {v = v} {a = a} {b = b} {h = h} {k = k} {p = i} {q = j} p o q) low = no_spine _ _ _ _ _ refl (λ rest stops.
+  spell (g.sum {u = u} {e = e} {h = h} {p = p} q) low = no_spine _ _ _ _ _ refl refl (λ rest stops. relation_alone (u ++ rest) rest (e, h, p) ((spell q low).alone rest (record { looser = let z = stops.looser in omega arith })) stops)
+  spell (g.compare {t = t} {f = f} {u = u} {v = v} {a = a} {b = b} {h = h} {k = k} {p = i} {q = j} p o q) low = no_spine _ _ _ _ _ refl refl (λ rest stops.
       ap (layer d inner Relation) (append_assoc u (t ∷ v) rest) ∙
       relation_more (u ++ (t ∷ v ++ rest)) t f a b h k i j v rest ((spell p (omega arith)).alone (t ∷ v ++ rest) (record { looser = compares_rank (sign t) f o.operator })) o.operator low q stops)
-  spell (g.all {u = u} {e = e} {h = h} {p = p} q) low = no_spine _ _ _ _ _ refl (λ rest stops.
+  spell (g.all {u = u} {e = e} {h = h} {p = p} q) low = no_spine _ _ _ _ _ refl refl (λ rest stops.
       after_relation Conjunction (u ++ rest) rest (e, h, p) (layer_chain Conjunction refl (u ++ rest)) (λ x ts r. by_all x (e, h, p) ts rest (sign_of (ahead ts)) refl stops.looser r) ((spell q low).alone rest (record { looser = stops.looser })))
-  spell (g.any {u = u} {e = e} {h = h} {p = p} q) low = no_spine _ _ _ _ _ refl (λ rest stops.
+  spell (g.any {u = u} {e = e} {h = h} {p = p} q) low = no_spine _ _ _ _ _ refl refl (λ rest stops.
       after_relation Disjunction (u ++ rest) rest (e, h, p) (layer_chain Disjunction refl (u ++ rest)) (λ x ts r. by_any x (e, h, p) ts rest (sign_of (ahead ts)) refl stops.looser r) ((spell q low).alone rest (record { looser = stops.looser })))
-  spell (g.last {u = u} {e = e} {h = h} {p = p} q) low = no_spine _ _ _ _ _ refl (λ rest stops. right_alone (u ++ rest) rest (e, h, p) ((spell q low).alone rest (record { looser = let z = stops.looser in omega arith })) stops)
-  spell (g.right {t = t} {u = u} {v = v} {a = a} {b = b} {h = h} {k = k} {p = i} {q = j} p o q) low = no_spine _ _ _ _ _ refl (λ rest stops.
+  spell (g.last {u = u} {e = e} {h = h} {p = p} q) low = no_spine _ _ _ _ _ refl refl (λ rest stops. right_alone (u ++ rest) rest (e, h, p) ((spell q low).alone rest (record { looser = let z = stops.looser in omega arith })) stops)
+  spell (g.right {t = t} {u = u} {v = v} {a = a} {b = b} {h = h} {k = k} {p = i} {q = j} p o q) low = no_spine _ _ _ _ _ refl refl (λ rest stops.
       ap (layer d inner Right) (append_assoc u (t ∷ v) rest) ∙
       right_more (u ++ (t ∷ v ++ rest)) t a b h k i j v rest ((spell p (omega arith)).alone (t ∷ v ++ rest) (record { looser = rw o.same (omega arith) })) o.same low q stops)
-  spell (g.implies {u = u} {e = e} {h = h} {p = p} q) low = no_spine _ _ _ _ _ refl (λ rest stops.
+  spell (g.implies {u = u} {e = e} {h = h} {p = p} q) low = no_spine _ _ _ _ _ refl refl (λ rest stops.
       after_junction (λ x ts. right_by d inner x (sign_of (ahead ts)) ts) (u ++ rest) rest (e, h, p) (λ x ts r. by_right x (e, h, p) ts rest (sign_of (ahead ts)) refl stops.looser r)
       (sym (right_split (u ++ rest)) ∙ (spell q low).alone rest (record { looser = stops.looser })))
-  spell (g.explied {u = u} {e = e} {h = h} {p = p} q) low = no_spine _ _ _ _ _ refl (λ rest stops.
+  spell (g.explied {u = u} {e = e} {h = h} {p = p} q) low = no_spine _ _ _ _ _ refl refl (λ rest stops.
       after_junction (turns d inner (suc d) Explied) (u ++ rest) rest (e, h, p) (λ x ts r. by_explied x (e, h, p) ts rest (sign_of (ahead ts)) refl stops.looser r)
       (sym (layer_chain Explied refl (u ++ rest)) ∙ (spell q low).alone rest (record { looser = stops.looser })))
 

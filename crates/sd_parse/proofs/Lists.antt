@@ -5,7 +5,7 @@ use Rattle.std.proofs.lemmas.List.{append-nil}
 use Rattle.sd_parse.specs.declared.sign.Sign.{Sign}
 use Rattle.sd_parse.specs.Grammar.{Tokens}
 use Rattle.sd_parse.specs.Reading.{Got, Reader, ahead, sign_of, many, all}
-use Rattle.sd_parse.specs.ReadingStatements.{push, join_lists}
+use Rattle.sd_parse.specs.ReadingRows.{push, join_lists}
 use Rattle.sd_parse.proofs.Sound as r
 use Rattle.sd_parse.proofs.Sound.{Repeat}
 

@@ -1,163 +1,360 @@
 -- What the reader of statements has read is a statement within its height.
-use Rattle.std.proofs.Common.{◌≡◌, ℕ, zero, suc, ◌<◌, ◌≤◌, max, true, false, cond, List, [], ◌∷◌, ◌++◌, length, refl, ap, sym, ◌∙◌, subst, arith}
+use Rattle.std.proofs.Common.{◌≡◌, ℕ, zero, suc, ◌<◌, max, true, false, cond, List, [], ◌∷◌, ◌++◌, length, refl, ap, sym, ◌∙◌, subst, arith, append_assoc}
 use Rattle.std.specs.Prelude.{Bool}
 use Rattle.std.proofs.lemmas.List.{append-nil}
+use Rattle.sd_base.specs.declared.Place.{Place}
+use Rattle.sd_base.specs.Value.{Text}
 use Rattle.sd_lex.specs.declared.Token.{Token}
+use Rattle.sd_ast.specs.declared.Expr.{Expr}
+use Rattle.sd_ast.specs.declared.Left.{Left}
+use Rattle.sd_ast.specs.declared.Invariant.{Invariant}
 use Rattle.sd_ast.specs.declared.Stmt.{Stmt}
-use Rattle.sd_ast.specs.declared.StmtKind.{Assert, If, Return}
+use Rattle.sd_ast.specs.declared.StmtKind.{Assert, Assume, Assign, Call, If, While, Break, Return}
 use Rattle.sd_parse.specs.declared.sign.Sign.{Sign}
 use Rattle.sd_parse.specs.declared.sign.Sign.TheVariants as s
-use Rattle.sd_parse.specs.Grammar.{Tokens, Whole, Is}
+use Rattle.sd_parse.specs.Grammar.{Tokens, Is, IsName}
+use Rattle.sd_parse.specs.Rows.{Row, Commas, Enclosed}
+use Rattle.sd_parse.specs.Clauses as c
+use Rattle.sd_parse.specs.Clauses.{Expression, Attributes, Claim}
 use Rattle.sd_parse.specs.Statements as st
-use Rattle.sd_parse.specs.Statements.{Statement, Otherwise, Block, Statements, stated, assign}
-use Rattle.sd_parse.specs.Reading.{Syntax, Deep, Step, Got, Bad, Reader, and_then, ahead, sign_of, skip, want, name, read}
-use Rattle.sd_parse.specs.ReadingStatements.{push, begins_statement, asserted, assigned, returned, statements, block, branch_by, branch, otherwise_by, otherwise, conditional, statement_by, statement_layer, statement}
-use Rattle.sd_parse.proofs.Sound.{Sound, Wanted, wanted, Named, named, Nothing, settle, Both, both, seq, done, into, deeper_sound, skip_sound, want_sound, name_sound, many_sound}
-use Rattle.sd_parse.proofs.ExpressionSound.{Within, read_law}
-use Rattle.sd_parse.proofs.Lists.{Many, none, more, pushed}
+use Rattle.sd_parse.specs.Statements.{Index, LeftSide, InvariantLine, Statement, Otherwise, Block, Statements, stated}
+use Rattle.sd_parse.specs.Reading.{Syntax, Deep, Step, Got, Bad, Reader, and_then, ahead, sign_of, want}
+use Rattle.sd_parse.specs.ReadingRows.{is, push, plain_name}
+use Rattle.sd_parse.specs.ReadingRows as reading
+use Rattle.sd_parse.specs.ReadingClauses.{expression, claim}
+use Rattle.sd_parse.specs.ReadingStatements.{index, indices, left, plain_left, begins_invariant, stated_invariant, invariant_by, loop_invariant, invariants, begins_statement, asserted, assumed, assigned, applied, applied_to, received, call_by, call_from, called, statements, block, branch_by, branch, otherwise_by, otherwise, guard, conditional, looped, broken, returned, statement_by, statement_layer, statement}
+use Rattle.sd_parse.proofs.Sound.{Sound, Wanted, wanted, Named, named, Nothing, settle, Both, both, seq, done, into, deeper_sound, skip_sound, want_sound, name_sound, many_sound, same_is}
+use Rattle.sd_parse.proofs.Lists.{Many, Behind, none, more, pushed}
+use Rattle.sd_parse.proofs.Rows.{Low, Next, commas_of, row_sound, more_sound, commas_sound, enclosed_sound}
+use Rattle.sd_parse.proofs.NameLaws.{NextNames, more_names_sound, first_name}
+use Rattle.sd_parse.proofs.ClauseLaws.{AttributesText, expression_sound, attributes_sound, claim_sound, claim_some}
 
-pub record LowStatement (d : ℕ) (u : Tokens) (x : Stmt) : Type 0 where
-  pub height : ℕ
-  pub spelt : Statement u x height
-  pub low : height ≤ d
+pub low_statements : (limit d : ℕ) {u : Tokens} {xs : List Stmt} → Many (Low (Statement limit) d) u xs → Low (Statements limit) d u xs
+low_statements limit d none = record { height = 0; spelt = st.none; low = omega arith }
+low_statements limit d (more f m) = let w = low_statements limit d m in record { height = max f.height w.height; spelt = st.more f.spelt w.spelt; low = let y = f.low in let z = w.low in omega arith }
 
-pub record LowStatements (d : ℕ) (u : Tokens) (xs : List Stmt) : Type 0 where
-  pub height : ℕ
-  pub spelt : Statements u xs height
-  pub low : height ≤ d
-
-pub record LowBlock (d : ℕ) (u : Tokens) (xs : List Stmt) : Type 0 where
-  pub height : ℕ
-  pub spelt : Block u xs height
-  pub low : height ≤ d
-
-pub record LowOtherwise (d : ℕ) (u : Tokens) (xs : List Stmt) : Type 0 where
-  pub height : ℕ
-  pub spelt : Otherwise u xs height
-  pub low : height ≤ d
-
-pub low_statements : (d : ℕ) {u : Tokens} {xs : List Stmt} → Many (LowStatement d) u xs → LowStatements d u xs
-low_statements d none = record { height = 0; spelt = st.none; low = omega arith }
-low_statements d (more f m) = let w = low_statements d m in record { height = max f.height w.height; spelt = st.more f.spelt w.spelt; low = let y = f.low in let z = w.low in omega arith }
-
-pub some_tokens : {u : Tokens} {x : Stmt} {h : ℕ} → Statement u x h → 0 < length u
-some_tokens (st.asserted i q j) = omega arith
-some_tokens (st.assigned i j q k) = omega arith
-some_tokens (st.returned i j) = omega arith
+pub some_tokens : {limit : ℕ} {u : Tokens} {x : Stmt} {h : ℕ} → Statement limit u x h → 0 < length u
+some_tokens (st.asserted f) = claim_some f
+some_tokens (st.assumed f) = claim_some f
+some_tokens (st.assigned l i q k) = omega arith
+some_tokens (st.called i a r n q j) = omega arith
 some_tokens (st.conditional i j q k b o) = omega arith
+some_tokens (st.loop i j q k b o) = omega arith
+some_tokens (st.broken i j) = omega arith
+some_tokens (st.returned i j) = omega arith
 
 -- a statement that begins with `if`
-data IfStatement (d : ℕ) : Tokens → Stmt → Type 0 where
-  if_statement : {i : Token} {u : Tokens} {x : Stmt} → Is s.If i → LowStatement d (i ∷ u) x → IfStatement d (i ∷ u) x
+pub data IfStatement (limit d : ℕ) : Tokens → Stmt → Type 0 where
+  if_statement : {i : Token} {u : Tokens} {x : Stmt} → Is s.If i → Low (Statement limit) d (i ∷ u) x → IfStatement limit d (i ∷ u) x
 
 -- what stands after `else`
-data Branch (d : ℕ) : Tokens → List Stmt → Type 0 where
-  of_block : {u : Tokens} {xs : List Stmt} → LowBlock d u xs → Branch d u xs
-  of_if : {u : Tokens} {x : Stmt} → IfStatement d u x → Branch d u (x ∷ [])
+pub data Branch (limit d : ℕ) : Tokens → List Stmt → Type 0 where
+  of_block : {u : Tokens} {xs : List Stmt} → Low (Block limit) d u xs → Branch limit d u xs
+  of_if : {u : Tokens} {x : Stmt} → IfStatement limit d u x → Branch limit d u (x ∷ [])
 
-chained : {d : ℕ} {l : Token} {u : Tokens} {x : Stmt} → Is s.Else l → IfStatement d u x → LowOtherwise d (l ∷ u) (x ∷ [])
+chained : {limit d : ℕ} {l : Token} {u : Tokens} {x : Stmt} → Is s.Else l → IfStatement limit d u x → Low (Otherwise limit) d (l ∷ u) (x ∷ [])
 chained i (if_statement j w) = record { height = w.height; spelt = st.chained i j w.spelt; low = w.low }
 
-after_else : {d : ℕ} {l : Token} {u : Tokens} {xs : List Stmt} → Is s.Else l → Branch d u xs → LowOtherwise d (l ∷ u) xs
+pub after_else : {limit d : ℕ} {l : Token} {u : Tokens} {xs : List Stmt} → Is s.Else l → Branch limit d u xs → Low (Otherwise limit) d (l ∷ u) xs
 after_else i (of_block w) = record { height = w.height; spelt = st.block i w.spelt; low = w.low }
 after_else i (of_if w) = chained i w
 
-starts_if : (d : ℕ) (ts : Tokens) (step : Step Stmt) → sign_of (ahead ts) ≡ s.If → Sound (LowStatement d) ts step → Sound (IfStatement d) ts step
-starts_if d ts (Bad k rest) e a = record { fact = tt }
-starts_if d ts (Got x rest) e a = by_tokens a.fact.0 a.fact.1 a.fact.2
+starts_if : (limit d : ℕ) (ts : Tokens) (step : Step Stmt) → sign_of (ahead ts) ≡ s.If → Sound (Low (Statement limit) d) ts step → Sound (IfStatement limit d) ts step
+starts_if limit d ts (Bad k rest) e a = record { fact = tt }
+starts_if limit d ts (Got x rest) e a = by_tokens a.fact.0 a.fact.1 a.fact.2
   where
-    by_tokens : (u : Tokens) → ts ≡ u ++ rest → LowStatement d u x → Sound (IfStatement d) ts (Got x rest)
+    by_tokens : (u : Tokens) → ts ≡ u ++ rest → Low (Statement limit) d u x → Sound (IfStatement limit d) ts (Got x rest)
     by_tokens [] split w = absurd (let z = some_tokens w.spelt in omega arith)
     by_tokens (i ∷ u) split w = record { fact = (i ∷ u, split, if_statement (record { same = ap (λ z. sign_of (ahead z)) (sym split) ∙ e }) w) }
 
-module _ (d : ℕ) (inner : Reader Stmt) (law : (ts : Tokens) → Sound (LowStatement d) ts (inner ts)) where
-  to_asserted : (u : Tokens) (x : Stmt) → Both (Wanted s.Assert) (λ p. Both (Within d Whole) (λ e. Both (Wanted s.Semi) (λ _. Nothing (stated p (Assert e.0))))) u x → LowStatement (suc d) u x
-  to_asserted u x (both (wanted {t = t} i) (both {u = v} {x = e} w (both (wanted {t = c} j) n))) = settle n (λ z x. LowStatement (suc d) (t ∷ (v ++ c ∷ z)) x) (record { height = suc e.1; spelt = st.asserted i w.phrase j; low = let z = w.low in omega arith })
+-- ---- the parts of a statement
 
-  asserted_law : (ts : Tokens) → sign_of (ahead ts) ≡ s.Assert → Sound (LowStatement (suc d)) ts (asserted d inner ts)
+-- a left side, with the place where it begins
+pub data PlacedLeft (d : ℕ) : Tokens → Left × Place → Type 0 where
+  placed_left : {t : Token} {u : Tokens} {l : Left} → Low LeftSide d (t ∷ u) l → PlacedLeft d (t ∷ u) (l, t.at)
+
+module _ (d : ℕ) where
+  pub to_index : (u : Tokens) (x : Expr) → Both (Wanted s.OpenBracket) (λ _. Both (Low Expression d) (λ e. Both (Wanted s.CloseBracket) (λ _. Nothing e))) u x → Low Index d u x
+  to_index u x (both (wanted {t = o} i) (both {u = v} w (both (wanted {t = c} j) n))) = settle n (λ z x. Low Index d (o ∷ (v ++ c ∷ z)) x) (record { height = w.height; spelt = st.index i w.spelt j; low = w.low })
+
+  index_law : (ts : Tokens) → is s.OpenBracket (sign_of (ahead ts)) ≡ true → Sound (Low Index d) ts (index d ts)
+  unfolding index
+  index_law ts e = into to_index (seq (skip_sound s.OpenBracket ts (same_is (sign_of (ahead ts)) s.OpenBracket e)) (λ _ ts. seq (expression_sound d ts) (λ e ts. seq (want_sound s.CloseBracket ts) (λ _ ts. done e ts))))
+
+  indices_law : (ts : Tokens) → Sound (Low (Row Index) d) ts (indices d ts)
+  unfolding indices
+  indices_law ts = row_sound Index d (is s.OpenBracket) (index d) index_law ts
+
+  pub to_left : (u : Tokens) (x : Left × Place) → Both Named (λ y. Both (Low (Row Index) d) (λ es. Nothing (record { name = y.0; indices = es }, y.1))) u x → PlacedLeft d u x
+  to_left u x (both (named {t = t} {x = y} i) (both {u = v} {x = es} w n)) =
+      settle n (λ z x. PlacedLeft d (t ∷ (v ++ z)) x) (subst (λ z. PlacedLeft d (t ∷ z) (record { name = y; indices = es }, t.at)) (sym (append-nil v)) (placed_left (record { height = w.height; spelt = st.left i w.spelt; low = w.low })))
+
+  left_law : (ts : Tokens) → Sound (PlacedLeft d) ts (left d ts)
+  unfolding left
+  left_law ts = into to_left (seq (name_sound ts) (λ y ts. seq (indices_law ts) (λ es ts. done (record { name = y.0; indices = es }, y.1) ts)))
+
+  pub to_plain : (u : Tokens) (x : Left) → Both (PlacedLeft d) (λ l. Nothing l.0) u x → Low LeftSide d u x
+  to_plain u x (both (placed_left {t = t} {u = v} {l = l} w) n) = settle n (λ z x. Low LeftSide d (t ∷ (v ++ z)) x) (subst (λ z. Low LeftSide d (t ∷ z) l) (sym (append-nil v)) w)
+
+  plain_law : (ts : Tokens) → Sound (Low LeftSide d) ts (plain_left d ts)
+  unfolding plain_left
+  plain_law ts = into to_plain (seq (left_law ts) (λ l ts. done l.0 ts))
+
+  values_law : (ts : Tokens) → Sound (Low (Commas Expression) d) ts (reading.commas (expression d) ts)
+  values_law ts = commas_sound Expression d (expression d) (expression_sound d) ts
+
+  arguments_law : (ts : Tokens) → Sound (Low (Enclosed Expression) d) ts (reading.enclosed (expression d) ts)
+  arguments_law ts = enclosed_sound Expression d (expression d) (expression_sound d) ts
+
+  -- an expression in parentheses after a word
+  pub data Guarded (word : Sign) : Tokens → Place × Expr → Type 0 where
+    guarded : {t o k : Token} {u : Tokens} {e : Expr} → Is word t → Is s.Open o → Low Expression d u e → Is s.Close k → Guarded word (t ∷ o ∷ u ++ k ∷ []) (t.at, e)
+
+  pub to_guard : (word : Sign) (u : Tokens) (x : Place × Expr) → Both (Wanted word) (λ p. Both (Wanted s.Open) (λ _. Both (Low Expression d) (λ e. Both (Wanted s.Close) (λ _. Nothing (p, e))))) u x → Guarded word u x
+  to_guard word u x (both (wanted {t = t} i) (both (wanted {t = o} j) (both {u = v} w (both (wanted {t = k} l) n)))) = settle n (λ z x. Guarded word (t ∷ o ∷ (v ++ k ∷ z)) x) (guarded i j w l)
+
+  -- a call from its procedure's name on
+  pub data Applied (p : Place) (xs : List Text) : Tokens → Stmt → Type 0 where
+    applied_text : {n k : Token} {f : Text} {u : Tokens} {es : List Expr} → IsName f n → Low (Enclosed Expression) d u es → Is s.Semi k → Applied p xs (n ∷ u ++ k ∷ []) (stated p (Call xs f es))
+
+  -- a call after its first name
+  pub data CallFrom (p : Place) (x : Text) : Tokens → Stmt → Type 0 where
+    through : {b : Token} {u v : Tokens} {xs : List Text} {y : Stmt} → NextNames u xs → Is s.Becomes b → Applied p (x ∷ xs) v y → CallFrom p x (u ++ b ∷ v) y
+    direct : {k : Token} {u : Tokens} {es : List Expr} → Low (Enclosed Expression) d u es → Is s.Semi k → CallFrom p x (u ++ k ∷ []) (stated p (Call [] x es))
+
+-- ---- invariants
+
+module _ (limit d : ℕ) where
+  pub data StatedInvariant (f : Bool) : Tokens → Invariant → Type 0 where
+    stated_line : {u : Tokens} {k : Place × Expr} → Low (Claim limit s.Invariant) d u k → StatedInvariant f u (record { free = f; expr = k.1 })
+
+  pub to_stated : (f : Bool) (u : Tokens) (x : Invariant) → Both (Low (Claim limit s.Invariant) d) (λ k. Nothing (record { free = f; expr = k.1 })) u x → StatedInvariant f u x
+  to_stated f u x (both {u = v} {x = k} w n) = settle n (λ z x. StatedInvariant f (v ++ z) x) (subst (λ z. StatedInvariant f z (record { free = f; expr = k.1 })) (sym (append-nil v)) (stated_line w))
+
+  stated_law : (f : Bool) (ts : Tokens) → Sound (StatedInvariant f) ts (stated_invariant limit d f ts)
+  unfolding stated_invariant
+  stated_law f ts = into (to_stated f) (seq (claim_sound limit d s.Invariant ts) (λ k ts. done (record { free = f; expr = k.1 }) ts))
+
+  pub to_free : (u : Tokens) (x : Invariant) → Both (Wanted s.Free) (λ _. StatedInvariant true) u x → Low (InvariantLine limit) d u x
+  to_free u x (both (wanted i) (stated_line w)) = record { height = w.height; spelt = st.line (c.free i w.spelt); low = w.low }
+
+  pub to_checked : (u : Tokens) (x : Invariant) → StatedInvariant false u x → Low (InvariantLine limit) d u x
+  to_checked u x (stated_line w) = record { height = w.height; spelt = st.line (c.checked w.spelt); low = w.low }
+
+  pub invariant_law : (ts : Tokens) → Sound (Low (InvariantLine limit) d) ts (loop_invariant limit d ts)
+  unfolding loop_invariant
+  invariant_law ts = by_sign (sign_of (ahead ts)) refl
+    where
+      by_sign : (x : Sign) → sign_of (ahead ts) ≡ x → Sound (Low (InvariantLine limit) d) ts (invariant_by limit d x ts)
+      by_sign s.Free e = into to_free (seq (skip_sound s.Free ts e) (λ _ ts. stated_law true ts))
+      by_sign _ e = into to_checked (stated_law false ts)
+
+  invariants_law : (ts : Tokens) → Sound (Low (Row (InvariantLine limit)) d) ts (invariants limit d ts)
+  unfolding invariants
+  invariants_law ts = row_sound (InvariantLine limit) d begins_invariant (loop_invariant limit d) (λ ts e. invariant_law ts) ts
+
+-- ---- statements
+
+-- what the parts of a statement make
+module _ (limit d : ℕ) where
+  pub to_asserted : (u : Tokens) (x : Stmt) → Both (Low (Claim limit s.Assert) d) (λ k. Nothing (stated k.0 (Assert k.1))) u x → Low (Statement limit) (suc d) u x
+  to_asserted u x (both {u = v} {x = k} w n) = settle n (λ z x. Low (Statement limit) (suc d) (v ++ z) x)
+      (subst (λ z. Low (Statement limit) (suc d) z (stated k.0 (Assert k.1))) (sym (append-nil v)) (record { height = suc w.height; spelt = st.asserted w.spelt; low = let z = w.low in omega arith }))
+
+  pub to_assumed : (u : Tokens) (x : Stmt) → Both (Low (Claim limit s.Assume) d) (λ k. Nothing (stated k.0 (Assume k.1))) u x → Low (Statement limit) (suc d) u x
+  to_assumed u x (both {u = v} {x = k} w n) = settle n (λ z x. Low (Statement limit) (suc d) (v ++ z) x)
+      (subst (λ z. Low (Statement limit) (suc d) z (stated k.0 (Assume k.1))) (sym (append-nil v)) (record { height = suc w.height; spelt = st.assumed w.spelt; low = let z = w.low in omega arith }))
+
+  assigned_of : {t b k : Token} {u v q : Tokens} {l : Left} {ls : List Left} {es : List Expr} → Low LeftSide d (t ∷ u) l → Behind (Many (Next (Low LeftSide d))) (l ∷ []) v ls → Is s.Becomes b → Low (Commas Expression) d q es → Is s.Semi k
+      → Low (Statement limit) (suc d) (t ∷ (u ++ (v ++ b ∷ (q ++ k ∷ [])))) (stated t.at (Assign ls es))
+  assigned_of {t = t} {b = b} {k = k} {u = u} {v = v} {q = q} {l = l} {es = es} f m i w j =
+      let lefts = commas_of LeftSide d f m.list in
+      let made : Low (Statement limit) (suc d) (t ∷ (u ++ v) ++ b ∷ (q ++ k ∷ [])) (stated t.at (Assign (l ∷ m.items) es)) =
+      record { height = suc (max lefts.height w.height); spelt = st.assigned lefts.spelt i w.spelt j; low = let y = lefts.low in let z = w.low in omega arith } in
+      subst (λ ls. Low (Statement limit) (suc d) (t ∷ (u ++ (v ++ b ∷ (q ++ k ∷ [])))) (stated t.at (Assign ls es))) (sym m.same)
+      (subst (λ z. Low (Statement limit) (suc d) (t ∷ z) (stated t.at (Assign (l ∷ m.items) es))) (append_assoc u v (b ∷ (q ++ k ∷ []))) made)
+
+  pub to_assigned : (u : Tokens) (x : Stmt)
+      → Both (PlacedLeft d) (λ l. Both (Behind (Many (Next (Low LeftSide d))) (l.0 ∷ [])) (λ ls. Both (Wanted s.Becomes) (λ _. Both (Low (Commas Expression) d) (λ es. Both (Wanted s.Semi) (λ _. Nothing (stated l.1 (Assign ls es))))))) u x
+      → Low (Statement limit) (suc d) u x
+  to_assigned u x (both (placed_left {t = t} {u = y} f) (both {u = v} m (both (wanted {t = b} i) (both {u = q} w (both (wanted {t = k} j) n))))) =
+      settle n (λ z x. Low (Statement limit) (suc d) (t ∷ (y ++ (v ++ b ∷ (q ++ k ∷ z)))) x) (assigned_of f m i w j)
+
+  pub to_applied : (p : Place) (xs : List Text) (u : Tokens) (x : Stmt) → Both Named (λ f. Both (Low (Enclosed Expression) d) (λ es. Both (Wanted s.Semi) (λ _. Nothing (stated p (Call xs f.0 es))))) u x → Applied d p xs u x
+  to_applied p xs u x (both (named {t = m} i) (both {u = v} w (both (wanted {t = k} j) n))) = settle n (λ z x. Applied d p xs (m ∷ (v ++ k ∷ z)) x) (applied_text i w j)
+
+  through_of : {p : Place} {x : Text} {b : Token} {u v : Tokens} {ys : List Text} {y : Stmt} → Behind NextNames (x ∷ []) u ys → Is s.Becomes b → Applied d p ys v y → CallFrom d p x (u ++ b ∷ v) y
+  through_of {p = p} {v = v} {y = y} m i a = through m.list i (subst (λ ys. Applied d p ys v y) m.same a)
+
+  pub to_received : (p : Place) (x : Text) (u : Tokens) (y : Stmt) → Both (Behind NextNames (x ∷ [])) (λ ys. Both (Wanted s.Becomes) (λ _. Applied d p ys)) u y → CallFrom d p x u y
+  to_received p x u y (both m (both (wanted i) a)) = through_of m i a
+
+  pub to_direct : (p : Place) (x : Text) (u : Tokens) (y : Stmt) → Both (Low (Enclosed Expression) d) (λ es. Both (Wanted s.Semi) (λ _. Nothing (stated p (Call [] x es)))) u y → CallFrom d p x u y
+  to_direct p x u y (both {u = v} w (both (wanted {t = k} j) n)) = settle n (λ z y. CallFrom d p x (v ++ k ∷ z) y) (direct w j)
+
+  through_text : {t n b : Token} {x : Text} {a u v : Tokens} {ys : List Text} {y : Stmt} → Is s.Call t → Attributes limit a → IsName x n → NextNames u ys → Is s.Becomes b → Applied d t.at (x ∷ ys) v y → Low (Statement limit) (suc d) (t ∷ a ++ (n ∷ (u ++ b ∷ v))) y
+  through_text {t = t} {n = n} {b = b} {x = x} {a = a} {u = u} {ys = ys} i l j m k (applied_text {n = f} {k = e} {f = y} {u = v} {es = es} o w z) =
+      subst (λ q. Low (Statement limit) (suc d) (t ∷ a ++ (n ∷ q)) (stated t.at (Call (x ∷ ys) y es))) (append_assoc u (b ∷ []) (f ∷ (v ++ e ∷ [])))
+      (record { height = suc w.height; spelt = st.called i l (st.some (first_name j m) k) o w.spelt z; low = let y = w.low in omega arith })
+
+  called_of : {t n : Token} {x : Text} {a u : Tokens} {y : Stmt} → Is s.Call t → Attributes limit a → IsName x n → CallFrom d t.at x u y → Low (Statement limit) (suc d) (t ∷ a ++ (n ∷ u)) y
+  called_of i l j (through m k a) = through_text i l j m k a
+  called_of i l j (direct w k) = record { height = suc w.height; spelt = st.called i l st.none j w.spelt k; low = let y = w.low in omega arith }
+
+  pub to_called : (u : Tokens) (x : Stmt) → Both (Wanted s.Call) (λ p. Both (AttributesText limit) (λ _. Both Named (λ y. CallFrom d p y.0))) u x → Low (Statement limit) (suc d) u x
+  to_called u x (both (wanted i) (both l (both (named j) w))) = called_of i l j w
+
+  pub to_block : (u : Tokens) (xs : List Stmt) → Both (Wanted s.OpenBrace) (λ _. Both (Low (Statements limit) d) (λ ys. Both (Wanted s.CloseBrace) (λ _. Nothing ys))) u xs → Low (Block limit) d u xs
+  to_block u xs (both (wanted {t = o} i) (both {u = v} w (both (wanted {t = k} j) n))) = settle n (λ z xs. Low (Block limit) d (o ∷ (v ++ k ∷ z)) xs) (record { height = w.height; spelt = st.braces i w.spelt j; low = w.low })
+
+  pub to_if : (u : Tokens) (xs : List Stmt) → Both (IfStatement limit d) (λ x. Nothing (x ∷ [])) u xs → Branch limit d u xs
+  to_if u xs (both {u = v} {x = x} w n) = settle n (λ z xs. Branch limit d (v ++ z) xs) (subst (λ z. Branch limit d z (x ∷ [])) (sym (append-nil v)) (of_if w))
+
+  pub to_otherwise : (u : Tokens) (xs : List Stmt) → Both (Wanted s.Else) (λ _. Branch limit d) u xs → Low (Otherwise limit) d u xs
+  to_otherwise u xs (both (wanted i) b) = after_else i b
+
+  conditional_of : {u v w : Tokens} {g : Place × Expr} {a b : List Stmt} → Guarded d s.If u g → Low (Block limit) d v a → Low (Otherwise limit) d w b → Low (Statement limit) (suc d) (u ++ (v ++ w)) (stated g.0 (If g.1 a b))
+  conditional_of {v = v} {w = w} {a = a} {b = b} (guarded {t = t} {o = o} {k = k} {u = u} {e = e} i j f l) y z =
+      subst (λ q. Low (Statement limit) (suc d) (t ∷ o ∷ q) (stated t.at (If e a b))) (sym (append_assoc u (k ∷ []) (v ++ w)))
+      (record { height = suc (max f.height (max y.height z.height)); spelt = st.conditional i j f.spelt l y.spelt z.spelt; low = let l = f.low in let m = y.low in let n = z.low in omega arith })
+
+  pub to_conditional : (u : Tokens) (x : Stmt) → Both (Guarded d s.If) (λ g. Both (Low (Block limit) d) (λ a. Both (Low (Otherwise limit) d) (λ b. Nothing (stated g.0 (If g.1 a b))))) u x → Low (Statement limit) (suc d) u x
+  to_conditional u x (both {u = v} {x = g} f (both {u = p} {x = a} y (both {u = q} {x = b} z n))) =
+      settle n (λ r x. Low (Statement limit) (suc d) (v ++ (p ++ (q ++ r))) x)
+      (subst (λ r. Low (Statement limit) (suc d) (v ++ (p ++ r)) (stated g.0 (If g.1 a b))) (sym (append-nil q)) (conditional_of f y z))
+
+  loop_of : {u v w : Tokens} {g : Place × Expr} {a : List Invariant} {b : List Stmt} → Guarded d s.While u g → Low (Row (InvariantLine limit)) d v a → Low (Block limit) d w b → Low (Statement limit) (suc d) (u ++ (v ++ w)) (stated g.0 (While g.1 a b))
+  loop_of {v = v} {w = w} {a = a} {b = b} (guarded {t = t} {o = o} {k = k} {u = u} {e = e} i j f l) y z =
+      subst (λ q. Low (Statement limit) (suc d) (t ∷ o ∷ q) (stated t.at (While e a b))) (sym (append_assoc u (k ∷ []) (v ++ w)))
+      (record { height = suc (max f.height (max y.height z.height)); spelt = st.loop i j f.spelt l y.spelt z.spelt; low = let l = f.low in let m = y.low in let n = z.low in omega arith })
+
+  pub to_loop : (u : Tokens) (x : Stmt) → Both (Guarded d s.While) (λ g. Both (Low (Row (InvariantLine limit)) d) (λ a. Both (Low (Block limit) d) (λ b. Nothing (stated g.0 (While g.1 a b))))) u x → Low (Statement limit) (suc d) u x
+  to_loop u x (both {u = v} {x = g} f (both {u = p} {x = a} y (both {u = q} {x = b} z n))) =
+      settle n (λ r x. Low (Statement limit) (suc d) (v ++ (p ++ (q ++ r))) x)
+      (subst (λ r. Low (Statement limit) (suc d) (v ++ (p ++ r)) (stated g.0 (While g.1 a b))) (sym (append-nil q)) (loop_of f y z))
+
+  pub to_broken : (u : Tokens) (x : Stmt) → Both (Wanted s.Break) (λ p. Both (Wanted s.Semi) (λ _. Nothing (stated p Break))) u x → Low (Statement limit) (suc d) u x
+  to_broken u x (both (wanted {t = t} i) (both (wanted {t = k} j) n)) = settle n (λ z x. Low (Statement limit) (suc d) (t ∷ k ∷ z) x) (record { height = 1; spelt = st.broken i j; low = omega arith })
+
+  pub to_returned : (u : Tokens) (x : Stmt) → Both (Wanted s.Return) (λ p. Both (Wanted s.Semi) (λ _. Nothing (stated p Return))) u x → Low (Statement limit) (suc d) u x
+  to_returned u x (both (wanted {t = t} i) (both (wanted {t = k} j) n)) = settle n (λ z x. Low (Statement limit) (suc d) (t ∷ k ∷ z) x) (record { height = 1; spelt = st.returned i j; low = omega arith })
+
+module _ (limit d : ℕ) (inner : Reader Stmt) (law : (ts : Tokens) → Sound (Low (Statement limit) d) ts (inner ts)) where
+  asserted_law : (ts : Tokens) → Sound (Low (Statement limit) (suc d)) ts (asserted limit d inner ts)
   unfolding asserted
-  asserted_law ts e = deeper_sound (LowStatement (suc d)) d (λ ts. and_then (skip ts) (λ p ts. and_then (read d Whole ts) (λ e ts. and_then (want s.Semi ts) (λ _ ts. Got (stated p (Assert e.0)) ts)))) ts
-      (into to_asserted (seq (skip_sound s.Assert ts e) (λ p ts. seq (read_law d Whole ts) (λ e ts. seq (want_sound s.Semi ts) (λ _ ts. done (stated p (Assert e.0)) ts)))))
+  asserted_law ts = deeper_sound (Low (Statement limit) (suc d)) d (λ ts. and_then (claim limit d s.Assert ts) (λ k ts. Got (stated k.0 (Assert k.1)) ts)) ts
+      (into (to_asserted limit d) (seq (claim_sound limit d s.Assert ts) (λ k ts. done (stated k.0 (Assert k.1)) ts)))
 
-  to_assigned : (u : Tokens) (x : Stmt) → Both Named (λ y. Both (Wanted s.Becomes) (λ _. Both (Within d Whole) (λ e. Both (Wanted s.Semi) (λ _. Nothing (stated y.1 (assign y.0 e.0)))))) u x → LowStatement (suc d) u x
-  to_assigned u x (both (named {t = t} {x = y} i) (both (wanted {t = b} k) (both {u = v} {x = e} w (both (wanted {t = c} j) n)))) =
-      settle n (λ z x. LowStatement (suc d) (t ∷ b ∷ (v ++ c ∷ z)) x) (record { height = suc e.1; spelt = st.assigned i k w.phrase j; low = let z = w.low in omega arith })
+  assumed_law : (ts : Tokens) → Sound (Low (Statement limit) (suc d)) ts (assumed limit d inner ts)
+  unfolding assumed
+  assumed_law ts = deeper_sound (Low (Statement limit) (suc d)) d (λ ts. and_then (claim limit d s.Assume ts) (λ k ts. Got (stated k.0 (Assume k.1)) ts)) ts
+      (into (to_assumed limit d) (seq (claim_sound limit d s.Assume ts) (λ k ts. done (stated k.0 (Assume k.1)) ts)))
 
-  assigned_law : (ts : Tokens) → Sound (LowStatement (suc d)) ts (assigned d inner ts)
+  assigned_law : (ts : Tokens) → Sound (Low (Statement limit) (suc d)) ts (assigned limit d inner ts)
   unfolding assigned
-  assigned_law ts = deeper_sound (LowStatement (suc d)) d (λ ts. and_then (name ts) (λ y ts. and_then (want s.Becomes ts) (λ _ ts. and_then (read d Whole ts) (λ e ts. and_then (want s.Semi ts) (λ _ ts. Got (stated y.1 (assign y.0 e.0)) ts))))) ts
-      (into to_assigned (seq (name_sound ts) (λ y ts. seq (want_sound s.Becomes ts) (λ _ ts. seq (read_law d Whole ts) (λ e ts. seq (want_sound s.Semi ts) (λ _ ts. done (stated y.1 (assign y.0 e.0)) ts))))))
+  assigned_law ts = deeper_sound (Low (Statement limit) (suc d)) d
+      (λ ts. and_then (left d ts) (λ l ts. and_then (reading.more (plain_left d) (l.0 ∷ []) ts) (λ ls ts. and_then (want s.Becomes ts) (λ _ ts. and_then (reading.commas (expression d) ts) (λ es ts. and_then (want s.Semi ts) (λ _ ts. Got (stated l.1 (Assign ls es)) ts)))))) ts
+      (into (to_assigned limit d) (seq (left_law d ts) (λ l ts. seq (more_sound (Low LeftSide d) (plain_left d) (plain_law d) (l.0 ∷ []) ts) (λ ls ts. seq (want_sound s.Becomes ts) (λ _ ts. seq (values_law d ts) (λ es ts. seq (want_sound s.Semi ts) (λ _ ts. done (stated l.1 (Assign ls es)) ts)))))))
 
-  to_returned : (u : Tokens) (x : Stmt) → Both (Wanted s.Return) (λ p. Both (Wanted s.Semi) (λ _. Nothing (stated p Return))) u x → LowStatement (suc d) u x
-  to_returned u x (both (wanted {t = t} i) (both (wanted {t = c} j) n)) = settle n (λ z x. LowStatement (suc d) (t ∷ c ∷ z) x) (record { height = 1; spelt = st.returned i j; low = omega arith })
+  -- ---- calls
 
-  returned_law : (ts : Tokens) → sign_of (ahead ts) ≡ s.Return → Sound (LowStatement (suc d)) ts (returned d inner ts)
-  unfolding returned
-  returned_law ts e = into to_returned (seq (skip_sound s.Return ts e) (λ p ts. seq (want_sound s.Semi ts) (λ _ ts. done (stated p Return) ts)))
+  applied_law : (p : Place) (xs : List Text) (ts : Tokens) → Sound (Applied d p xs) ts (applied limit d inner p xs ts)
+  unfolding applied
+  applied_law p xs ts = into (to_applied limit d p xs) (seq (name_sound ts) (λ f ts. seq (arguments_law d ts) (λ es ts. seq (want_sound s.Semi ts) (λ _ ts. done (stated p (Call xs f.0 es)) ts))))
 
-  pub statements_law : (ts : Tokens) → Sound (LowStatements d) ts (statements d inner ts)
+  received_law : (p : Place) (x : Text) (ts : Tokens) → Sound (CallFrom d p x) ts (received limit d inner p x ts)
+  unfolding received
+  received_law p x ts = into (to_received limit d p x) (seq (more_names_sound (x ∷ []) ts) (λ ys ts. seq (want_sound s.Becomes ts) (λ _ ts. applied_law p ys ts)))
+
+  direct_law : (p : Place) (x : Text) (ts : Tokens) → Sound (CallFrom d p x) ts (applied_to limit d inner p x ts)
+  unfolding applied_to
+  direct_law p x ts = into (to_direct limit d p x) (seq (arguments_law d ts) (λ es ts. seq (want_sound s.Semi ts) (λ _ ts. done (stated p (Call [] x es)) ts)))
+
+  call_from_law : (p : Place) (x : Text) (ts : Tokens) → Sound (CallFrom d p x) ts (call_from limit d inner p x ts)
+  unfolding call_from
+  call_from_law p x ts = by_sign (sign_of (ahead ts))
+    where
+      by_sign : (y : Sign) → Sound (CallFrom d p x) ts (call_by limit d inner p x y ts)
+      by_sign s.Comma = received_law p x ts
+      by_sign s.Becomes = received_law p x ts
+      by_sign _ = direct_law p x ts
+
+  called_law : (ts : Tokens) → sign_of (ahead ts) ≡ s.Call → Sound (Low (Statement limit) (suc d)) ts (called limit d inner ts)
+  unfolding called
+  called_law ts e = into (to_called limit d) (seq (skip_sound s.Call ts e) (λ p ts. seq (attributes_sound limit ts) (λ _ ts. seq (name_sound ts) (λ y ts. call_from_law p y.0 ts))))
+
+  -- ---- blocks
+
+  pub statements_law : (ts : Tokens) → Sound (Low (Statements limit) d) ts (statements limit d inner ts)
   unfolding statements
-  statements_law ts = into (λ u y m. let w = pushed (LowStatement d) begins_statement m in subst (LowStatements d u) (sym w.same) (low_statements d w.list))
-      (many_sound (LowStatement d) begins_statement inner push (λ ts e. law ts) (suc (length ts)) [] ts)
+  statements_law ts = into (λ u y m. let w = pushed (Low (Statement limit) d) begins_statement m in subst (λ ys. Low (Statements limit) d u ys) (sym w.same) (low_statements limit d w.list))
+      (many_sound (Low (Statement limit) d) begins_statement inner push (λ ts e. law ts) (suc (length ts)) [] ts)
 
-  to_block : (u : Tokens) (x : List Stmt) → Both (Wanted s.OpenBrace) (λ _. Both (LowStatements d) (λ xs. Both (Wanted s.CloseBrace) (λ _. Nothing xs))) u x → LowBlock d u x
-  to_block u x (both (wanted {t = o} i) (both {u = v} {x = xs} w (both (wanted {t = c} j) n))) = settle n (λ z x. LowBlock d (o ∷ (v ++ c ∷ z)) x) (record { height = w.height; spelt = st.braces i w.spelt j; low = w.low })
-
-  block_law : (ts : Tokens) → Sound (LowBlock d) ts (block d inner ts)
+  block_law : (ts : Tokens) → Sound (Low (Block limit) d) ts (block limit d inner ts)
   unfolding block
-  block_law ts = into to_block (seq (want_sound s.OpenBrace ts) (λ _ ts. seq (statements_law ts) (λ xs ts. seq (want_sound s.CloseBrace ts) (λ _ ts. done xs ts))))
+  block_law ts = into (to_block limit d) (seq (want_sound s.OpenBrace ts) (λ _ ts. seq (statements_law ts) (λ ys ts. seq (want_sound s.CloseBrace ts) (λ _ ts. done ys ts))))
 
-  to_chained : (u : Tokens) (x : List Stmt) → Both (IfStatement d) (λ x. Nothing (x ∷ [])) u x → Branch d u x
-  to_chained u x (both {u = v} {x = y} w n) = settle n (λ z x. Branch d (v ++ z) x) (subst (λ z. Branch d z (y ∷ [])) (sym (append-nil v)) (of_if w))
-
-  branch_law : (ts : Tokens) → Sound (Branch d) ts (branch d inner ts)
+  branch_law : (ts : Tokens) → Sound (Branch limit d) ts (branch limit d inner ts)
   unfolding branch
   branch_law ts = by_sign (sign_of (ahead ts)) refl
     where
-      by_sign : (x : Sign) → sign_of (ahead ts) ≡ x → Sound (Branch d) ts (branch_by d inner x ts)
-      by_sign s.If e = into to_chained (seq (starts_if d ts (inner ts) e (law ts)) (λ x ts. done (x ∷ []) ts))
-      by_sign _ e = into (λ u x w. of_block w) (block_law ts)
+      by_sign : (x : Sign) → sign_of (ahead ts) ≡ x → Sound (Branch limit d) ts (branch_by limit d inner x ts)
+      by_sign s.If e = into (to_if limit d) (seq (starts_if limit d ts (inner ts) e (law ts)) (λ x ts. done (x ∷ []) ts))
+      by_sign _ e = into (λ u xs w. of_block w) (block_law ts)
 
-  to_otherwise : (u : Tokens) (x : List Stmt) → Both (Wanted s.Else) (λ _. Branch d) u x → LowOtherwise d u x
-  to_otherwise u x (both (wanted i) b) = after_else i b
-
-  otherwise_law : (ts : Tokens) → Sound (LowOtherwise d) ts (otherwise d inner ts)
+  otherwise_law : (ts : Tokens) → Sound (Low (Otherwise limit) d) ts (otherwise limit d inner ts)
   unfolding otherwise
   otherwise_law ts = by_sign (sign_of (ahead ts)) refl
     where
-      by_sign : (x : Sign) → sign_of (ahead ts) ≡ x → Sound (LowOtherwise d) ts (otherwise_by d inner x ts)
-      by_sign s.Else e = into to_otherwise (seq (skip_sound s.Else ts e) (λ _ ts. branch_law ts))
+      by_sign : (x : Sign) → sign_of (ahead ts) ≡ x → Sound (Low (Otherwise limit) d) ts (otherwise_by limit d inner x ts)
+      by_sign s.Else e = into (to_otherwise limit d) (seq (skip_sound s.Else ts e) (λ _ ts. branch_law ts))
       by_sign _ e = record { fact = ([], refl, record { height = 0; spelt = st.nothing; low = omega arith }) }
 
-  to_conditional : (u : Tokens) (x : Stmt) → Both (Wanted s.If) (λ p. Both (Wanted s.Open) (λ _. Both (Within d Whole) (λ e. Both (Wanted s.Close) (λ _. Both (LowBlock d) (λ a. Both (LowOtherwise d) (λ b. Nothing (stated p (If e.0 a b)))))))) u x → LowStatement (suc d) u x
-  to_conditional u x (both (wanted {t = t} i) (both (wanted {t = o} j) (both {u = v} {x = e} w (both (wanted {t = c} k) (both {u = p} {x = a} y (both {u = q} {x = b} z n)))))) =
-      settle n (λ r x. LowStatement (suc d) (t ∷ o ∷ (v ++ c ∷ (p ++ (q ++ r)))) x)
-      (subst (λ r. LowStatement (suc d) (t ∷ o ∷ (v ++ c ∷ (p ++ r))) (stated t.at (If e.0 a b))) (sym (append-nil q))
-      (record { height = suc (max e.1 (max y.height z.height)); spelt = st.conditional i j w.phrase k y.spelt z.spelt; low = let l = w.low in let m = y.low in let n = z.low in omega arith }))
+  guard_law : (word : Sign) (ts : Tokens) → sign_of (ahead ts) ≡ word → Sound (Guarded d word) ts (guard limit d inner ts)
+  unfolding guard
+  guard_law word ts e = into (to_guard d word) (seq (skip_sound word ts e) (λ p ts. seq (want_sound s.Open ts) (λ _ ts. seq (expression_sound d ts) (λ e ts. seq (want_sound s.Close ts) (λ _ ts. done (p, e) ts)))))
 
-  conditional_law : (ts : Tokens) → sign_of (ahead ts) ≡ s.If → Sound (LowStatement (suc d)) ts (conditional d inner ts)
+  conditional_law : (ts : Tokens) → sign_of (ahead ts) ≡ s.If → Sound (Low (Statement limit) (suc d)) ts (conditional limit d inner ts)
   unfolding conditional
-  conditional_law ts e = deeper_sound (LowStatement (suc d)) d
-      (λ ts. and_then (skip ts) (λ p ts. and_then (want s.Open ts) (λ _ ts. and_then (read d Whole ts) (λ e ts. and_then (want s.Close ts) (λ _ ts. and_then (block d inner ts) (λ a ts. and_then (otherwise d inner ts) (λ b ts. Got (stated p (If e.0 a b)) ts))))))) ts
-      (into to_conditional (seq (skip_sound s.If ts e) (λ p ts. seq (want_sound s.Open ts) (λ _ ts. seq (read_law d Whole ts) (λ e ts. seq (want_sound s.Close ts) (λ _ ts. seq (block_law ts) (λ a ts. seq (otherwise_law ts) (λ b ts. done (stated p (If e.0 a b)) ts))))))))
+  conditional_law ts e = deeper_sound (Low (Statement limit) (suc d)) d
+      (λ ts. and_then (guard limit d inner ts) (λ g ts. and_then (block limit d inner ts) (λ a ts. and_then (otherwise limit d inner ts) (λ b ts. Got (stated g.0 (If g.1 a b)) ts)))) ts
+      (into (to_conditional limit d) (seq (guard_law s.If ts e) (λ g ts. seq (block_law ts) (λ a ts. seq (otherwise_law ts) (λ b ts. done (stated g.0 (If g.1 a b)) ts)))))
 
-  layer_law : (ts : Tokens) → Sound (LowStatement (suc d)) ts (statement_layer d inner ts)
+  loop_law : (ts : Tokens) → sign_of (ahead ts) ≡ s.While → Sound (Low (Statement limit) (suc d)) ts (looped limit d inner ts)
+  unfolding looped
+  loop_law ts e = deeper_sound (Low (Statement limit) (suc d)) d
+      (λ ts. and_then (guard limit d inner ts) (λ g ts. and_then (invariants limit d ts) (λ a ts. and_then (block limit d inner ts) (λ b ts. Got (stated g.0 (While g.1 a b)) ts)))) ts
+      (into (to_loop limit d) (seq (guard_law s.While ts e) (λ g ts. seq (invariants_law limit d ts) (λ a ts. seq (block_law ts) (λ b ts. done (stated g.0 (While g.1 a b)) ts)))))
+
+  broken_law : (ts : Tokens) → sign_of (ahead ts) ≡ s.Break → Sound (Low (Statement limit) (suc d)) ts (broken limit d inner ts)
+  unfolding broken
+  broken_law ts e = into (to_broken limit d) (seq (skip_sound s.Break ts e) (λ p ts. seq (want_sound s.Semi ts) (λ _ ts. done (stated p Break) ts)))
+
+  returned_law : (ts : Tokens) → sign_of (ahead ts) ≡ s.Return → Sound (Low (Statement limit) (suc d)) ts (returned limit d inner ts)
+  unfolding returned
+  returned_law ts e = into (to_returned limit d) (seq (skip_sound s.Return ts e) (λ p ts. seq (want_sound s.Semi ts) (λ _ ts. done (stated p Return) ts)))
+
+  layer_law : (ts : Tokens) → Sound (Low (Statement limit) (suc d)) ts (statement_layer limit d inner ts)
   unfolding statement_layer
   layer_law ts = by_sign (sign_of (ahead ts)) refl
     where
-      by_sign : (x : Sign) → sign_of (ahead ts) ≡ x → Sound (LowStatement (suc d)) ts (statement_by d inner x ts)
-      by_sign s.Assert e = asserted_law ts e
+      by_sign : (x : Sign) → sign_of (ahead ts) ≡ x → Sound (Low (Statement limit) (suc d)) ts (statement_by limit d inner x ts)
+      by_sign s.Assert e = asserted_law ts
+      by_sign s.Assume e = assumed_law ts
       by_sign s.Name e = assigned_law ts
+      by_sign s.Call e = called_law ts e
       by_sign s.If e = conditional_law ts e
+      by_sign s.While e = loop_law ts e
+      by_sign s.Break e = broken_law ts e
       by_sign s.Return e = returned_law ts e
       by_sign _ e = record { fact = tt }
 
 -- What is read is a statement.
-pub statement_law : (d : ℕ) (ts : Tokens) → Sound (LowStatement d) ts (statement d ts)
+pub statement_law : (limit d : ℕ) (ts : Tokens) → Sound (Low (Statement limit) d) ts (statement limit d ts)
 unfolding statement
-statement_law zero ts = by_test (begins_statement (sign_of (ahead ts)))
+statement_law limit zero ts = by_test (begins_statement (sign_of (ahead ts)))
   where
-    by_test : (b : Bool) → Sound (LowStatement zero) ts (cond {A = Reader Stmt} b (λ ts. Bad Deep ts) (λ ts. Bad Syntax ts) ts)
+    by_test : (b : Bool) → Sound (Low (Statement limit) zero) ts (cond {A = Reader Stmt} b (λ ts. Bad Deep ts) (λ ts. Bad Syntax ts) ts)
     by_test true = record { fact = tt }
     by_test false = record { fact = tt }
-statement_law (suc d) ts = layer_law d (statement d) (statement_law d) ts
+statement_law limit (suc d) ts = layer_law limit d (statement limit d) (statement_law limit d) ts

@@ -10,7 +10,7 @@ use Rattle.sd_parse.specs.Grammar.{Tokens}
 use Rattle.sd_parse.specs.Programs.{Spells}
 use Rattle.sd_parse.specs.Text.{IsRead, HasTokens, IsSpelled, OneProgram}
 use Rattle.sd_parse.specs.Reading.{Fault, Got, Bad}
-use Rattle.sd_parse.specs.ReadingStatements.{program}
+use Rattle.sd_parse.specs.ReadingPrograms.{program}
 use Rattle.sd_parse.proofs.ProgramSound.{program_sound}
 use Rattle.sd_parse.proofs.ProgramComplete.{program_complete}
 

@@ -3,7 +3,7 @@ use Rattle.std.proofs.Common.{◌≡◌, ℕ, suc, ◌+◌, ◌-◌, ◌<◌, �
 use Rattle.std.specs.Prelude.{Bool, Some, None, nat_lt}
 use Rattle.sd_ast.specs.declared.BinOp.{BinOp}
 use Rattle.sd_parse.specs.Grammar.{Tokens, Level, repeated, operand}
-use Rattle.sd_parse.specs.Reading.{Step, Got, Bad, Reader, and_then, pure, ahead, sign_of, Tall, join, operation_by, operation, turns}
+use Rattle.sd_parse.specs.Reading.{Step, Got, Bad, Reader, and_then, pure, ahead, sign_of, Tall, join, opens_bracket, bracket, brackets, operation_by, operation, turns}
 
 module _ (d : ℕ) (inner : Level → Reader Tall) (next : Tall → Reader Tall) where
   inner_then : (x : Tall) (f : BinOp) (s : Step Tall) → and_then s (λ y. next (join f x y)) ≡ and_then (and_then s (λ y. pure (join f x y))) next
@@ -27,6 +27,15 @@ module _ (d : ℕ) (inner : Level → Reader Tall) (n : ℕ) (l : Level) (x : Ta
   pub turn_some : (f : BinOp) → repeated l (sign_of (ahead ts)) ≡ Some f → turns d inner (suc n) l x ts ≡ and_then (operation d inner (operand l) pure x f ts) (turns d inner n l)
   unfolding turns
   turn_some f e = rw e (operation_then d inner (turns d inner n l) (operand l) x f ts)
+
+module _ (d : ℕ) (inner : Level → Reader Tall) (n : ℕ) (x : Tall) (ts : Tokens) where
+  pub brackets_end : opens_bracket (sign_of (ahead ts)) ≡ false → brackets d inner (suc n) x ts ≡ Got x ts
+  unfolding brackets
+  brackets_end e = rw e refl
+
+  pub brackets_more : opens_bracket (sign_of (ahead ts)) ≡ true → brackets d inner (suc n) x ts ≡ and_then (bracket d inner x ts) (brackets d inner n)
+  unfolding brackets
+  brackets_more e = rw e refl
 
 pub one_more : {X : Type 0} {x : X} (f : ℕ → X) (n at : ℕ) → at < n → x ≡ f (n - at) → x ≡ f (suc (n - (at + 1)))
 one_more f n at below e = let turn : n - at ≡ suc (n - (at + 1)) = omega arith in e ∙ ap f turn

@@ -1,7 +1,15 @@
 pub mod Signs
 pub mod Grammar
+pub mod Rows
+pub mod Types
+pub mod Clauses
 pub mod Statements
 pub mod Programs
 pub mod Text
+pub mod Refusals
 pub mod Reading
+pub mod ReadingRows
+pub mod ReadingTypes
+pub mod ReadingClauses
 pub mod ReadingStatements
+pub mod ReadingPrograms

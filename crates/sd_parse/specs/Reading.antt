@@ -1,5 +1,5 @@
 -- What a reader gives, as a function of the tokens.
-use Rattle.std.specs.Prelude.{◌≡◌, ℕ, zero, suc, max, ◌≤◌, nat_lt, Bool, true, false, if◌then◌else◌, [], ◌∷◌, length, Option, Some, None, Result, Ok, Err, IfOk}
+use Rattle.std.specs.Prelude.{◌≡◌, ℕ, zero, suc, max, ◌≤◌, nat_lt, Bool, true, false, if◌then◌else◌, List, [], ◌∷◌, ◌++◌, length, Option, Some, None, Result, Ok, Err, IfOk}
 use Rattle.std.specs.declared.alloc.Global.{Global}
 use denote.Ref.{MutBor}
 use Rattle.sd_base.specs.declared.Place.{Place}
@@ -8,7 +8,7 @@ use Rattle.sd_lex.specs.declared.Token.{Token}
 use Rattle.sd_lex.specs.declared.TokenKind.{TokenKind}
 use Rattle.sd_lex.specs.declared.TokenKind.TheVariants as kind
 use Rattle.sd_ast.specs.declared.Expr.{Expr}
-use Rattle.sd_ast.specs.declared.ExprKind.{Num, Truth, Var, Unary, Binary}
+use Rattle.sd_ast.specs.declared.ExprKind.{Num, Truth, Var, Apply, Old, Unary, Binary, Select, Store}
 use Rattle.sd_ast.specs.declared.UnOp.{UnOp}
 use Rattle.sd_ast.specs.declared.BinOp.{BinOp}
 use Rattle.sd_ast.specs.declared.BinOp.TheVariants as op
@@ -18,7 +18,7 @@ use Rattle.sd_parse.specs.declared.cursor.Fault.{Fault as CodeFault}
 use Rattle.sd_parse.specs.declared.cursor.Fault.TheVariants.{NoMemory}
 use Rattle.sd_parse.specs.declared.cursor.Fault.TheVariants as fault
 use Rattle.sd_parse.specs.Signs.{sign, same_sign}
-use Rattle.sd_parse.specs.Grammar.{Tokens, Level, Whole, Implication, Right, Explied, Junction, Conjunction, Disjunction, Relation, Sum, Product, Prefix, Atom, repeated, operand, compares, prefixes, placed}
+use Rattle.sd_parse.specs.Grammar.{Tokens, Level, Whole, Implication, Right, Explied, Junction, Conjunction, Disjunction, Relation, Sum, Product, Prefix, Postfix, Atom, repeated, operand, compares, prefixes, placed}
 
 pub data Fault : Type 0 where
   Syntax : Fault
@@ -100,12 +100,35 @@ Tall = Expr × ℕ × Place
 abbrev pub join : BinOp → Tall → Tall → Tall
 join f x y = (placed x.2 (Binary f x.0 y.0), suc (max x.1 y.1), x.2)
 
+abbrev pub select : Tall → Tall → Tall
+select m i = (placed m.2 (Select m.0 i.0), suc (max m.1 i.1), m.2)
+
+abbrev pub store : Tall → Tall → Tall → Tall
+store m i x = (placed m.2 (Store m.0 i.0 x.0), suc (max m.1 (max i.1 x.1)), m.2)
+
+-- expressions, and the height of the highest
+abbrev pub Group : Type 0
+Group = List Expr × ℕ
+
+-- one more at the end
+abbrev pub add : Group → Tall → Group
+add xs x = (xs.0 ++ x.0 ∷ [], max xs.1 x.1)
+
+abbrev pub comma : Sign → Bool
+comma s.Comma = true
+comma _ = false
+
+abbrev pub opens_bracket : Sign → Bool
+opens_bracket s.OpenBracket = true
+opens_bracket _ = false
+
 -- what begins an expression
 abbrev pub begins : Sign → Bool
 begins s.Number = true
 begins s.True = true
 begins s.False = true
 begins s.Name = true
+begins s.Old = true
 begins s.Open = true
 begins s.Not = true
 begins s.Minus = true
@@ -121,22 +144,82 @@ module _ (d : ℕ) (inner : Level → Reader Tall) where
   unfoldable pub parenthesized : Reader Tall
   parenthesized = deeper d (skip >>= λ p. inner Whole >>= λ x. want s.Close >>= λ _. pure (x.0, suc x.1, p))
 
+  unfoldable pub old : Reader Tall
+  old = deeper d (skip >>= λ p. want s.Open >>= λ _. inner Whole >>= λ x. want s.Close >>= λ _. pure (placed p (Old x.0), suc x.1, p))
+
+  unfoldable pub next_expression : Reader Tall
+  next_expression = skip >>= λ _. inner Whole
+
+  unfoldable pub more_expressions : Group → Reader Group
+  more_expressions xs = all comma next_expression add xs
+
+  -- expressions with commas between them
+  unfoldable pub expressions : Reader Group
+  expressions = inner Whole >>= λ x. more_expressions (x.0 ∷ [], x.1)
+
+  abbrev pub arguments_by : Sign → Reader Group
+  arguments_by s.Close = pure ([], 0)
+  arguments_by _ = expressions
+
+  unfoldable pub arguments : Reader Group
+  arguments = look (λ t. arguments_by (sign_of t))
+
+  -- an application of the function of this name, from its parenthesis on
+  unfoldable pub application : Text × Place → Reader Tall
+  application f = skip >>= λ _. arguments >>= λ xs. want s.Close >>= λ _. pure (placed f.1 (Apply f.0 xs.0), suc xs.1, f.1)
+
+  abbrev pub named_by : Text × Place → Sign → Reader Tall
+  named_by x s.Open = application x
+  named_by x _ = pure (placed x.1 (Var x.0), 1, x.1)
+
+  unfoldable pub named : Reader Tall
+  named = name >>= λ x. look (λ t. named_by x (sign_of t))
+
   abbrev pub atom_by : Sign → Reader Tall
   atom_by s.Number = number >>= λ n. pure (placed n.1 (Num n.0), 1, n.1)
   atom_by s.True = skip >>= λ p. pure (placed p (Truth true), 1, p)
   atom_by s.False = skip >>= λ p. pure (placed p (Truth false), 1, p)
-  atom_by s.Name = name >>= λ x. pure (placed x.1 (Var x.0), 1, x.1)
+  atom_by s.Name = named
+  atom_by s.Old = old
   atom_by s.Open = parenthesized
   atom_by _ = bad Syntax
 
   unfoldable pub atom : Reader Tall
   atom = look (λ t. atom_by (sign_of t))
 
+  -- after an index: a value and the bracket, or the bracket alone
+  abbrev pub indexed_by : Tall → Tall → Sign → Reader Tall
+  indexed_by m i s.Becomes = skip >>= λ _. inner Whole >>= λ x. want s.CloseBracket >>= λ _. pure (store m i x)
+  indexed_by m i _ = want s.CloseBracket >>= λ _. pure (select m i)
+
+  unfoldable pub indexed : Tall → Tall → Reader Tall
+  indexed m i = look (λ t. indexed_by m i (sign_of t))
+
+  abbrev pub bracket_by : Bool → Tall → Reader Tall
+  bracket_by true m = skip >>= λ _. inner Whole >>= indexed m
+  bracket_by false m = bad Deep
+
+  -- m and what stands in brackets after it
+  unfoldable pub bracket : Tall → Reader Tall
+  bracket m = bracket_by (nat_lt m.1 (suc d)) m
+
+  abbrev pub brackets_by : (Tall → Reader Tall) → Tall → Bool → Reader Tall
+  brackets_by next m true = bracket m >>= next
+  brackets_by next m false = pure m
+
+  -- the brackets that follow m
+  unfoldable pub brackets : ℕ → Tall → Reader Tall
+  brackets zero m = bad Deep
+  brackets (suc n) m = look (λ t. brackets_by (brackets n) m (opens_bracket (sign_of t)))
+
+  unfoldable pub postfix : Reader Tall
+  postfix = atom >>= brackets (suc d)
+
   unfoldable pub prefixed : UnOp → Reader Tall
   prefixed f = deeper d (skip >>= λ p. inner Prefix >>= λ x. pure (placed p (Unary f x.0), suc x.1, p))
 
   abbrev pub prefix_by : Option UnOp → Reader Tall
-  prefix_by None = atom
+  prefix_by None = postfix
   prefix_by (Some f) = prefixed f
 
   unfoldable pub prefix : Reader Tall
@@ -208,6 +291,7 @@ module _ (d : ℕ) (inner : Level → Reader Tall) where
   layer Sum = sum
   layer Product = product
   layer Prefix = prefix
+  layer Postfix = postfix
   layer Atom = atom
   layer Explied = junction >>= turns (suc d) Explied
   layer Conjunction = relation >>= turns (suc d) Conjunction
@@ -228,6 +312,11 @@ Gives step (Err fault.Deep) new = step ≡ Bad Deep new
 
 -- the same of an expression, and its height
 pub record Reads (d : ℕ) (step : Step Tall) (r : Result Tall CodeFault) (new : Tokens) : Type 0 where
+  pub gives : Gives step r new
+  pub low : IfOk r (λ x. x.1 ≤ d)
+
+-- the same of several
+pub record ReadsGroup (d : ℕ) (step : Step Group) (r : Result Group CodeFault) (new : Tokens) : Type 0 where
   pub gives : Gives step r new
   pub low : IfOk r (λ x. x.1 ≤ d)
 

@@ -1,47 +1,106 @@
--- What the readers of statements and programs give, as functions of the tokens.
-use Rattle.std.specs.Prelude.{ℕ, zero, suc, Bool, true, false, if◌then◌else◌, List, [], ◌∷◌, ◌++◌, Result}
+-- What the reader of statements gives.
+use Rattle.std.specs.Prelude.{ℕ, zero, suc, Bool, true, false, if◌then◌else◌, List, [], ◌∷◌, Result}
 use Rattle.std.specs.declared.alloc.Global.{Global}
 use denote.Ref.{MutBor}
-use Rattle.sd_base.specs.declared.Var.{Var}
+use Rattle.sd_base.specs.declared.Place.{Place}
 use Rattle.sd_base.specs.Value.{Text}
+use Rattle.sd_ast.specs.declared.Expr.{Expr}
+use Rattle.sd_ast.specs.declared.Left.{Left}
+use Rattle.sd_ast.specs.declared.Invariant.{Invariant}
 use Rattle.sd_ast.specs.declared.Stmt.{Stmt}
-use Rattle.sd_ast.specs.declared.StmtKind.{Assert, If, Return}
-use Rattle.sd_ast.specs.declared.Body.{Body}
-use Rattle.sd_ast.specs.declared.Decl.{Decl}
+use Rattle.sd_ast.specs.declared.StmtKind.{Assert, Assume, Assign, Call, If, While, Break, Return}
 use Rattle.sd_parse.specs.declared.sign.Sign.{Sign}
 use Rattle.sd_parse.specs.declared.sign.Sign.TheVariants as s
 use Rattle.sd_parse.specs.declared.cursor.Fault.{Fault as CodeFault}
-use Rattle.sd_parse.specs.Signs.{same_sign}
-use Rattle.sd_parse.specs.Grammar.{Tokens, Whole}
-use Rattle.sd_parse.specs.Statements.{stated, assign}
-use Rattle.sd_parse.specs.Programs.{truths, procedure}
-use Rattle.sd_parse.specs.Reading.{Syntax, Deep, Got, Bad, Reader, ◌>>=◌, pure, bad, look, skip, sign_of, want, name, all, deeper, read, Gives}
+use Rattle.sd_parse.specs.Grammar.{Tokens}
+use Rattle.sd_parse.specs.Statements.{stated}
+use Rattle.sd_parse.specs.Reading.{Syntax, Deep, Reader, ◌>>=◌, pure, bad, look, skip, sign_of, want, name, all, deeper, Gives}
+use Rattle.sd_parse.specs.ReadingRows.{is, push, more, commas, enclosed, plain_name}
+use Rattle.sd_parse.specs.ReadingClauses.{expression, attributes, claim}
 
--- one more at the end
-abbrev pub push : {A : Type 0} → List A → A → List A
-push xs x = xs ++ x ∷ []
+-- ---- the parts of a statement, whose expressions have height d at most
 
-abbrev pub join_lists : {A : Type 0} → List A → List A → List A
-join_lists xs ys = xs ++ ys
+module _ (d : ℕ) where
+  unfoldable pub index : Reader Expr
+  index = skip >>= λ _. expression d >>= λ e. want s.CloseBracket >>= λ _. pure e
+
+  unfoldable pub indices : Reader (List Expr)
+  indices = all (is s.OpenBracket) index push []
+
+  -- a left side, and where it begins
+  unfoldable pub left : Reader (Left × Place)
+  left = name >>= λ x. indices >>= λ es. pure (record { name = x.0; indices = es }, x.1)
+
+  -- a left side without its place
+  unfoldable pub plain_left : Reader Left
+  plain_left = left >>= λ l. pure l.0
+
+abbrev pub begins_invariant : Sign → Bool
+begins_invariant s.Free = true
+begins_invariant s.Invariant = true
+begins_invariant _ = false
+
+module _ (limit d : ℕ) where
+  unfoldable pub stated_invariant : Bool → Reader Invariant
+  stated_invariant f = claim limit d s.Invariant >>= λ c. pure (record { free = f; expr = c.1 })
+
+  abbrev pub invariant_by : Sign → Reader Invariant
+  invariant_by s.Free = skip >>= λ _. stated_invariant true
+  invariant_by _ = stated_invariant false
+
+  unfoldable pub loop_invariant : Reader Invariant
+  loop_invariant = look (λ t. invariant_by (sign_of t))
+
+  unfoldable pub invariants : Reader (List Invariant)
+  invariants = all begins_invariant loop_invariant push []
+
+-- ---- statements
 
 -- what begins a statement
 abbrev pub begins_statement : Sign → Bool
 begins_statement s.Assert = true
+begins_statement s.Assume = true
 begins_statement s.Name = true
+begins_statement s.Call = true
 begins_statement s.If = true
+begins_statement s.While = true
+begins_statement s.Break = true
 begins_statement s.Return = true
 begins_statement _ = false
 
--- The statements of height d + 1 at most, from a reader of those of height d at most.
-module _ (d : ℕ) (inner : Reader Stmt) where
+-- The statements of height d + 1 at most, from a reader of those of height d at most. The expressions of attributes have the height limit at most.
+module _ (limit d : ℕ) (inner : Reader Stmt) where
   unfoldable pub asserted : Reader Stmt
-  asserted = deeper d (skip >>= λ p. read d Whole >>= λ e. want s.Semi >>= λ _. pure (stated p (Assert e.0)))
+  asserted = deeper d (claim limit d s.Assert >>= λ c. pure (stated c.0 (Assert c.1)))
+
+  unfoldable pub assumed : Reader Stmt
+  assumed = deeper d (claim limit d s.Assume >>= λ c. pure (stated c.0 (Assume c.1)))
 
   unfoldable pub assigned : Reader Stmt
-  assigned = deeper d (name >>= λ x. want s.Becomes >>= λ _. read d Whole >>= λ e. want s.Semi >>= λ _. pure (stated x.1 (assign x.0 e.0)))
+  assigned = deeper d (left d >>= λ l. more (plain_left d) (l.0 ∷ []) >>= λ ls. want s.Becomes >>= λ _. commas (expression d) >>= λ es. want s.Semi >>= λ _. pure (stated l.1 (Assign ls es)))
 
-  unfoldable pub returned : Reader Stmt
-  returned = skip >>= λ p. want s.Semi >>= λ _. pure (stated p Return)
+  -- a call from its procedure's name on
+  unfoldable pub applied : Place → List Text → Reader Stmt
+  applied p xs = name >>= λ f. enclosed (expression d) >>= λ es. want s.Semi >>= λ _. pure (stated p (Call xs f.0 es))
+
+  -- a call without receivers from its parenthesis on
+  unfoldable pub applied_to : Place → Text → Reader Stmt
+  applied_to p f = enclosed (expression d) >>= λ es. want s.Semi >>= λ _. pure (stated p (Call [] f es))
+
+  unfoldable pub received : Place → Text → Reader Stmt
+  received p x = more plain_name (x ∷ []) >>= λ xs. want s.Becomes >>= λ _. applied p xs
+
+  abbrev pub call_by : Place → Text → Sign → Reader Stmt
+  call_by p x s.Comma = received p x
+  call_by p x s.Becomes = received p x
+  call_by p x _ = applied_to p x
+
+  -- a call after its first name
+  unfoldable pub call_from : Place → Text → Reader Stmt
+  call_from p x = look (λ t. call_by p x (sign_of t))
+
+  unfoldable pub called : Reader Stmt
+  called = skip >>= λ p. attributes limit >>= λ _. name >>= λ x. call_from p x.0
 
   unfoldable pub statements : Reader (List Stmt)
   statements = all begins_statement inner push []
@@ -64,13 +123,30 @@ module _ (d : ℕ) (inner : Reader Stmt) where
   unfoldable pub otherwise : Reader (List Stmt)
   otherwise = look (λ t. otherwise_by (sign_of t))
 
+  -- an expression in parentheses after a word
+  unfoldable pub guard : Reader (Place × Expr)
+  guard = skip >>= λ p. want s.Open >>= λ _. expression d >>= λ e. want s.Close >>= λ _. pure (p, e)
+
   unfoldable pub conditional : Reader Stmt
-  conditional = deeper d (skip >>= λ p. want s.Open >>= λ _. read d Whole >>= λ e. want s.Close >>= λ _. block >>= λ a. otherwise >>= λ b. pure (stated p (If e.0 a b)))
+  conditional = deeper d (guard >>= λ g. block >>= λ a. otherwise >>= λ b. pure (stated g.0 (If g.1 a b)))
+
+  unfoldable pub looped : Reader Stmt
+  looped = deeper d (guard >>= λ g. invariants limit d >>= λ is. block >>= λ ss. pure (stated g.0 (While g.1 is ss)))
+
+  unfoldable pub broken : Reader Stmt
+  broken = skip >>= λ p. want s.Semi >>= λ _. pure (stated p Break)
+
+  unfoldable pub returned : Reader Stmt
+  returned = skip >>= λ p. want s.Semi >>= λ _. pure (stated p Return)
 
   abbrev pub statement_by : Sign → Reader Stmt
   statement_by s.Assert = asserted
+  statement_by s.Assume = assumed
   statement_by s.Name = assigned
+  statement_by s.Call = called
   statement_by s.If = conditional
+  statement_by s.While = looped
+  statement_by s.Break = broken
   statement_by s.Return = returned
   statement_by _ = bad Syntax
 
@@ -78,77 +154,11 @@ module _ (d : ℕ) (inner : Reader Stmt) where
   statement_layer = look (λ t. statement_by (sign_of t))
 
 -- The statements of height d at most. No statement has height 0.
-unfoldable pub statement : ℕ → Reader Stmt
-statement zero = look (λ t. if begins_statement (sign_of t) then bad Deep else bad Syntax)
-statement (suc d) = statement_layer d (statement d)
+unfoldable pub statement : ℕ → ℕ → Reader Stmt
+statement limit zero = look (λ t. if begins_statement (sign_of t) then bad Deep else bad Syntax)
+statement limit (suc d) = statement_layer limit d (statement limit d)
 
 -- a function value that reads the statements of height d at most
-pub record NestsStatements (d : ℕ) (pre : Global → MutBor Tokens → ℕ → Type 0) (post : Global → MutBor Tokens → ℕ → Result Stmt CodeFault → MutBor Tokens → Type 0) : Type 0 where
-  pub callable : (alloc : Global) (old : MutBor Tokens) → pre alloc old d
-  pub reads : (alloc : Global) (old new : MutBor Tokens) (r : Result Stmt CodeFault) → post alloc old d r new → Gives (statement d old.now) r new.now
-
--- ---- declarations
-
-abbrev pub is_comma : Sign → Bool
-is_comma x = same_sign x s.Comma
-
-abbrev pub is_var : Sign → Bool
-is_var x = same_sign x s.Var
-
-abbrev pub is_procedure : Sign → Bool
-is_procedure x = same_sign x s.Procedure
-
-unfoldable pub next_name : Reader Text
-next_name = skip >>= λ _. name >>= λ x. pure x.0
-
-unfoldable pub more_names : List Text → Reader (List Text)
-more_names xs = all is_comma next_name push xs
-
-unfoldable pub names : Reader (List Text)
-names = name >>= λ x. more_names (x.0 ∷ [])
-
-unfoldable pub group : Reader (List Var)
-group = names >>= λ xs. want s.Colon >>= λ _. want s.Bool >>= λ _. pure (truths xs)
-
-unfoldable pub next_group : Reader (List Var)
-next_group = skip >>= λ _. group
-
-unfoldable pub more_groups : List Var → Reader (List Var)
-more_groups xs = all is_comma next_group join_lists xs
-
-unfoldable pub vars : Reader (List Var)
-vars = group >>= more_groups
-
-abbrev pub parameters_by : Sign → Reader (List Var)
-parameters_by s.Close = skip >>= λ _. pure []
-parameters_by _ = vars >>= λ xs. want s.Close >>= λ _. pure xs
-
-unfoldable pub listed : Reader (List Var)
-listed = look (λ t. parameters_by (sign_of t))
-
-unfoldable pub parameters : Reader (List Var)
-parameters = want s.Open >>= λ _. listed
-
-unfoldable pub local_group : Reader (List Var)
-local_group = skip >>= λ _. vars >>= λ xs. want s.Semi >>= λ _. pure xs
-
-unfoldable pub locals : Reader (List Var)
-locals = all is_var local_group join_lists []
-
-module _ (d : ℕ) where
-  unfoldable pub body : Reader Body
-  body = want s.OpenBrace >>= λ _. locals >>= λ xs. statements d (statement d) >>= λ ss. want s.CloseBrace >>= λ _. pure (record { locals = xs; stmts = ss })
-
-  unfoldable pub declaration : Reader Decl
-  declaration = skip >>= λ _. name >>= λ f. parameters >>= λ ins. body >>= λ b. pure (procedure f.0 f.1 ins b)
-
-  unfoldable pub declarations : Reader (List Decl)
-  declarations = all is_procedure declaration push []
-
--- nothing is left
-unfoldable pub ended : {A : Type 0} → A → Reader A
-ended x [] = Got x []
-ended x (t ∷ ts) = Bad Syntax (t ∷ ts)
-
-unfoldable pub program : ℕ → Reader (List Decl)
-program d = declarations d >>= ended
+pub record NestsStatements (limit d : ℕ) (pre : Global → MutBor Tokens → ℕ → ℕ → Type 0) (post : Global → MutBor Tokens → ℕ → ℕ → Result Stmt CodeFault → MutBor Tokens → Type 0) : Type 0 where
+  pub callable : (alloc : Global) (old : MutBor Tokens) → pre alloc old limit d
+  pub reads : (alloc : Global) (old new : MutBor Tokens) (r : Result Stmt CodeFault) → post alloc old limit d r new → Gives (statement limit d old.now) r new.now

@@ -27,7 +27,7 @@ sign_of_kind (kind.Word w) = sign_in words w
 sign_of_kind (kind.Symbol w) = sign_in symbols w
 sign_of_kind (kind.Ident x) = s.Name
 sign_of_kind (kind.Number n) = s.Number
-sign_of_kind (kind.Text x) = s.Other
+sign_of_kind (kind.Text x) = s.Text
 
 abbrev pub sign : Token → Sign
 sign t = sign_of_kind t.kind

@@ -1,21 +1,31 @@
 -- What a text is read as.
-use Rattle.std.specs.Prelude.{◌≡◌, ◌≤◌, length, Contains}
+use Rattle.std.specs.Prelude.{◌≡◌, ℕ, ◌≤◌, Bool, true, false, List, length, count_by}
 use Rattle.sd_lex.specs.Pieces.{Bytes}
 use Rattle.sd_lex.specs.Tokens as lex
+use Rattle.sd_ast.specs.declared.Decl.{Decl}
+use Rattle.sd_ast.specs.declared.Decl.TheVariants.{Procedure, Implementation}
 use Rattle.sd_ast.specs.declared.Program.{Program}
 use Rattle.sd_ast.specs.Boolean.{IsBooleanProgram}
 use Rattle.sd_parse.specs.Grammar.{Tokens}
 use Rattle.sd_parse.specs.Programs.{Spells}
 
--- The text is within the limits, has no comment, and its tokens spell this well-typed program. A comment holds a slash, and no token of the form does.
+unfoldable pub is_procedure : Decl → Bool
+is_procedure (Procedure p) = true
+is_procedure (Implementation i) = true
+is_procedure _ = false
+
+-- how many procedures and implementations the declarations have together
+abbrev pub procedures : List Decl → ℕ
+procedures ds = count_by is_procedure ds
+
+-- The text is within the limits, and its tokens spell this well-typed program.
 pub record IsRead (bytes : Bytes) (P : Program) : Type 0 where
   pub short : length bytes ≤ 16777216
-  pub plain : Contains bytes 47 → ⊥
   pub tokens : Tokens
   pub cut : lex.Tokens 0 bytes tokens
   pub spelled : Spells 200 tokens P
   pub typed : IsBooleanProgram P
-  pub few : length P.decls ≤ 4096
+  pub few : procedures P.decls ≤ 4096
 
 -- the text is cut into some tokens
 abbrev pub HasTokens : Bytes → Type 0

@@ -1,23 +1,26 @@
 //! The rules for expressions. They take the reader of the expressions below as a parameter, so that each is proved by itself.
 
-ghost use Rattle.std.specs.Prelude.{◌≡◌, ◌<◌, ◌≤◌, ◌+◌, ◌^◌, IfOk, suc};
+ghost use Rattle.std.specs.Prelude.{◌≡◌, ◌<◌, ◌≤◌, ◌+◌, ◌^◌, ◌∷◌, [], IfOk, suc};
 ghost use Rattle.sd_ast.specs.declared.BinOp.TheVariants as op;
 ghost use Rattle.sd_ast.specs.declared.ExprKind as ast;
 ghost use Rattle.sd_parse.specs.Grammar as grammar;
 ghost use Rattle.sd_parse.specs.Grammar.{Right};
 ghost use Rattle.sd_parse.specs.Reading as spec;
-ghost use Rattle.sd_parse.specs.Reading.{Gives, Reads, Nests};
+ghost use Rattle.sd_parse.specs.Reading.{Gives, Reads, ReadsGroup, Nests};
 
 use crate::cursor::{Cursor, Fault};
 use crate::level::Level;
 use crate::sign::Sign;
 use sd_ast::{BinOp, Expr, ExprKind, UnOp};
-use sd_base::Place;
-use sqlite_items::Boxed;
+use sd_base::{Name, Place};
+use sqlite_items::{Boxed, Items};
 use std::alloc::{AllocError, Global};
 
 /// An expression, its height, and the place where its phrase begins.
 pub type Tall = (Expr, u32, Place);
+
+/// Expressions, and the height of the highest.
+pub type Group = (Items<Expr>, u32);
 
 /// The operators that are repeated at a level.
 fn repeated(level: Level, sign: Sign) -> Option<BinOp>
@@ -81,9 +84,28 @@ fn begins(sign: Sign) -> bool
         | Sign::True
         | Sign::False
         | Sign::Name
+        | Sign::Old
         | Sign::Open
         | Sign::Not
         | Sign::Minus => true,
+        _ => false,
+    }
+}
+
+fn comma(sign: Sign) -> bool
+    ensures { result ≡ spec.comma sign }
+{
+    match sign {
+        Sign::Comma => true,
+        _ => false,
+    }
+}
+
+fn opens_bracket(sign: Sign) -> bool
+    ensures { result ≡ spec.opens_bracket sign }
+{
+    match sign {
+        Sign::OpenBracket => true,
         _ => false,
     }
 }
@@ -104,6 +126,16 @@ fn unary(alloc: Global, at: Place, op: UnOp, x: Tall) -> Result<Tall, AllocError
     Ok((placed(at, kind), height + 1, at))
 }
 
+/// `old` of what follows it.
+fn old_value(alloc: Global, at: Place, x: Tall) -> Result<Tall, AllocError>
+    requires { x.1 < 2 ^ 31 }
+    ensures { IfOk result (λ y. y ≡ (grammar.placed at (ast.Old x.0), suc x.1, at)) }
+{
+    let (tree, height, _) = x;
+    let kind = ExprKind::Old(Boxed::new(alloc, tree)?);
+    Ok((placed(at, kind), height + 1, at))
+}
+
 /// A binary operator between two phrases. It stands where the first one begins.
 fn join(alloc: Global, op: BinOp, x: Tall, y: Tall) -> Result<Tall, AllocError>
     requires left { x.1 < 2 ^ 31 }
@@ -115,6 +147,56 @@ fn join(alloc: Global, op: BinOp, x: Tall, y: Tall) -> Result<Tall, AllocError>
     let height = left_height.max(right_height) + 1;
     let kind = ExprKind::Binary(op, Boxed::new(alloc, left)?, Boxed::new(alloc, right)?);
     Ok((placed(at, kind), height, at))
+}
+
+/// An index of a map. It stands where the map begins.
+fn select(alloc: Global, map: Tall, index: Tall) -> Result<Tall, AllocError>
+    requires left { map.1 < 2 ^ 31 }
+    requires right { index.1 < 2 ^ 31 }
+    ensures { IfOk result (λ x. x ≡ spec.select map index) }
+{
+    let (map, map_height, at) = map;
+    let (index, index_height, _) = index;
+    let height = map_height.max(index_height) + 1;
+    let kind = ExprKind::Select(Boxed::new(alloc, map)?, Boxed::new(alloc, index)?);
+    Ok((placed(at, kind), height, at))
+}
+
+/// A map with a value written to an index.
+fn store(alloc: Global, map: Tall, index: Tall, value: Tall) -> Result<Tall, AllocError>
+    requires left { map.1 < 2 ^ 31 }
+    requires middle { index.1 < 2 ^ 31 }
+    requires right { value.1 < 2 ^ 31 }
+    ensures { IfOk result (λ x. x ≡ spec.store map index value) }
+{
+    let (map, map_height, at) = map;
+    let (index, index_height, _) = index;
+    let (value, value_height, _) = value;
+    let height = map_height.max(index_height.max(value_height)) + 1;
+    let map = Boxed::new(alloc, map)?;
+    let index = Boxed::new(alloc, index)?;
+    let kind = ExprKind::Store(map, index, Boxed::new(alloc, value)?);
+    Ok((placed(at, kind), height, at))
+}
+
+/// The first expression of a group.
+fn first(alloc: Global, x: Tall) -> Result<Group, AllocError>
+    ensures { IfOk result (λ group. group ≡ (x.0 ∷ [], x.1)) }
+{
+    let (tree, height, _) = x;
+    let mut trees = Items::new(alloc);
+    trees.push(tree)?;
+    Ok((trees, height))
+}
+
+/// One expression more in a group.
+fn add(group: Group, x: Tall) -> Result<Group, AllocError>
+    ensures { IfOk result (λ more. more ≡ spec.add group x) }
+{
+    let (mut trees, highest) = group;
+    let (tree, height, _) = x;
+    trees.push(tree)?;
+    Ok((trees, highest.max(height)))
 }
 
 #[derive(Clone, Copy)]
@@ -148,6 +230,100 @@ impl<F: Fn(Global, &mut Cursor<'_>, u32, Level) -> Result<Tall, Fault>> Grammar<
         Ok((tree, height + 1, at))
     }
 
+    #[tactic(auto, unfolding(crate::specs::Reading::old))]
+    fn old(&self, tokens: &mut Cursor<'_>) -> Result<Tall, Fault>
+        requires nests { Nests self.now.depth (F.pre self.now.inner) (F.post self.now.inner) }
+        requires small { self.now.depth < 2 ^ 31 }
+        ensures { Reads (suc self.now.depth) (spec.old self.now.depth (spec.read self.now.depth) tokens.old) result tokens.new }
+    {
+        if self.depth == 0 {
+            return Err(Fault::Deep);
+        }
+        let at = tokens.skip()?;
+        tokens.want(Sign::Open)?;
+        let below = self.inner(tokens, Level::Whole)?;
+        tokens.want(Sign::Close)?;
+        Ok(old_value(self.alloc, at, below)?)
+    }
+
+    #[tactic(auto, unfolding(crate::specs::Reading::next_expression))]
+    fn next_expression(&self, tokens: &mut Cursor<'_>) -> Result<Tall, Fault>
+        requires nests { Nests self.now.depth (F.pre self.now.inner) (F.post self.now.inner) }
+        ensures { Reads self.now.depth (spec.next_expression self.now.depth (spec.read self.now.depth) tokens.old) result tokens.new }
+    {
+        tokens.skip()?;
+        self.inner(tokens, Level::Whole)
+    }
+
+    /// The expressions with a comma before each that follow those of `first`.
+    fn more_expressions(&self, tokens: &mut Cursor<'_>, first: Group) -> Result<Group, Fault>
+        requires nests { Nests self.now.depth (F.pre self.now.inner) (F.post self.now.inner) }
+        requires small { self.now.depth < 2 ^ 31 }
+        requires low { first.1 ≤ self.now.depth }
+        ensures { ReadsGroup self.now.depth (spec.more_expressions self.now.depth (spec.read self.now.depth) first tokens.old) result tokens.new }
+    {
+        let mut group = first;
+        for _turn in 0..tokens.turns() {
+            let goes_on = comma(tokens.peek());
+            if !goes_on {
+                return Ok(group);
+            }
+            let next = self.next_expression(tokens)?;
+            group = add(group, next)?;
+        }
+        Err(Fault::Syntax)
+    }
+
+    #[tactic(auto, unfolding(crate::specs::Reading::expressions))]
+    fn expressions(&self, tokens: &mut Cursor<'_>) -> Result<Group, Fault>
+        requires nests { Nests self.now.depth (F.pre self.now.inner) (F.post self.now.inner) }
+        requires small { self.now.depth < 2 ^ 31 }
+        ensures { ReadsGroup self.now.depth (spec.expressions self.now.depth (spec.read self.now.depth) tokens.old) result tokens.new }
+    {
+        let x = self.inner(tokens, Level::Whole)?;
+        let group = first(self.alloc, x)?;
+        self.more_expressions(tokens, group)
+    }
+
+    #[tactic(auto, unfolding(crate::specs::Reading::arguments))]
+    fn arguments(&self, tokens: &mut Cursor<'_>) -> Result<Group, Fault>
+        requires nests { Nests self.now.depth (F.pre self.now.inner) (F.post self.now.inner) }
+        requires small { self.now.depth < 2 ^ 31 }
+        ensures { ReadsGroup self.now.depth (spec.arguments self.now.depth (spec.read self.now.depth) tokens.old) result tokens.new }
+    {
+        match tokens.peek() {
+            Sign::Close => Ok((Items::new(self.alloc), 0)),
+            _ => self.expressions(tokens),
+        }
+    }
+
+    /// An application of the function of this name, from its parenthesis on.
+    #[tactic(auto, unfolding(crate::specs::Reading::application))]
+    fn application(&self, tokens: &mut Cursor<'_>, function: (Name, Place)) -> Result<Tall, Fault>
+        requires nests { Nests self.now.depth (F.pre self.now.inner) (F.post self.now.inner) }
+        requires small { self.now.depth < 2 ^ 31 }
+        ensures { Reads (suc self.now.depth) (spec.application self.now.depth (spec.read self.now.depth) function tokens.old) result tokens.new }
+    {
+        tokens.skip()?;
+        let (trees, height) = self.arguments(tokens)?;
+        tokens.want(Sign::Close)?;
+        let (name, at) = function;
+        Ok((placed(at, ExprKind::Apply(name, trees)), height + 1, at))
+    }
+
+    #[tactic(auto, unfolding(crate::specs::Reading::named))]
+    fn named(&self, tokens: &mut Cursor<'_>) -> Result<Tall, Fault>
+        requires nests { Nests self.now.depth (F.pre self.now.inner) (F.post self.now.inner) }
+        requires small { self.now.depth < 2 ^ 31 }
+        ensures { Reads (suc self.now.depth) (spec.named self.now.depth (spec.read self.now.depth) tokens.old) result tokens.new }
+    {
+        let (name, at) = tokens.name(self.alloc)?;
+        match tokens.peek() {
+            Sign::Open => self.application(tokens, (name, at)),
+            _ => Ok((placed(at, ExprKind::Var(name)), 1, at)),
+        }
+    }
+
     #[tactic(auto, unfolding(crate::specs::Reading::atom))]
     fn atom(&self, tokens: &mut Cursor<'_>) -> Result<Tall, Fault>
         requires nests { Nests self.now.depth (F.pre self.now.inner) (F.post self.now.inner) }
@@ -167,13 +343,78 @@ impl<F: Fn(Global, &mut Cursor<'_>, u32, Level) -> Result<Tall, Fault>> Grammar<
                 let at = tokens.skip()?;
                 Ok((placed(at, ExprKind::Truth(false)), 1, at))
             }
-            Sign::Name => {
-                let (name, at) = tokens.name(self.alloc)?;
-                Ok((placed(at, ExprKind::Var(name)), 1, at))
-            }
+            Sign::Name => self.named(tokens),
+            Sign::Old => self.old(tokens),
             Sign::Open => self.parenthesized(tokens),
             _ => Err(Fault::Syntax),
         }
+    }
+
+    /// After an index: a value and the bracket, or the bracket alone.
+    #[tactic(auto, unfolding(crate::specs::Reading::indexed))]
+    fn indexed(&self, tokens: &mut Cursor<'_>, map: Tall, index: Tall) -> Result<Tall, Fault>
+        requires nests { Nests self.now.depth (F.pre self.now.inner) (F.post self.now.inner) }
+        requires small { self.now.depth < 2 ^ 31 }
+        requires left { map.1 ≤ self.now.depth }
+        requires right { index.1 ≤ self.now.depth }
+        ensures { Reads (suc self.now.depth) (spec.indexed self.now.depth (spec.read self.now.depth) map index tokens.old) result tokens.new }
+    {
+        match tokens.peek() {
+            Sign::Becomes => {
+                tokens.skip()?;
+                let value = self.inner(tokens, Level::Whole)?;
+                tokens.want(Sign::CloseBracket)?;
+                Ok(store(self.alloc, map, index, value)?)
+            }
+            _ => {
+                tokens.want(Sign::CloseBracket)?;
+                Ok(select(self.alloc, map, index)?)
+            }
+        }
+    }
+
+    /// What stands in brackets after `map`.
+    #[tactic(auto, unfolding(crate::specs::Reading::bracket))]
+    fn bracket(&self, tokens: &mut Cursor<'_>, map: Tall) -> Result<Tall, Fault>
+        requires nests { Nests self.now.depth (F.pre self.now.inner) (F.post self.now.inner) }
+        requires small { self.now.depth < 2 ^ 31 }
+        requires low { map.1 ≤ suc self.now.depth }
+        ensures { Reads (suc self.now.depth) (spec.bracket self.now.depth (spec.read self.now.depth) map tokens.old) result tokens.new }
+    {
+        if map.1 > self.depth {
+            return Err(Fault::Deep);
+        }
+        tokens.skip()?;
+        let index = self.inner(tokens, Level::Whole)?;
+        self.indexed(tokens, map, index)
+    }
+
+    /// The brackets that follow `first`.
+    fn brackets(&self, tokens: &mut Cursor<'_>, first: Tall) -> Result<Tall, Fault>
+        requires nests { Nests self.now.depth (F.pre self.now.inner) (F.post self.now.inner) }
+        requires small { self.now.depth < 2 ^ 31 }
+        requires low { first.1 ≤ suc self.now.depth }
+        ensures { Reads (suc self.now.depth) (spec.brackets self.now.depth (spec.read self.now.depth) (suc self.now.depth) first tokens.old) result tokens.new }
+    {
+        let mut x = first;
+        for _turn in 0..self.depth + 1 {
+            let goes_on = opens_bracket(tokens.peek());
+            if !goes_on {
+                return Ok(x);
+            }
+            x = self.bracket(tokens, x)?;
+        }
+        Err(Fault::Deep)
+    }
+
+    #[tactic(auto, unfolding(crate::specs::Reading::postfix))]
+    fn postfix(&self, tokens: &mut Cursor<'_>) -> Result<Tall, Fault>
+        requires nests { Nests self.now.depth (F.pre self.now.inner) (F.post self.now.inner) }
+        requires small { self.now.depth < 2 ^ 31 }
+        ensures { Reads (suc self.now.depth) (spec.postfix self.now.depth (spec.read self.now.depth) tokens.old) result tokens.new }
+    {
+        let first = self.atom(tokens)?;
+        self.brackets(tokens, first)
     }
 
     #[tactic(auto, unfolding(crate::specs::Reading::prefixed))]
@@ -197,7 +438,7 @@ impl<F: Fn(Global, &mut Cursor<'_>, u32, Level) -> Result<Tall, Fault>> Grammar<
         ensures { Reads (suc self.now.depth) (spec.prefix self.now.depth (spec.read self.now.depth) tokens.old) result tokens.new }
     {
         match prefixes(tokens.peek()) {
-            None => self.atom(tokens),
+            None => self.postfix(tokens),
             Some(op) => self.prefixed(tokens, op),
         }
     }
@@ -359,6 +600,7 @@ impl<F: Fn(Global, &mut Cursor<'_>, u32, Level) -> Result<Tall, Fault>> Grammar<
             Level::Sum => self.sum(tokens),
             Level::Product => self.product(tokens),
             Level::Prefix => self.prefix(tokens),
+            Level::Postfix => self.postfix(tokens),
             Level::Atom => self.atom(tokens),
         }
     }

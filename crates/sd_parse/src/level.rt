@@ -12,5 +12,6 @@ pub enum Level {
     Sum,
     Product,
     Prefix,
+    Postfix,
     Atom,
 }

@@ -1,15 +1,26 @@
 //! The reader: from the bytes of a text to its tree. The grammar is after Boogie 2 (Leino 2008).
 #![tactic(auto)]
 
+mod assignment;
+mod attribute;
+mod clause;
+mod count;
 mod cursor;
 mod expression;
+mod function;
 pub mod laws;
 mod level;
+mod loops;
+mod names;
+mod procedure;
 mod program;
 mod sign;
 mod statement;
 #[cfg(test)]
 mod tests;
 mod text;
+mod types;
+mod values;
+mod variables;
 
 pub use text::{ReadError, read_program};

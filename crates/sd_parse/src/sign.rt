@@ -42,12 +42,38 @@ pub enum Sign {
     CloseBrace,
     Colon,
     Semi,
+    OpenBracket,
+    CloseBracket,
+    /// `{:`, which begins an attribute.
+    OpenAttribute,
+    /// `=`, which the grammar has nowhere.
+    Same,
+    /// A text between quotes.
+    Text,
+    Type,
+    Const,
+    Unique,
+    Function,
+    Returns,
+    Axiom,
+    Implementation,
+    Modifies,
+    Requires,
+    Ensures,
+    Free,
+    Invariant,
+    Assume,
+    Call,
+    While,
+    Break,
+    Old,
+    Int,
     /// Any other token, or the end of the text.
     Other,
 }
 
 /// The words that the grammar has.
-pub const WORDS: [(&[u8], Sign); 9] = [
+pub const WORDS: [(&[u8], Sign); 27] = [
     (b"true", Sign::True),
     (b"false", Sign::False),
     (b"assert", Sign::Assert),
@@ -57,10 +83,28 @@ pub const WORDS: [(&[u8], Sign); 9] = [
     (b"procedure", Sign::Procedure),
     (b"var", Sign::Var),
     (b"bool", Sign::Bool),
+    (b"type", Sign::Type),
+    (b"const", Sign::Const),
+    (b"unique", Sign::Unique),
+    (b"function", Sign::Function),
+    (b"returns", Sign::Returns),
+    (b"axiom", Sign::Axiom),
+    (b"implementation", Sign::Implementation),
+    (b"modifies", Sign::Modifies),
+    (b"requires", Sign::Requires),
+    (b"ensures", Sign::Ensures),
+    (b"free", Sign::Free),
+    (b"invariant", Sign::Invariant),
+    (b"assume", Sign::Assume),
+    (b"call", Sign::Call),
+    (b"while", Sign::While),
+    (b"break", Sign::Break),
+    (b"old", Sign::Old),
+    (b"int", Sign::Int),
 ];
 
 /// The symbols that the grammar has.
-pub const SYMBOLS: [(&[u8], Sign); 23] = [
+pub const SYMBOLS: [(&[u8], Sign); 27] = [
     (b";", Sign::Semi),
     (b":=", Sign::Becomes),
     (b"(", Sign::Open),
@@ -84,6 +128,10 @@ pub const SYMBOLS: [(&[u8], Sign); 23] = [
     (b"+", Sign::Plus),
     (b"-", Sign::Minus),
     (b"*", Sign::Star),
+    (b"[", Sign::OpenBracket),
+    (b"]", Sign::CloseBracket),
+    (b"{:", Sign::OpenAttribute),
+    (b"=", Sign::Same),
 ];
 
 /// The sign of the entry with this text.
@@ -109,7 +157,7 @@ pub fn token_sign(token: &Token) -> Sign
         TokenKind::Symbol(symbol) => sign_in(&SYMBOLS, symbol),
         TokenKind::Ident(_) => Sign::Name,
         TokenKind::Number(_) => Sign::Number,
-        TokenKind::Text(_) => Sign::Other,
+        TokenKind::Text(_) => Sign::Text,
     }
 }
 

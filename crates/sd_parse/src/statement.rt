@@ -1,24 +1,34 @@
 //! The rules for statements. They take the reader of the statements below as a parameter, so that each is proved by itself.
-ghost use Rattle.std.specs.Prelude.{◌≡◌, ◌<◌, ◌^◌, ◌∷◌, [], IfOk};
+ghost use Rattle.std.specs.Prelude.{◌≡◌, ◌<◌, ◌^◌};
 ghost use Rattle.sd_parse.specs.Statements as grammar;
 ghost use Rattle.sd_parse.specs.ReadingStatements as spec;
 ghost use Rattle.sd_parse.specs.ReadingStatements.{NestsStatements};
 ghost use Rattle.sd_parse.specs.Reading.{Gives};
 
+use crate::assignment::{left, more_lefts};
+use crate::attribute::{attributes, claim, expression};
 use crate::cursor::{Cursor, Fault};
-use crate::expression::read;
-use crate::level::Level;
+use crate::loops::invariants;
+use crate::names::{more_names, single};
 use crate::sign::Sign;
-use sd_ast::{Expr, Left, Stmt, StmtKind};
+use crate::values::{arguments, values};
+use sd_ast::{Expr, Stmt, StmtKind};
 use sd_base::{Name, Place};
 use sqlite_items::Items;
-use std::alloc::{AllocError, Global};
+use std::alloc::Global;
 
 fn begins_statement(sign: Sign) -> bool
     ensures { result ≡ spec.begins_statement sign }
 {
     match sign {
-        Sign::Assert | Sign::Name | Sign::If | Sign::Return => true,
+        Sign::Assert
+        | Sign::Assume
+        | Sign::Name
+        | Sign::Call
+        | Sign::If
+        | Sign::While
+        | Sign::Break
+        | Sign::Return => true,
         _ => false,
     }
 }
@@ -29,86 +39,135 @@ fn stated(at: Place, kind: StmtKind) -> Stmt
     Stmt { at, kind }
 }
 
-/// The assignment of an expression to a variable.
-fn assign(alloc: Global, name: Name, value: Expr) -> Result<StmtKind, AllocError>
-    ensures { IfOk result (λ k. k ≡ grammar.assign name value) }
-{
-    let mut lefts = Items::new(alloc);
-    lefts.push(Left {
-        name,
-        indices: Items::new(alloc),
-    })?;
-    let mut values = Items::new(alloc);
-    values.push(value)?;
-    Ok(StmtKind::Assign(lefts, values))
-}
-
-/// A list of this statement alone.
-fn single(alloc: Global, stmt: Stmt) -> Result<Items<Stmt>, AllocError>
-    ensures { IfOk result (λ list. list ≡ stmt ∷ []) }
-{
-    let mut list = Items::new(alloc);
-    list.push(stmt)?;
-    Ok(list)
-}
-
 #[derive(Clone, Copy)]
 pub struct Nested<F> {
     alloc: Global,
+    /// How high the expressions of attributes may be.
+    limit: u32,
     /// How high the expressions and statements below may be.
     depth: u32,
     inner: F,
 }
 
-impl<F: Fn(Global, &mut Cursor<'_>, u32) -> Result<Stmt, Fault>> Nested<F> {
+impl<F: Fn(Global, &mut Cursor<'_>, u32, u32) -> Result<Stmt, Fault>> Nested<F> {
     fn inner(&self, tokens: &mut Cursor<'_>) -> Result<Stmt, Fault>
-        requires { NestsStatements self.now.depth (F.pre self.now.inner) (F.post self.now.inner) }
-        ensures { Gives (spec.statement self.now.depth tokens.old) result tokens.new }
+        requires { NestsStatements self.now.limit self.now.depth (F.pre self.now.inner) (F.post self.now.inner) }
+        ensures { Gives (spec.statement self.now.limit self.now.depth tokens.old) result tokens.new }
     {
-        (self.inner)(self.alloc, tokens, self.depth)
+        (self.inner)(self.alloc, tokens, self.limit, self.depth)
     }
 
     #[tactic(auto, unfolding(crate::specs::ReadingStatements::asserted))]
     fn asserted(&self, tokens: &mut Cursor<'_>) -> Result<Stmt, Fault>
-        requires { self.now.depth < 2 ^ 31 }
-        ensures { Gives (spec.asserted self.now.depth (spec.statement self.now.depth) tokens.old) result tokens.new }
+        requires low { self.now.limit < 2 ^ 31 }
+        requires small { self.now.depth < 2 ^ 31 }
+        ensures { Gives (spec.asserted self.now.limit self.now.depth (spec.statement self.now.limit self.now.depth) tokens.old) result tokens.new }
     {
         if self.depth == 0 {
             return Err(Fault::Deep);
         }
-        let at = tokens.skip()?;
-        let (condition, _, _) = read(self.alloc, tokens, self.depth, Level::Whole)?;
-        tokens.want(Sign::Semi)?;
-        Ok(stated(at, StmtKind::Assert(condition)))
+        let (at, claimed) = claim(self.alloc, tokens, self.limit, self.depth, Sign::Assert)?;
+        Ok(stated(at, StmtKind::Assert(claimed)))
+    }
+
+    #[tactic(auto, unfolding(crate::specs::ReadingStatements::assumed))]
+    fn assumed(&self, tokens: &mut Cursor<'_>) -> Result<Stmt, Fault>
+        requires low { self.now.limit < 2 ^ 31 }
+        requires small { self.now.depth < 2 ^ 31 }
+        ensures { Gives (spec.assumed self.now.limit self.now.depth (spec.statement self.now.limit self.now.depth) tokens.old) result tokens.new }
+    {
+        if self.depth == 0 {
+            return Err(Fault::Deep);
+        }
+        let (at, claimed) = claim(self.alloc, tokens, self.limit, self.depth, Sign::Assume)?;
+        Ok(stated(at, StmtKind::Assume(claimed)))
     }
 
     #[tactic(auto, unfolding(crate::specs::ReadingStatements::assigned))]
     fn assigned(&self, tokens: &mut Cursor<'_>) -> Result<Stmt, Fault>
         requires { self.now.depth < 2 ^ 31 }
-        ensures { Gives (spec.assigned self.now.depth (spec.statement self.now.depth) tokens.old) result tokens.new }
+        ensures { Gives (spec.assigned self.now.limit self.now.depth (spec.statement self.now.limit self.now.depth) tokens.old) result tokens.new }
     {
         if self.depth == 0 {
             return Err(Fault::Deep);
         }
-        let (name, at) = tokens.name(self.alloc)?;
+        let (first, at) = left(self.alloc, tokens, self.depth)?;
+        let first = single(self.alloc, first)?;
+        let lefts = more_lefts(self.alloc, tokens, self.depth, first)?;
         tokens.want(Sign::Becomes)?;
-        let (value, _, _) = read(self.alloc, tokens, self.depth, Level::Whole)?;
+        let values = values(self.alloc, tokens, self.depth)?;
         tokens.want(Sign::Semi)?;
-        Ok(stated(at, assign(self.alloc, name, value)?))
+        Ok(stated(at, StmtKind::Assign(lefts, values)))
     }
 
-    #[tactic(auto, unfolding(crate::specs::ReadingStatements::returned))]
-    fn returned(&self, tokens: &mut Cursor<'_>) -> Result<Stmt, Fault>
-        ensures { Gives (spec.returned self.now.depth (spec.statement self.now.depth) tokens.old) result tokens.new }
+    /// A call with these receivers, from its procedure's name on.
+    #[tactic(auto, unfolding(crate::specs::ReadingStatements::applied))]
+    fn applied(
+        &self,
+        tokens: &mut Cursor<'_>,
+        at: Place,
+        receivers: Items<Name>,
+    ) -> Result<Stmt, Fault>
+        requires { self.now.depth < 2 ^ 31 }
+        ensures { Gives (spec.applied self.now.limit self.now.depth (spec.statement self.now.limit self.now.depth) at receivers tokens.old) result tokens.new }
+    {
+        let (callee, _) = tokens.name(self.alloc)?;
+        let arguments = arguments(self.alloc, tokens, self.depth)?;
+        tokens.want(Sign::Semi)?;
+        Ok(stated(at, StmtKind::Call(receivers, callee, arguments)))
+    }
+
+    /// A call without receivers, from its parenthesis on.
+    #[tactic(auto, unfolding(crate::specs::ReadingStatements::applied_to))]
+    fn applied_to(&self, tokens: &mut Cursor<'_>, at: Place, callee: Name) -> Result<Stmt, Fault>
+        requires { self.now.depth < 2 ^ 31 }
+        ensures { Gives (spec.applied_to self.now.limit self.now.depth (spec.statement self.now.limit self.now.depth) at callee tokens.old) result tokens.new }
+    {
+        let arguments = arguments(self.alloc, tokens, self.depth)?;
+        tokens.want(Sign::Semi)?;
+        let receivers = Items::new(self.alloc);
+        Ok(stated(at, StmtKind::Call(receivers, callee, arguments)))
+    }
+
+    /// A call whose first receiver was read.
+    #[tactic(auto, unfolding(crate::specs::ReadingStatements::received))]
+    fn received(&self, tokens: &mut Cursor<'_>, at: Place, first: Name) -> Result<Stmt, Fault>
+        requires { self.now.depth < 2 ^ 31 }
+        ensures { Gives (spec.received self.now.limit self.now.depth (spec.statement self.now.limit self.now.depth) at first tokens.old) result tokens.new }
+    {
+        let first = single(self.alloc, first)?;
+        let receivers = more_names(self.alloc, tokens, first)?;
+        tokens.want(Sign::Becomes)?;
+        self.applied(tokens, at, receivers)
+    }
+
+    /// A call whose first name was read.
+    #[tactic(auto, unfolding(crate::specs::ReadingStatements::call_from))]
+    fn call_from(&self, tokens: &mut Cursor<'_>, at: Place, first: Name) -> Result<Stmt, Fault>
+        requires { self.now.depth < 2 ^ 31 }
+        ensures { Gives (spec.call_from self.now.limit self.now.depth (spec.statement self.now.limit self.now.depth) at first tokens.old) result tokens.new }
+    {
+        match tokens.peek() {
+            Sign::Comma | Sign::Becomes => self.received(tokens, at, first),
+            _ => self.applied_to(tokens, at, first),
+        }
+    }
+
+    #[tactic(auto, unfolding(crate::specs::ReadingStatements::called))]
+    fn called(&self, tokens: &mut Cursor<'_>) -> Result<Stmt, Fault>
+        requires low { self.now.limit < 2 ^ 31 }
+        requires small { self.now.depth < 2 ^ 31 }
+        ensures { Gives (spec.called self.now.limit self.now.depth (spec.statement self.now.limit self.now.depth) tokens.old) result tokens.new }
     {
         let at = tokens.skip()?;
-        tokens.want(Sign::Semi)?;
-        Ok(stated(at, StmtKind::Return))
+        attributes(self.alloc, tokens, self.limit)?;
+        let (first, _) = tokens.name(self.alloc)?;
+        self.call_from(tokens, at, first)
     }
 
     fn statements(&self, tokens: &mut Cursor<'_>) -> Result<Items<Stmt>, Fault>
-        requires { NestsStatements self.now.depth (F.pre self.now.inner) (F.post self.now.inner) }
-        ensures { Gives (spec.statements self.now.depth (spec.statement self.now.depth) tokens.old) result tokens.new }
+        requires { NestsStatements self.now.limit self.now.depth (F.pre self.now.inner) (F.post self.now.inner) }
+        ensures { Gives (spec.statements self.now.limit self.now.depth (spec.statement self.now.limit self.now.depth) tokens.old) result tokens.new }
     {
         let mut found = Items::new(self.alloc);
         for _turn in 0..tokens.turns() {
@@ -124,8 +183,8 @@ impl<F: Fn(Global, &mut Cursor<'_>, u32) -> Result<Stmt, Fault>> Nested<F> {
 
     #[tactic(auto, unfolding(crate::specs::ReadingStatements::block))]
     fn block(&self, tokens: &mut Cursor<'_>) -> Result<Items<Stmt>, Fault>
-        requires { NestsStatements self.now.depth (F.pre self.now.inner) (F.post self.now.inner) }
-        ensures { Gives (spec.block self.now.depth (spec.statement self.now.depth) tokens.old) result tokens.new }
+        requires { NestsStatements self.now.limit self.now.depth (F.pre self.now.inner) (F.post self.now.inner) }
+        ensures { Gives (spec.block self.now.limit self.now.depth (spec.statement self.now.limit self.now.depth) tokens.old) result tokens.new }
     {
         tokens.want(Sign::OpenBrace)?;
         let found = self.statements(tokens)?;
@@ -136,8 +195,8 @@ impl<F: Fn(Global, &mut Cursor<'_>, u32) -> Result<Stmt, Fault>> Nested<F> {
     /// What stands after `else`.
     #[tactic(auto, unfolding(crate::specs::ReadingStatements::branch))]
     fn branch(&self, tokens: &mut Cursor<'_>) -> Result<Items<Stmt>, Fault>
-        requires { NestsStatements self.now.depth (F.pre self.now.inner) (F.post self.now.inner) }
-        ensures { Gives (spec.branch self.now.depth (spec.statement self.now.depth) tokens.old) result tokens.new }
+        requires { NestsStatements self.now.limit self.now.depth (F.pre self.now.inner) (F.post self.now.inner) }
+        ensures { Gives (spec.branch self.now.limit self.now.depth (spec.statement self.now.limit self.now.depth) tokens.old) result tokens.new }
     {
         match tokens.peek() {
             Sign::If => {
@@ -150,8 +209,8 @@ impl<F: Fn(Global, &mut Cursor<'_>, u32) -> Result<Stmt, Fault>> Nested<F> {
 
     #[tactic(auto, unfolding(crate::specs::ReadingStatements::otherwise))]
     fn otherwise(&self, tokens: &mut Cursor<'_>) -> Result<Items<Stmt>, Fault>
-        requires { NestsStatements self.now.depth (F.pre self.now.inner) (F.post self.now.inner) }
-        ensures { Gives (spec.otherwise self.now.depth (spec.statement self.now.depth) tokens.old) result tokens.new }
+        requires { NestsStatements self.now.limit self.now.depth (F.pre self.now.inner) (F.post self.now.inner) }
+        ensures { Gives (spec.otherwise self.now.limit self.now.depth (spec.statement self.now.limit self.now.depth) tokens.old) result tokens.new }
     {
         match tokens.peek() {
             Sign::Else => {
@@ -162,34 +221,83 @@ impl<F: Fn(Global, &mut Cursor<'_>, u32) -> Result<Stmt, Fault>> Nested<F> {
         }
     }
 
+    /// An expression in parentheses after a word, with the word's place.
+    #[tactic(auto, unfolding(crate::specs::ReadingStatements::guard))]
+    fn guard(&self, tokens: &mut Cursor<'_>) -> Result<(Place, Expr), Fault>
+        requires { self.now.depth < 2 ^ 31 }
+        ensures { Gives (spec.guard self.now.limit self.now.depth (spec.statement self.now.limit self.now.depth) tokens.old) result tokens.new }
+    {
+        let at = tokens.skip()?;
+        tokens.want(Sign::Open)?;
+        let condition = expression(self.alloc, tokens, self.depth)?;
+        tokens.want(Sign::Close)?;
+        Ok((at, condition))
+    }
+
     #[tactic(auto, unfolding(crate::specs::ReadingStatements::conditional))]
     fn conditional(&self, tokens: &mut Cursor<'_>) -> Result<Stmt, Fault>
-        requires nests { NestsStatements self.now.depth (F.pre self.now.inner) (F.post self.now.inner) }
+        requires nests { NestsStatements self.now.limit self.now.depth (F.pre self.now.inner) (F.post self.now.inner) }
         requires small { self.now.depth < 2 ^ 31 }
-        ensures { Gives (spec.conditional self.now.depth (spec.statement self.now.depth) tokens.old) result tokens.new }
+        ensures { Gives (spec.conditional self.now.limit self.now.depth (spec.statement self.now.limit self.now.depth) tokens.old) result tokens.new }
     {
         if self.depth == 0 {
             return Err(Fault::Deep);
         }
-        let at = tokens.skip()?;
-        tokens.want(Sign::Open)?;
-        let (condition, _, _) = read(self.alloc, tokens, self.depth, Level::Whole)?;
-        tokens.want(Sign::Close)?;
+        let (at, condition) = self.guard(tokens)?;
         let first = self.block(tokens)?;
         let second = self.otherwise(tokens)?;
         Ok(stated(at, StmtKind::If(condition, first, second)))
     }
 
+    #[tactic(auto, unfolding(crate::specs::ReadingStatements::looped))]
+    fn looped(&self, tokens: &mut Cursor<'_>) -> Result<Stmt, Fault>
+        requires nests { NestsStatements self.now.limit self.now.depth (F.pre self.now.inner) (F.post self.now.inner) }
+        requires low { self.now.limit < 2 ^ 31 }
+        requires small { self.now.depth < 2 ^ 31 }
+        ensures { Gives (spec.looped self.now.limit self.now.depth (spec.statement self.now.limit self.now.depth) tokens.old) result tokens.new }
+    {
+        if self.depth == 0 {
+            return Err(Fault::Deep);
+        }
+        let (at, condition) = self.guard(tokens)?;
+        let invariants = invariants(self.alloc, tokens, self.limit, self.depth)?;
+        let turn = self.block(tokens)?;
+        Ok(stated(at, StmtKind::While(condition, invariants, turn)))
+    }
+
+    #[tactic(auto, unfolding(crate::specs::ReadingStatements::broken))]
+    fn broken(&self, tokens: &mut Cursor<'_>) -> Result<Stmt, Fault>
+        ensures { Gives (spec.broken self.now.limit self.now.depth (spec.statement self.now.limit self.now.depth) tokens.old) result tokens.new }
+    {
+        let at = tokens.skip()?;
+        tokens.want(Sign::Semi)?;
+        Ok(stated(at, StmtKind::Break))
+    }
+
+    #[tactic(auto, unfolding(crate::specs::ReadingStatements::returned))]
+    fn returned(&self, tokens: &mut Cursor<'_>) -> Result<Stmt, Fault>
+        ensures { Gives (spec.returned self.now.limit self.now.depth (spec.statement self.now.limit self.now.depth) tokens.old) result tokens.new }
+    {
+        let at = tokens.skip()?;
+        tokens.want(Sign::Semi)?;
+        Ok(stated(at, StmtKind::Return))
+    }
+
     #[tactic(auto, unfolding(crate::specs::ReadingStatements::statement_layer))]
     fn layer(&self, tokens: &mut Cursor<'_>) -> Result<Stmt, Fault>
-        requires nests { NestsStatements self.now.depth (F.pre self.now.inner) (F.post self.now.inner) }
+        requires nests { NestsStatements self.now.limit self.now.depth (F.pre self.now.inner) (F.post self.now.inner) }
+        requires low { self.now.limit < 2 ^ 31 }
         requires small { self.now.depth < 2 ^ 31 }
-        ensures { Gives (spec.statement_layer self.now.depth (spec.statement self.now.depth) tokens.old) result tokens.new }
+        ensures { Gives (spec.statement_layer self.now.limit self.now.depth (spec.statement self.now.limit self.now.depth) tokens.old) result tokens.new }
     {
         match tokens.peek() {
             Sign::Assert => self.asserted(tokens),
+            Sign::Assume => self.assumed(tokens),
             Sign::Name => self.assigned(tokens),
+            Sign::Call => self.called(tokens),
             Sign::If => self.conditional(tokens),
+            Sign::While => self.looped(tokens),
+            Sign::Break => self.broken(tokens),
             Sign::Return => self.returned(tokens),
             _ => Err(Fault::Syntax),
         }
@@ -198,8 +306,8 @@ impl<F: Fn(Global, &mut Cursor<'_>, u32) -> Result<Stmt, Fault>> Nested<F> {
 
 /// No statement has height 0.
 #[tactic(auto, unfolding(crate::specs::ReadingStatements::statement))]
-pub fn none(tokens: &mut Cursor<'_>) -> Result<Stmt, Fault>
-    ensures { Gives (spec.statement 0 tokens.old) result tokens.new }
+pub fn none(tokens: &mut Cursor<'_>, limit: u32) -> Result<Stmt, Fault>
+    ensures { Gives (spec.statement limit 0 tokens.old) result tokens.new }
 {
     if begins_statement(tokens.peek()) {
         Err(Fault::Deep)
@@ -208,30 +316,38 @@ pub fn none(tokens: &mut Cursor<'_>) -> Result<Stmt, Fault>
     }
 }
 
-/// The statement of this height at most that the tokens begin with.
-pub fn statement(alloc: Global, tokens: &mut Cursor<'_>, depth: u32) -> Result<Stmt, Fault>
-    requires { depth < 2 ^ 31 }
-    ensures { Gives (spec.statement depth tokens.old) result tokens.new }
+/// The statement of the height `depth` at most that the tokens begin with. No expression in its attributes is higher than `limit`.
+pub fn statement(
+    alloc: Global,
+    tokens: &mut Cursor<'_>,
+    limit: u32,
+    depth: u32,
+) -> Result<Stmt, Fault>
+    requires low { limit < 2 ^ 31 }
+    requires small { depth < 2 ^ 31 }
+    ensures { Gives (spec.statement limit depth tokens.old) result tokens.new }
 {
     if depth == 0 {
-        return none(tokens);
+        return none(tokens, limit);
     }
     Nested {
         alloc,
+        limit,
         depth: depth - 1,
         inner: statement,
     }
     .layer(tokens)
 }
 
-/// The statements of this height at most that the tokens begin with, as many as there are.
-pub fn statements(alloc: Global, tokens: &mut Cursor<'_>, depth: u32) -> Result<Items<Stmt>, Fault>
-    requires { depth < 2 ^ 31 }
-    ensures { Gives (spec.statements depth (spec.statement depth) tokens.old) result tokens.new }
+/// The statements of the height `limit` at most that the tokens begin with, as many as there are.
+pub fn statements(alloc: Global, tokens: &mut Cursor<'_>, limit: u32) -> Result<Items<Stmt>, Fault>
+    requires { limit < 2 ^ 31 }
+    ensures { Gives (spec.statements limit limit (spec.statement limit limit) tokens.old) result tokens.new }
 {
     Nested {
         alloc,
-        depth,
+        limit,
+        depth: limit,
         inner: statement,
     }
     .statements(tokens)

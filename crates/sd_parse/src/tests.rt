@@ -1,9 +1,15 @@
+use crate::cursor::Cursor;
+use crate::program::program;
 use crate::{ReadError, read_program};
+use sd_lex::tokens;
 use std::test::Fail;
 
 #[test]
 fn reads_a_program(rt: HostRuntime) -> Result<(), Fail> {
-    let program = read_program(rt.alloc(), b"procedure p(b: bool) { assert b; }")?;
+    let program = read_program(
+        rt.alloc(),
+        b"procedure p(b: bool) { assert /* a comment */ b; } // the end",
+    )?;
     assert_eq!(rt; program.decls.len(), 1);
     Ok(())
 }
@@ -23,15 +29,43 @@ fn reads_every_form(rt: HostRuntime) -> Result<(), Fail> {
 }
 
 #[test]
+fn reads_the_whole_grammar(rt: HostRuntime) -> Result<(), Fail> {
+    let text = b"type {:builtin \"map\", 1} Name, Other;
+    const {:a} unique c, d: Name; const e: [int][bool]Name;
+    const {:x} unique u: int;
+    function f(x: int, Name, y: [int]int) returns (r: bool);
+    function {:inline} g(): int;
+    axiom {:weight 1 + 2} x < 3;
+    var {:v} m, n: [int]int, k: int;
+    procedure {:p} declared(x: int) returns (y: int, z: bool);
+        modifies m, n; modifies;
+        requires x > 0; free requires {:r} x < 9; ensures y == x; free ensures z;
+    procedure p(x: int) returns () modifies k; {
+        var {:l} i, j: int; var b: bool;
+        m[i][j], k := x, i + 1;
+        call {:c} i, b := declared(i); call i := q(); call q(i, j + 1);
+        assert {:s} i <= j; assume b;
+        while (i < j) invariant i <= j; free invariant {:t} b; { break; }
+        if (b) { return; } else if (i == j) { } else { k := 0; }
+    }
+    implementation {:q} declared(x: int) returns (y: int, z: bool) { y := x; }";
+    let found = tokens(rt.alloc(), text)?;
+    let mut cursor = Cursor::new(found.as_slice());
+    let read = program(rt.alloc(), &mut cursor, 200).map(|decls| decls.len());
+    assert!(rt; read == Ok(11));
+    Ok(())
+}
+
+#[test]
 fn refuses(rt: HostRuntime) {
     let texts: [&[u8]; 12] = [
         b"procedure p() { assert 1 < 2; }",
         b"procedure p(a, b, c: bool) { assert a && b || c; }",
-        b"procedure p() { } // end",
+        b"procedure p() { } procedure p() { } // end",
         b"procedure p() { assert a; }",
         b"procedure p(a: bool) { a := true; }",
         b"procedure p(a: bool, a: bool) { }",
-        b"procedure p() { } procedure p() { }",
+        b"procedure p() { } procedure p() { } procedure q() { }",
         b"procedure p(a: int) { }",
         b"procedure p() { assert true }",
         b"procedure p();",

@@ -1,11 +1,12 @@
 //! From the bytes of a text to its program.
-ghost use Rattle.std.specs.Prelude.{◌≡◌, ◌↔◌, ◌≤◌, IsTrue, IfOk, MatchOption, Contains, length};
+ghost use Rattle.std.specs.Prelude.{◌≡◌, ◌↔◌, IsTrue, IfOk, MatchOption};
 ghost use Rattle.sd_ast.specs.declared.Program.{Program as Tree};
 ghost use Rattle.sd_lex.specs.declared.LexError.TheVariants as lexical;
 ghost use Rattle.sd_lex.specs.Tokens as lex;
 ghost use Rattle.sd_parse.specs.Programs.{Spells};
 ghost use Rattle.sd_parse.specs.Text.{IsRead, HasTokens, IsSpelled};
 
+use crate::count::procedures;
 use crate::cursor::{Cursor, Fault};
 use crate::program::program;
 use sd_ast::Program;
@@ -21,7 +22,7 @@ use thiserror::Error;
 pub enum ReadError {
     #[error("out of memory")]
     NoMemory,
-    /// The text isn't a well-typed program over truth values, has a comment, or is beyond a limit: 16777216 bytes, height 200, 4096 procedures.
+    /// The text isn't a well-typed program over truth values, or is beyond a limit: 16777216 bytes, height 200, 4096 procedures and implementations.
     #[error("not a program over truth values")]
     NotYet,
 }
@@ -35,13 +36,6 @@ impl From<NoMemory> for ReadError {
     fn from(_: NoMemory) -> ReadError {
         ReadError::NoMemory
     }
-}
-
-/// Whether the text is short enough and has no slash, and so no comment.
-fn is_plain(bytes: &[u8]) -> bool
-    ensures { IsTrue result ↔ ((length bytes.now ≤ 16777216) × (Contains bytes.now 47 → ⊥)) }
-{
-    bytes.len() <= TEXT_BYTES && !bytes.contains(&b'/')
 }
 
 fn is_no_memory(error: &LexError) -> bool
@@ -86,8 +80,7 @@ pub fn read_program(alloc: Global, bytes: &[u8]) -> Result<Program, ReadError>
     ensures read { IfOk result (λ p. IsRead bytes.now p) }
     ensures not_yet { result ≡ Err ReadError.NotYet → (p : Tree) → IsRead bytes.now p → ⊥ }
 {
-    let plain = is_plain(bytes);
-    if !plain {
+    if bytes.len() > TEXT_BYTES {
         return Err(ReadError::NotYet);
     }
     let Some(tokens) = tokens_of(alloc, bytes)? else {
@@ -96,7 +89,7 @@ pub fn read_program(alloc: Global, bytes: &[u8]) -> Result<Program, ReadError>
     let Some(program) = program_of(alloc, tokens.as_slice())? else {
         return Err(ReadError::NotYet);
     };
-    if program.decls.len() > PROCEDURES {
+    if procedures(program.decls.as_slice()) > PROCEDURES {
         return Err(ReadError::NotYet);
     }
     let typed = is_boolean_program(alloc, &program)?;

@@ -1,34 +1,33 @@
-use Rattle.std.proofs.Common.{◌≡◌, ◌-◌, true, false, sym, ap, ◌∙◌, [], rules, arith}
+use Rattle.std.proofs.Common.{◌≡◌, ◌-◌, true, false, [], sym, ap, ◌∙◌, rules, arith}
 use Rattle.std.proofs.lemmas.Grind.{common_steps}
-use Rattle.sd_parse.specs.declared.sign.Sign.TheVariants as s
-use Rattle.sd_parse.specs.Signs.{same_sign}
 use Rattle.sd_parse.specs.Reading.{sign_of, ahead, many}
-use Rattle.sd_parse.specs.ReadingStatements.{is_procedure, declaration, declarations, push}
+use Rattle.sd_parse.specs.ReadingRows.{push}
+use Rattle.sd_parse.specs.ReadingPrograms.{begins_declaration, declaration, declarations}
 use Rattle.sd_parse.proofs.Many.{starts, ends, goes_on, next, runs_out}
 use Rattle.sd_parse.proofs.program.declarations.Goals as goal
 
 pub loop-turn-init : goal.loop-turn-init
 unfolding declarations
 loop-turn-init c =
-    starts is_procedure (declaration c.args.depth) push [] c.args.tokens.now c.turns-turn-end.result c.turns-turn-end.ensures
-    ∙ ap (λ acc. many is_procedure (declaration c.args.depth) push (c.turns-turn-end.result - 0) acc c.args.tokens.now) (sym c.new-decls.ensures)
+    starts begins_declaration (declaration c.args.limit) push [] c.args.tokens.now c.turns-turn-end.result c.turns-turn-end.ensures
+    ∙ ap (λ acc. many begins_declaration (declaration c.args.limit) push (c.turns-turn-end.result - 0) acc c.args.tokens.now) (sym c.new-decls.ensures)
 
-pub returns-then-not-goes_on : goal.returns-then-not-goes_on
-returns-then-not-goes_on c =
-    let e : is_procedure (sign_of (ahead c.loop-turn.tokens)) ≡ false = ap (λ x. same_sign x s.Procedure) (sym c.peek.ensures) ∙ sym c.same_sign-goes_on.ensures ∙ c.if-not-goes_on.true in
-    ends is_procedure (declaration c.args.depth) push (declarations c.args.depth c.args.tokens.now) c.turns-turn-end.result c.loop-turn._turn c.loop-turn.decls c.loop-turn.tokens c.loop-turn.invariant c.loop-turn-test.true e
+pub returns-then-not-begins : goal.returns-then-not-begins
+returns-then-not-begins c =
+    let e : begins_declaration (sign_of (ahead c.loop-turn.tokens)) ≡ false = ap begins_declaration (sym c.peek.ensures) ∙ sym c.begins_declaration-begins.ensures ∙ c.if-not-begins.true in
+    ends begins_declaration (declaration c.args.limit) push (declarations c.args.limit c.args.tokens.now) c.turns-turn-end.result c.loop-turn._turn c.loop-turn.decls c.loop-turn.tokens c.loop-turn.invariant c.loop-turn-test.true e
 
 pub returns-in_err-next : goal.returns-in_err-next
 returns-in_err-next c =
-    let e : is_procedure (sign_of (ahead c.loop-turn.tokens)) ≡ true = ap (λ x. same_sign x s.Procedure) (sym c.peek.ensures) ∙ sym c.same_sign-goes_on.ensures ∙ c.if-not-goes_on.false in
-    let turn = goes_on is_procedure (declaration c.args.depth) push (declarations c.args.depth c.args.tokens.now) c.turns-turn-end.result c.loop-turn._turn c.loop-turn.decls c.loop-turn.tokens c.loop-turn.invariant c.loop-turn-test.true e in
+    let e : begins_declaration (sign_of (ahead c.loop-turn.tokens)) ≡ true = ap begins_declaration (sym c.peek.ensures) ∙ sym c.begins_declaration-begins.ensures ∙ c.if-not-begins.false in
+    let turn = goes_on begins_declaration (declaration c.args.limit) push (declarations c.args.limit c.args.tokens.now) c.turns-turn-end.result c.loop-turn._turn c.loop-turn.decls c.loop-turn.tokens c.loop-turn.invariant c.loop-turn-test.true e in
     rw turn (first_of (search rules, grind (arith, common_steps)))
 
 pub loop-turn-preserved : goal.loop-turn-preserved
 loop-turn-preserved c =
-    let e : is_procedure (sign_of (ahead c.loop-turn.tokens)) ≡ true = ap (λ x. same_sign x s.Procedure) (sym c.peek.ensures) ∙ sym c.same_sign-goes_on.ensures ∙ c.if-not-goes_on.false in
-    next is_procedure (declaration c.args.depth) push (declarations c.args.depth c.args.tokens.now) c.turns-turn-end.result c.loop-turn._turn c.loop-turn.decls c.loop-turn.tokens c.loop-turn.invariant
+    let e : begins_declaration (sign_of (ahead c.loop-turn.tokens)) ≡ true = ap begins_declaration (sym c.peek.ensures) ∙ sym c.begins_declaration-begins.ensures ∙ c.if-not-begins.false in
+    next begins_declaration (declaration c.args.limit) push (declarations c.args.limit c.args.tokens.now) c.turns-turn-end.result c.loop-turn._turn c.loop-turn.decls c.loop-turn.tokens c.loop-turn.invariant
     c.in_ok-next.next c.declaration.new.tokens c.push.new.self c.loop-turn-test.true e c.in_ok-next.ensures c.in_ok-push.ensures.ok
 
 pub returns : goal.returns
-returns c = runs_out is_procedure (declaration c.args.depth) push (declarations c.args.depth c.args.tokens.now) c.turns-turn-end.result c.loop-turn._turn c.loop-turn.decls c.loop-turn.tokens c.loop-turn.invariant c.loop-turn-test.false
+returns c = runs_out begins_declaration (declaration c.args.limit) push (declarations c.args.limit c.args.tokens.now) c.turns-turn-end.result c.loop-turn._turn c.loop-turn.decls c.loop-turn.tokens c.loop-turn.invariant c.loop-turn-test.false

@@ -6,10 +6,10 @@ use Rattle.sd_parse.proofs.statement.+statement.Goals as goal
 pub returns-then-depth-eq0 : goal.returns-then-depth-eq0
 returns-then-depth-eq0 t c =
     let e : 0 ≡ c.args.depth = omega arith in
-    subst (λ n. Gives (statement n c.args.tokens.now) c.none.result c.none.new.tokens) e c.none.ensures
+    subst (λ n. Gives (statement c.args.limit n c.args.tokens.now) c.none.result c.none.new.tokens) e c.none.ensures
 
 pub returns : goal.returns
 unfolding statement
 returns t c =
     let e : suc (c.args.depth - 1) ≡ c.args.depth = omega arith in
-    subst (λ n. Gives (statement n c.args.tokens.now) c.layer.result c.layer.new.tokens) e c.layer.ensures
+    subst (λ n. Gives (statement c.args.limit n c.args.tokens.now) c.layer.result c.layer.new.tokens) e c.layer.ensures

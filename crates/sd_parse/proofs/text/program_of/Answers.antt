@@ -1,6 +1,6 @@
 use Rattle.std.proofs.Common.{sym, ap, ◌∙◌}
 use Rattle.sd_parse.specs.Reading.{Syntax, Deep}
-use Rattle.sd_parse.specs.ReadingStatements.{program}
+use Rattle.sd_parse.specs.ReadingPrograms.{program}
 use Rattle.sd_parse.proofs.TextLemmas.{read_is_spelled, failed}
 use Rattle.sd_parse.proofs.text.program_of.Goals as goal
 

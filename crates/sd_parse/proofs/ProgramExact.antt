@@ -1,0 +1,70 @@
+-- The reader of programs answers by the rule of refusals.
+use Rattle.std.proofs.Common.{◌≡◌, ℕ, suc, ◌+◌, ◌≤◌, List, [], ◌∷◌, ◌++◌, refl, ap, sym, ◌∙◌, subst, arith}
+use Rattle.sd_base.specs.declared.Place.{Place}
+use Rattle.sd_ast.specs.declared.Decl.{Decl}
+use Rattle.sd_ast.specs.declared.Program.{Program}
+use Rattle.sd_parse.specs.Grammar.{Tokens}
+use Rattle.sd_parse.specs.Rows.{Row}
+use Rattle.sd_parse.specs.Programs.{Declaration, Spells}
+use Rattle.sd_parse.specs.Refusals.{IsSyntax, IsDeep}
+use Rattle.sd_parse.specs.Reading.{Syntax, Deep, Step, Got, Bad, Reader, and_then}
+use Rattle.sd_parse.specs.ReadingPrograms.{declarations, ended, program}
+use Rattle.sd_parse.proofs.Algebra.{Begins, AnswersStep, Answers, bind, begins_map, stop, wide}
+use Rattle.sd_parse.proofs.Local.{Local, local_bind, local_pure}
+use Rattle.sd_parse.proofs.Lifts.{same, lift_bind, lift_more}
+use Rattle.sd_parse.proofs.Exact.{Exact, place_of, syntax_at, deep_at}
+use Rattle.sd_parse.proofs.Rows.{Low}
+use Rattle.sd_parse.proofs.Limits.{declarations_more}
+use Rattle.sd_parse.proofs.ProgramAnswers.{program_answers}
+use Rattle.sd_parse.proofs.ProgramLocal.{local_program}
+use Rattle.sd_parse.proofs.ProgramLifts.{lift_program}
+use Rattle.sd_parse.proofs.TextLemmas.{spelled_is_read}
+
+abbrev pub tree : List Decl → Program
+tree xs = record { decls = xs }
+
+-- the reader of a whole text, with its program
+abbrev pub whole : ℕ → Reader Program
+whole d ts = and_then (program d ts) (λ xs ts. Got (tree xs) ts)
+
+to_spells : (d : ℕ) (u : Tokens) (xs : List Decl) → Low (Row (Declaration d)) d u xs → Spells d u (tree xs)
+to_spells d u xs w = record { height = w.height; spelled = w.spelt; low = w.low }
+
+spells_more : (d k : ℕ) (u : Tokens) (P : Program) → Spells k u P → Spells (d + k) u P
+spells_more d k u P w = record { height = w.height; spelled = declarations_more (omega arith) w.spelled; low = let z = w.low in omega arith }
+
+whole_answers : (d : ℕ) → 1 ≤ d → (ts : Tokens) → Answers (Spells d) (Spells (wide d)) ts (whole d ts)
+whole_answers d pos ts = record { fact = bind (Low (Row (Declaration d)) d) (Low (Row (Declaration (wide d))) (wide d)) (Spells d) (Spells (wide d)) [] ts (program d ts) (λ xs ts. Got (tree xs) ts) (program_answers d pos ts).fact
+    (λ u b. begins_map (Low (Row (Declaration d)) d) (Spells d) tree u (to_spells d) b)
+    (λ u b. begins_map (Low (Row (Declaration (wide d))) (wide d)) (Spells (wide d)) tree u (to_spells (wide d)) b)
+    (λ xs u rest w. stop (Spells d) (Spells (wide d)) u rest (tree xs) (to_spells d u xs w)) }
+
+whole_complete : (d : ℕ) (u : Tokens) (P : Program) → Spells d u P → whole d u ≡ Got P []
+whole_complete d u P w = ap (λ s. and_then s (λ xs ts. Got (tree xs) ts)) (spelled_is_read d u P w)
+
+got_end : (s : Step (List Decl)) (P : Program) (rest : Tokens) → and_then (and_then s ended) (λ xs ts. Got (tree xs) ts) ≡ Got P rest → rest ≡ []
+unfolding ended
+got_end (Got xs []) P rest e = cc
+got_end (Got xs (t ∷ r)) P rest e = absurd (cc)
+got_end (Bad k r) P rest e = absurd (cc)
+
+whole_ends : (d : ℕ) (ts : Tokens) (P : Program) (rest : Tokens) → whole d ts ≡ Got P rest → rest ≡ []
+unfolding program
+whole_ends d ts P rest e = got_end (declarations d ts) P rest e
+
+pub whole_exact : (limit : ℕ) → 1 ≤ limit → Exact Spells limit whole
+whole_exact limit pos = record {
+  grows = spells_more;
+  answers = whole_answers limit pos;
+  complete = whole_complete;
+  local = λ d. local_bind (program d) _ (local_program d) (λ xs. local_pure (tree xs));
+  lifts = λ k d ts. lift_more whole (λ d ts. lift_bind (program d ts) (program (suc d) ts) _ _ (lift_program d ts) (λ xs rest. same refl)) k d ts;
+  ends = whole_ends limit;
+}
+
+-- where the reader of programs refuses
+pub program_syntax : (limit : ℕ) → 1 ≤ limit → (ts : Tokens) (end : Place) (rest : Tokens) → program limit ts ≡ Bad Syntax rest → IsSyntax Spells limit ts end (place_of end rest)
+program_syntax limit pos ts end rest e = syntax_at (whole_exact limit pos) ts end rest (ap (λ s. and_then s (λ xs ts. Got (tree xs) ts)) e)
+
+pub program_deep : (limit : ℕ) → 1 ≤ limit → (ts : Tokens) (end : Place) (rest : Tokens) → program limit ts ≡ Bad Deep rest → IsDeep Spells limit ts (place_of end rest)
+program_deep limit pos ts end rest e = deep_at (whole_exact limit pos) ts end rest (ap (λ s. and_then s (λ xs ts. Got (tree xs) ts)) e)
