@@ -27,12 +27,7 @@ fn push(out: &mut Vec<u8>, words: &[u8]) -> Result<(), NoMemory>
     Ok(())
 }
 
-fn push_number(
-    alloc: Global,
-    out: &mut Vec<u8>,
-    word: &[u8],
-    number: u64,
-) -> Result<(), NoMemory>
+fn push_number(alloc: Global, out: &mut Vec<u8>, word: &[u8], number: u64) -> Result<(), NoMemory>
     ensures { OnOk result (out.new.items ≡ out.old.items ++ (word.now ++ decimal number)) }
 {
     push(out, word)?;
@@ -40,12 +35,7 @@ fn push_number(
     push(out, digits.as_bytes())
 }
 
-fn push_step(
-    alloc: Global,
-    out: &mut Vec<u8>,
-    line: u64,
-    cause: StepCause,
-) -> Result<(), NoMemory>
+fn push_step(alloc: Global, out: &mut Vec<u8>, line: u64, cause: StepCause) -> Result<(), NoMemory>
     ensures { OnOk result (out.new.items ≡ out.old.items ++ spec.step_text line cause) }
 {
     push_number(alloc, out, b"line ", line)?;

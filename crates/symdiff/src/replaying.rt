@@ -29,12 +29,7 @@ fn refuse<'a>(alloc: Global, fault: CertError) -> Result<Reply<'a>, NoMemory>
 }
 
 /// Judges the bytes of a certificate of two texts.
-fn judge<'a>(
-    alloc: Global,
-    old: &Text,
-    new: &Text,
-    bytes: &[u8],
-) -> Result<Reply<'a>, NoMemory>
+fn judge<'a>(alloc: Global, old: &Text, new: &Text, bytes: &[u8]) -> Result<Reply<'a>, NoMemory>
     requires old_read { IsRead old.now.bytes.items old.now.program }
     requires new_read { IsRead new.now.bytes.items new.now.program }
     ensures { IfOk result (λ reply. IsJudged bytes.now (texts_of old.now new.now) (outcome_of reply)) }

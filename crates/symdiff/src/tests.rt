@@ -259,7 +259,7 @@ end
 fn holds(files: &mut MemFiles, text: &[u8]) -> bool {
     let mut bytes = [0u8; ROOM];
     match files.read_at("c", 0, &mut bytes) {
-        Ok(count) if count <= ROOM => bytes[..count] == *text,
+        Ok(count) if count <= ROOM => &bytes[..count] == text,
         _ => false,
     }
 }
@@ -272,7 +272,14 @@ fn a_certificate_is_written_and_replayed(rt: HostRuntime) -> Result<(), Fail> {
     for words in [CERTIFY.as_slice(), REPLAY.as_slice()] {
         let mut sink = MemSink::new(alloc, 1000, 1000, Vec::new(alloc))?;
         let words = words_of(alloc, words)?;
-        let ended = run(&rt, alloc, words.as_slice(), &mut files, &mut sink, &OpenGate);
+        let ended = run(
+            &rt,
+            alloc,
+            words.as_slice(),
+            &mut files,
+            &mut sink,
+            &OpenGate,
+        );
         assert_eq!(rt; ended.status.code, 0);
         assert_eq!(rt; sink.taken(), report);
         assert!(rt; holds(&mut files, OF_EMPTY_TEXTS));
@@ -287,11 +294,7 @@ const REPLAYS: [(&[u8], u8, &[u8]); 5] = [
         0,
         b"safe p p\npairs 1 safe 1 equal 0 unknown 0 refused 0 axioms 0 0\n",
     ),
-    (
-        WITH_A_BAD_STEP,
-        5,
-        b"error: certificate line 11 value\n",
-    ),
+    (WITH_A_BAD_STEP, 5, b"error: certificate line 11 value\n"),
     (
         WITHOUT_CANDIDATES,
         1,
@@ -309,7 +312,14 @@ fn certificates_are_judged(rt: HostRuntime) -> Result<(), Fail> {
         let mut files = files_of(&rt, alloc, texts, ROOM, &[])?;
         let mut sink = MemSink::new(alloc, 1000, 1000, Vec::new(alloc))?;
         let words = words_of(alloc, &REPLAY)?;
-        let ended = run(&rt, alloc, words.as_slice(), &mut files, &mut sink, &OpenGate);
+        let ended = run(
+            &rt,
+            alloc,
+            words.as_slice(),
+            &mut files,
+            &mut sink,
+            &OpenGate,
+        );
         assert_eq!(rt; ended.status.code, status);
         assert_eq!(rt; sink.taken(), text);
         assert!(rt; ended.deaths.is_empty());
@@ -326,7 +336,14 @@ fn what_follows_the_end_is_refused(rt: HostRuntime) -> Result<(), Fail> {
     let mut files = files_of(&rt, alloc, texts, ROOM, &[])?;
     let mut sink = MemSink::new(alloc, 1000, 1000, Vec::new(alloc))?;
     let words = words_of(alloc, &REPLAY)?;
-    let ended = run(&rt, alloc, words.as_slice(), &mut files, &mut sink, &OpenGate);
+    let ended = run(
+        &rt,
+        alloc,
+        words.as_slice(),
+        &mut files,
+        &mut sink,
+        &OpenGate,
+    );
     assert_eq!(rt; ended.status.code, 5);
     assert_eq!(rt; sink.taken(), b"error: certificate line 14\n".as_slice());
     Ok(())
@@ -338,7 +355,14 @@ fn a_certificate_that_is_cut_leaves_no_report(rt: HostRuntime) -> Result<(), Fai
     let mut files = files_of(&rt, alloc, (b"", b"", b""), 200, &[])?;
     let mut sink = MemSink::new(alloc, 1000, 1000, Vec::new(alloc))?;
     let words = words_of(alloc, &CERTIFY)?;
-    let ended = run(&rt, alloc, words.as_slice(), &mut files, &mut sink, &OpenGate);
+    let ended = run(
+        &rt,
+        alloc,
+        words.as_slice(),
+        &mut files,
+        &mut sink,
+        &OpenGate,
+    );
     assert_eq!(rt; ended.status.code, 7);
     assert_eq!(rt; ended.certificate_file, CertificateFile::Cut);
     assert!(rt; holds(&mut files, &OF_EMPTY_TEXTS[..200]));
