@@ -97,7 +97,7 @@ constant-boolean true = (tt, tt)
 constant-boolean false = (tt, tt)
 
 booleans : Closed IsBoolean
-booleans = record { constants = constant-boolean; nots = not-boolean; ands = and-boolean; ors = or-boolean; ites = ite-boolean }
+booleans = record { constants = constant-boolean; nots = not-boolean; ands = and-boolean; ors = or-boolean; eqs = eq-boolean; ites = ite-boolean }
 
 starting-boolean : (vars : List Var) → AreBooleanVars vars → AllHold IsBoolean (starting vars)
 starting-boolean [] h = tt
