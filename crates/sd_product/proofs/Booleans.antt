@@ -96,8 +96,11 @@ constant-boolean : (b : Bool) → IsBoolean (constant b)
 constant-boolean true = (tt, tt)
 constant-boolean false = (tt, tt)
 
+eq-boolean : (a b : Tree) → IsBoolean a → IsBoolean b → IsBoolean (eq_of a b)
+eq-boolean a b wa wb = (((tt, wa), wb), tt)
+
 booleans : Closed IsBoolean
-booleans = record { constants = constant-boolean; nots = not-boolean; ands = and-boolean; ors = or-boolean; ites = ite-boolean }
+booleans = record { constants = constant-boolean; nots = not-boolean; ands = and-boolean; ors = or-boolean; eqs = eq-boolean; ites = ite-boolean }
 
 starting-boolean : (vars : List Var) → AreBooleanVars vars → AllHold IsBoolean (starting vars)
 starting-boolean [] h = tt
@@ -105,7 +108,7 @@ starting-boolean (x ∷ xs) h = ((tt, subst (λ (s : Sort). IsBooleanHead (Start
 
 -- ---- queries
 
-module _ (K : Tree → Type 0) (c : Closed K) (equals : (a b : Tree) → K a → K b → K (eq_of a b)) (syms : (k : ℕ) → K (leaf (Sym k BoolSort))) (starts : (vars : List Var) → AreBooleanVars vars → AllHold K (starting vars)) where
+module _ (K : Tree → Type 0) (c : Closed K) (syms : (k : ℕ) → K (leaf (Sym k BoolSort))) (starts : (vars : List Var) → AreBooleanVars vars → AllHold K (starting vars)) where
   pub symbols-keep : (k n : ℕ) → AllByRecursion K (symbols k n)
   symbols-keep k zero = tt
   symbols-keep k (suc n) = (syms k, symbols-keep (suc k) n)
@@ -113,7 +116,7 @@ module _ (K : Tree → Type 0) (c : Closed K) (equals : (a b : Tree) → K a →
   equalities-keep : (xs ys : List Tree) → AllByRecursion K xs → AllByRecursion K ys → AllByRecursion K (equalities xs ys)
   equalities-keep [] ys h k = tt
   equalities-keep (x ∷ xs) [] h k = tt
-  equalities-keep (x ∷ xs) (y ∷ ys) h k = (equals x y h.0 k.0, equalities-keep xs ys h.1 k.1)
+  equalities-keep (x ∷ xs) (y ∷ ys) h k = (c.eqs x y h.0 k.0, equalities-keep xs ys h.1 k.1)
 
   conditions-keep : (d : Candidate) (xs ys : List Tree) → AllByRecursion K xs → AllByRecursion K ys → AllByRecursion K (conditions d xs ys)
   conditions-keep NoCondition xs ys h k = tt
@@ -142,11 +145,11 @@ all-sorted (t ∷ ts) h = (h.0.0, all-sorted ts h.1)
 
 pub query-boolean : (d : Candidate) (p q : Proc) → IsBooleanProc p → IsBooleanProc q → AllBoolean (query_of d p q)
 query-boolean d p q hp hq =
-    all-boolean (query_of d p q) (query-keeps IsBoolean booleans (λ a b h k. (((tt, h), k), tt)) (λ k. (tt, tt)) starting-boolean d p q hp hq)
+    all-boolean (query_of d p q) (query-keeps IsBoolean booleans (λ k. (tt, tt)) starting-boolean d p q hp hq)
 
 pub query-sorted : (d : Candidate) (p q : Proc) → IsBooleanProc p → IsBooleanProc q → AllWellSorted (query_of d p q)
 query-sorted d p q hp hq =
-    all-sorted (query_of d p q) (query-keeps IsSortedTruth sorted_truths (λ a b h k. (eq-well a b h.0 k.0 (h.1 ∙ sym k.1), refl)) (λ k. ((tt, refl), refl)) starting-sorted d p q hp hq)
+    all-sorted (query_of d p q) (query-keeps IsSortedTruth sorted_truths (λ k. ((tt, refl), refl)) starting-sorted d p q hp hq)
 
 -- the symbols of inputs are truth-valued
 pub symbols-truths : (k n : ℕ) → AllByRecursion (λ t. sort_of t ≡ BoolSort) (symbols k n)

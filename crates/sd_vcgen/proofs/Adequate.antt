@@ -46,6 +46,7 @@ truths = record {
   nots = λ a h. not-sort a;
   ands = λ a b h k. and-sort a b;
   ors = λ a b h k. or-sort a b;
+  eqs = λ a b h k. refl;
   ites = λ c a b h k l. ite-sort c a b ∙ k;
 }
 
