@@ -1,4 +1,8 @@
 pub mod NamesLemmas
+pub mod AnswerLemmas
+pub mod GivenLemmas
+pub mod TableLemmas
+pub mod SortTests
 pub mod SameLemmas
 pub mod LoopLemmas
 pub mod PhraseLemmas

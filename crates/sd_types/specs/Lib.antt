@@ -1,2 +1,6 @@
 pub mod Names
 pub mod Connective
+pub mod Answer
+pub mod Tables
+pub mod Scopes
+pub mod Phrases

@@ -4,9 +4,14 @@
 mod expr;
 mod names;
 mod program;
+mod phrase;
+mod refusal;
+mod scope;
 mod stmt;
+mod table;
 
 pub use program::is_boolean_program;
+pub use refusal::TypeError;
 
 #[cfg(test)]
 mod tests;

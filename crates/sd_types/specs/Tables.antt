@@ -1,0 +1,23 @@
+-- Names that are declared one after another.
+use Rattle.std.specs.Prelude.{◌≡◌, List, [], ◌∷◌, ◌++◌, Option, Some, None, Result, Ok, Err, is_some, if◌then◌else◌}
+use Rattle.std.specs.Map.{lookup}
+use Rattle.sd_base.specs.Value.{Text, same_text}
+use Rattle.sd_types.specs.Names.{is_among}
+use Rattle.sd_types.specs.declared.refusal.TypeError.{TypeError}
+use Rattle.sd_types.specs.declared.refusal.TypeError.TheVariants.{Twice}
+
+-- what a name stands for
+abbrev pub named : {X : Type 0} → List (Text × X) → Text → Option X
+named es x = lookup (same_text x) es
+
+-- one more name, which must be none of those before
+abbrev pub with_name : List Text → Text → Result (List Text) TypeError
+with_name xs x = if is_among xs x then Err (Twice x) else Ok (xs ++ x ∷ [])
+
+-- one more name with what it stands for
+abbrev pub with_entry : {X : Type 0} → List (Text × X) → Text → X → Result (List (Text × X)) TypeError
+with_entry es x v = if is_some (named es x) then Err (Twice x) else Ok (es ++ (x, v) ∷ [])
+
+-- each name stands for the same in both
+abbrev pub FindSame : {X : Type 0} → List (Text × X) → List (Text × X) → Type 0
+FindSame es fs = (x : Text) → named es x ≡ named fs x
