@@ -1,6 +1,7 @@
 pub mod NamesLemmas
 pub mod AnswerLemmas
 pub mod GivenLemmas
+pub mod StmtLemmas
 pub mod TableLemmas
 pub mod SortTests
 pub mod SameLemmas

@@ -4,3 +4,4 @@ pub mod Answer
 pub mod Tables
 pub mod Scopes
 pub mod Phrases
+pub mod Statements

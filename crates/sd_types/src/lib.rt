@@ -1,12 +1,14 @@
 //! Which programs are checked: those of procedures over truth values alone.
 #![tactic(auto)]
 
+mod assigned;
 mod expr;
 mod names;
 mod program;
 mod phrase;
 mod refusal;
 mod scope;
+mod statement;
 mod stmt;
 mod table;
 

@@ -167,7 +167,7 @@ fn apply(
 }
 
 /// The type of a variable.
-fn sort_named(alloc: Global, name: &Name, variable: Option<&Variable>) -> Result<Sort, TypeError>
+pub(crate) fn sort_named(alloc: Global, name: &Name, variable: Option<&Variable>) -> Result<Sort, TypeError>
     ensures { Answers (sort_in name.now (option_copied variable.entry)) result }
 {
     match variable {
