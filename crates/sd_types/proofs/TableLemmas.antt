@@ -5,6 +5,10 @@ use Rattle.std.specs.Cmp.Lexicographic.{bytes_decides}
 use Rattle.sd_base.specs.Value.{Text, same_text}
 use Rattle.indexmap.specs.IndexMap.{IndexMap, get_by, insert_entry}
 use Rattle.indexmap.proofs.CallerLemmas.{insert_entry-new}
+use Rattle.std.specs.Prelude.{◌||◌}
+use Rattle.std.proofs.lemmas.List.Folds.{list_any-append}
+use Rattle.sd_types.specs.Names.{is_among, HaveSame}
+use Rattle.sd_types.proofs.NamesLemmas.{have_same-added}
 use Rattle.sd_types.specs.Answer.{Leaves}
 use Rattle.sd_types.specs.Tables.{named, with_entry, FindSame}
 
@@ -55,3 +59,26 @@ with_new es x v h = rw h refl
 
 pub adds : {X : Type 0} (es : List (Text × X)) (x : Text) (v : X) (new : List (Text × X)) → is_some (named es x) ≡ false → new ≡ es ++ (x, v) ∷ [] → Leaves (with_entry es x v) new (Ok tt)
 adds es x v new h e = record { ok = with_new es x v h ∙ ap Ok (sym e); err = tt }
+
+-- ---- sets of names
+
+last_or : (xs : List Text) (x q : Text) → is_among (xs ++ x ∷ []) q ≡ (is_among xs q || same_text q x)
+last_or xs x q = list_any-append (same_text q) xs (x ∷ []) ∙ ap (λ (b : Bool). is_among xs q || b) (or_none (same_text q x))
+  where
+    or_none : (b : Bool) → (b || false) ≡ b
+    or_none true = refl
+    or_none false = refl
+
+-- what an insertion leaves
+pub put-same : (old new : List Text) (k x : Text) → k ≡ x → ((q : Text) → is_among new q ≡ cond (same_text k q) true (is_among old q)) → HaveSame new (old ++ x ∷ [])
+put-same old new k x e h q =
+    have_same-added old new k x e h q ∙ or_swapped (same_text q x) (is_among old q) ∙ sym (last_or old x q)
+  where
+    or_swapped : (a b : Bool) → (a || b) ≡ (b || a)
+    or_swapped true true = refl
+    or_swapped true false = refl
+    or_swapped false true = refl
+    or_swapped false false = refl
+
+pub same-last : (xs ys zs : List Text) (x : Text) → HaveSame zs (xs ++ x ∷ []) → HaveSame xs ys → HaveSame zs (ys ++ x ∷ [])
+same-last xs ys zs x h k q = h q ∙ last_or xs x q ∙ ap (λ (b : Bool). b || same_text q x) (k q) ∙ sym (last_or ys x q)

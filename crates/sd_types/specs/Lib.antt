@@ -5,3 +5,4 @@ pub mod Tables
 pub mod Scopes
 pub mod Phrases
 pub mod Statements
+pub mod Declarations

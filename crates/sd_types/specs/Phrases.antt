@@ -43,11 +43,6 @@ same_sort (Named t) (Named u) = same_text t u
 same_sort (MapOf i v) (MapOf j w) = same_sort i j && same_sort v w
 same_sort _ _ = false
 
-abbrev pub same_sorts : List Sort → List Sort → Test
-same_sorts [] [] = true
-same_sorts (s ∷ ss) (t ∷ ts) = same_sort s t && same_sorts ss ts
-same_sorts _ _ = false
-
 -- ---- what operators ask of their parts
 
 -- a phrase at this place has this type

@@ -19,7 +19,7 @@ use Rattle.sd_types.specs.declared.scope.Scope.{Scope}
 use Rattle.sd_types.specs.declared.scope.Given.{Given}
 use Rattle.sd_types.specs.Names.{is_among}
 use Rattle.sd_types.specs.Answer.{and_then, both, each, all_of}
-use Rattle.sd_types.specs.Tables.{named, with_name}
+use Rattle.sd_types.specs.Tables.{named, with_names}
 use Rattle.sd_types.specs.Scopes.{Context, context, declared_as}
 use Rattle.sd_types.specs.Phrases.{at_place, sort_in, all_given, is_truth, agree, same_number, selected}
 
@@ -27,20 +27,16 @@ use Rattle.sd_types.specs.Phrases.{at_place, sort_in, all_given, is_truth, agree
 pub record Routine : Type 0 where
   pub scope : Scope
   pub context : Context
-  pub modifies : List Text
+  pub modifies : Text → Bool
 
 abbrev pub routine : Scope → List (Text × Variable) → List Text → Routine
-routine G locals M = record { scope = G; context = context G locals site.Body; modifies = M }
+routine G locals M = record { scope = G; context = context G locals site.Body; modifies = is_among M }
 
 -- ---- names that are assigned
 
-abbrev pub distinct_after : List Text → List Text → Result (Unit {0}) TypeError
-distinct_after seen [] = Ok tt
-distinct_after seen (x ∷ xs) = and_then (with_name seen x) (λ more. distinct_after more xs)
-
 -- no name stands twice
 abbrev pub distinct : List Text → Result (Unit {0}) TypeError
-distinct xs = distinct_after [] xs
+distinct xs = and_then (with_names [] xs) (λ _. Ok tt)
 
 -- the type of a variable, as that of a phrase at the statement's place
 abbrev pub target : Context → Place → Text → Result Given TypeError
@@ -50,10 +46,10 @@ abbrev pub targets : Context → Place → List Text → Result (List Given) Typ
 targets C p xs = all_of (target C p) xs
 
 -- in-parameters and constants aren't assigned, and globals are in `modifies`
-abbrev pub assigned_as : List Text → Text → Nature → Result (Unit {0}) TypeError
+abbrev pub assigned_as : (Text → Bool) → Text → Nature → Result (Unit {0}) TypeError
 assigned_as M x Constant = Err (ReadOnly x)
 assigned_as M x Input = Err (ReadOnly x)
-assigned_as M x Global = if is_among M x then Ok tt else Err (NotModified x)
+assigned_as M x Global = if M x then Ok tt else Err (NotModified x)
 assigned_as M x Output = Ok tt
 assigned_as M x Local = Ok tt
 
@@ -97,7 +93,7 @@ is_global (Some v) = elim v.nature [ Global ↦ true | _ ↦ false ]
 
 -- a global that the callee modifies is in the caller's `modifies`
 abbrev pub modified : Routine → Text → Result (Unit {0}) TypeError
-modified R x = if is_global (named R.scope.globals x) then (if is_among R.modifies x then Ok tt else Err (NotModified x)) else Ok tt
+modified R x = if is_global (named R.scope.globals x) then (if R.modifies x then Ok tt else Err (NotModified x)) else Ok tt
 
 abbrev pub has_body : List Text → Text → Result (Unit {0}) TypeError
 has_body bodies f = if is_among bodies f then Ok tt else Err (NoBody f)

@@ -2,6 +2,7 @@
 ghost use Rattle.std.specs.Prelude.{◌≡◌, IfOk};
 ghost use Rattle.std.specs.Option.{option_copied};
 ghost use Rattle.sd_types.specs.declared.scope.Site.TheVariants as spot;
+ghost use Rattle.sd_types.specs.Names.{is_among};
 ghost use Rattle.sd_types.specs.Answer.{Answers, each, all_of};
 ghost use Rattle.sd_types.specs.Scopes.{context};
 ghost use Rattle.sd_types.specs.Statements.{Routine, routine, distinct, targets, assigned_as, assignable, indexed, left_sort, left_names, typed_indices, modified, is_global};
@@ -20,10 +21,7 @@ pub(crate) fn check_distinct(alloc: Global, names: &Items<Name>) -> Result<(), T
     ensures { Answers (distinct names.now) result }
 {
     let mut seen = NameList::new(alloc);
-    for name in names.as_slice() {
-        seen.add(alloc, name)?;
-    }
-    Ok(())
+    seen.add_all(alloc, names)
 }
 
 /// The types of assigned variables. They count as phrases at the place of the statement.
@@ -51,7 +49,7 @@ fn check_nature(
     name: &Name,
     nature: Nature,
 ) -> Result<(), TypeError>
-    ensures { Answers (assigned_as modifies.now name.now nature) result }
+    ensures { Answers (assigned_as (is_among modifies.now) name.now nature) result }
 {
     match nature {
         Nature::Constant => read_only(alloc, name),
@@ -101,7 +99,7 @@ pub(crate) fn check_all_assignable(
 }
 
 /// Whether a variable is a global.
-fn is_global_variable(variable: Option<&Variable>) -> bool
+pub(crate) fn is_global_variable(variable: Option<&Variable>) -> bool
     ensures { result ≡ is_global (option_copied variable.entry) }
 {
     match variable {

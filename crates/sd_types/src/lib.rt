@@ -2,6 +2,8 @@
 #![tactic(auto)]
 
 mod assigned;
+mod declaration;
+mod declare;
 mod expr;
 mod names;
 mod program;

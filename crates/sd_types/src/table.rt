@@ -1,14 +1,15 @@
 //! Names in scope, in the order of their declaration.
-ghost use Rattle.std.specs.Prelude.{◌≡◌, [], ◌∷◌, ◌++◌, OnOk, IfErr};
+ghost use Rattle.std.specs.Prelude.{◌≡◌, [], ◌∷◌, ◌++◌, OnOk, IfOk};
 ghost use Rattle.std.specs.Option.{option_copied};
-ghost use Rattle.sd_types.specs.Names.{is_among};
+ghost use Rattle.sd_ast.specs.Tree.{names_of};
+ghost use Rattle.sd_types.specs.Names.{is_among, HaveSame};
 ghost use Rattle.sd_types.specs.Answer.{Leaves};
-ghost use Rattle.sd_types.specs.Tables.{named, with_name, with_entry, FindSame};
-ghost use Rattle.sd_types.specs.declared.refusal.TypeError.TheVariants as error;
+ghost use Rattle.sd_types.specs.Tables.{named, with_name, with_names, with_entry, FindSame};
 
 use crate::refusal::{TypeError, twice};
 use indexmap::{IndexMap, IndexSet};
-use sd_base::{CloneOf, Name};
+use sd_base::{CloneOf, Name, NoMemory, Var};
+use sqlite_items::Items;
 use std::alloc::Global;
 use std::marker::Model;
 
@@ -52,6 +53,45 @@ impl NameList {
         self.set.insert(name.clone_of(alloc)?)?;
         Ok(())
     }
+
+    /// Adds names one after another, or refuses the first one that is there.
+    pub(crate) fn add_all(&mut self, alloc: Global, names: &Items<Name>) -> Result<(), TypeError>
+        ensures { Leaves (with_names self.old names.now) self.new result }
+    {
+        for name in names.as_slice() {
+            self.add(alloc, name)?;
+        }
+        Ok(())
+    }
+
+    /// Adds the names of variables, or refuses the first one that is there.
+    pub(crate) fn add_variables(&mut self, alloc: Global, vars: &Items<Var>) -> Result<(), TypeError>
+        ensures { Leaves (with_names self.old (names_of vars.now)) self.new result }
+    {
+        for var in vars.as_slice() {
+            self.add(alloc, &var.name)?;
+        }
+        Ok(())
+    }
+
+    /// Adds a name, where it isn't there.
+    pub(crate) fn put(&mut self, alloc: Global, name: &Name) -> Result<(), NoMemory>
+        ensures { OnOk result (HaveSame self.new (self.old ++ name.now ∷ [])) }
+    {
+        self.set.insert(name.clone_of(alloc)?)?;
+        Ok(())
+    }
+}
+
+/// The set of these names.
+pub(crate) fn name_set(alloc: Global, names: &Items<Name>) -> Result<NameList, NoMemory>
+    ensures { IfOk result (λ set. HaveSame set names.now) }
+{
+    let mut set = NameList::new(alloc);
+    for name in names.as_slice() {
+        set.put(alloc, name)?;
+    }
+    Ok(set)
 }
 
 /// Distinct names, each with what it stands for, in the order of their declaration.
@@ -99,9 +139,8 @@ impl<X: Drop> Table<X> {
     }
 
     /// Adds a name with what it stands for, where it isn't there.
-    pub(crate) fn put(&mut self, alloc: Global, name: &Name, value: X) -> Result<(), TypeError>
-        ensures ok { OnOk result (FindSame self.new (self.old ++ (name.now, value) ∷ [])) }
-        ensures err { IfErr result (λ e. e ≡ error.NoMemory) }
+    pub(crate) fn put(&mut self, alloc: Global, name: &Name, value: X) -> Result<(), NoMemory>
+        ensures { OnOk result (FindSame self.new (self.old ++ (name.now, value) ∷ [])) }
     {
         if self.map.contains_key(name) {
             return Ok(());
