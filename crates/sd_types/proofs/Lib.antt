@@ -2,6 +2,7 @@ pub mod NamesLemmas
 pub mod AnswerLemmas
 pub mod GivenLemmas
 pub mod StmtLemmas
+pub mod ScopeLemmas
 pub mod TableLemmas
 pub mod SortTests
 pub mod SameLemmas
