@@ -1,5 +1,5 @@
 -- What a text declares, and the first rule that a declaration breaks.
-use Rattle.std.specs.Prelude.{Bool, true, false, ◌&&◌, List, [], ◌∷◌, ◌++◌, map, Option, Some, None, Result, Ok, Err, if◌then◌else◌}
+use Rattle.std.specs.Prelude.{◌≡◌, Bool, true, false, ◌&&◌, List, [], ◌∷◌, ◌++◌, map, Option, Some, None, Result, Ok, Err, if◌then◌else◌}
 use Rattle.sd_base.specs.declared.sort.Sort.{Sort}
 use Rattle.sd_base.specs.declared.sort.Var.{Var}
 use Rattle.sd_base.specs.Value.{Text}
@@ -185,3 +185,7 @@ refusal (Err e) = Some e
 -- the first rule that a program breaks, with its name or place
 abbrev pub first_broken : Program → Option TypeError
 first_broken P = refusal (program_rule P)
+
+-- no rule is broken
+abbrev pub WellTyped : Program → Type 0
+WellTyped P = first_broken P ≡ None

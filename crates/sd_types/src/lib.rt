@@ -2,6 +2,7 @@
 #![tactic(auto)]
 
 mod assigned;
+
 mod declaration;
 mod declare;
 mod expr;
@@ -13,7 +14,9 @@ mod scope;
 mod statement;
 mod stmt;
 mod table;
+mod typed;
 
+pub use typed::{Typed, check};
 pub use program::is_boolean_program;
 pub use refusal::TypeError;
 
