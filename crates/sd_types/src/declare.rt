@@ -100,11 +100,7 @@ fn check_own_names(alloc: Global, head: &Head, locals: &Items<Var>) -> Result<Na
 }
 
 /// The same with the locals of a body, where there is one.
-fn check_own_locals(
-    alloc: Global,
-    head: &Head,
-    body: &Option<Body>,
-) -> Result<NameList, TypeError>
+fn check_own_locals(alloc: Global, head: &Head, body: &Option<Body>) -> Result<NameList, TypeError>
     ensures { Answers (own_names head.now (spec.locals_of body.now)) result }
 {
     match body {
@@ -127,11 +123,7 @@ fn declare_body(
     }
 }
 
-fn declare_procedure(
-    alloc: Global,
-    scope: &mut Scope,
-    procedure: &Proc,
-) -> Result<(), TypeError>
+fn declare_procedure(alloc: Global, scope: &mut Scope, procedure: &Proc) -> Result<(), TypeError>
     ensures { Leaves (spec.enter_procedure scope.old procedure.now) scope.new result }
 {
     let head = &procedure.head;

@@ -2,13 +2,12 @@
 #![tactic(auto)]
 
 mod assigned;
-
 mod declaration;
 mod declare;
 mod expr;
 mod names;
-mod program;
 mod phrase;
+mod program;
 mod refusal;
 mod scope;
 mod statement;
@@ -16,9 +15,9 @@ mod stmt;
 mod table;
 mod typed;
 
-pub use typed::{Typed, check};
 pub use program::is_boolean_program;
 pub use refusal::TypeError;
+pub use typed::{Typed, check};
 
 #[cfg(test)]
 mod tests;

@@ -167,7 +167,11 @@ fn apply(
 }
 
 /// The type of a variable.
-pub(crate) fn sort_named(alloc: Global, name: &Name, variable: Option<&Variable>) -> Result<Sort, TypeError>
+pub(crate) fn sort_named(
+    alloc: Global,
+    name: &Name,
+    variable: Option<&Variable>,
+) -> Result<Sort, TypeError>
     ensures { Answers (sort_in name.now (option_copied variable.entry)) result }
 {
     match variable {
@@ -190,12 +194,16 @@ pub(crate) fn expr_sort(
     match &expr.kind {
         ExprKind::Num(_) => Ok(Sort::Int),
         ExprKind::Truth(_) => Ok(Sort::Bool),
-        ExprKind::Var(name) => {
-            sort_named(alloc, name, find_variable(scope, locals, site, name))
-        }
+        ExprKind::Var(name) => { sort_named(alloc, name, find_variable(scope, locals, site, name)) }
         ExprKind::Apply(name, args) => {
             let args = given_args(alloc, scope, locals, site, args)?;
-            apply(alloc, expr.at, name, scope.functions.get(name), args.as_slice())
+            apply(
+                alloc,
+                expr.at,
+                name,
+                scope.functions.get(name),
+                args.as_slice(),
+            )
         }
         ExprKind::Old(part) => {
             let part = given_part(alloc, scope, locals, site, part)?;

@@ -5,7 +5,10 @@ ghost use Rattle.sd_types.specs.Answer.{Answers, each};
 ghost use Rattle.sd_types.specs.Scopes.{context};
 ghost use Rattle.sd_types.specs.Statements.{routine, assignment, assign_rule, has_body, same_numbers, fits_callee, calling, call_rule, true_invariant, break_rule, stmt_rule, each_stmt};
 
-use crate::assigned::{check_all_assignable, check_all_modified, check_distinct, check_indices, given_targets, names_of_lefts, sorts_of_lefts};
+use crate::assigned::{
+    check_all_assignable, check_all_modified, check_distinct, check_indices, given_targets,
+    names_of_lefts, sorts_of_lefts,
+};
 use crate::phrase::{expect_number, expect_sorts, expect_truth, given_args};
 use crate::refusal::{TypeError, no_body, unknown};
 use crate::scope::{Callee, Given, Scope, Site, Variable};
@@ -171,7 +174,9 @@ fn check_stmt(
             check_assign(alloc, scope, locals, modifies, stmt.at, lefts, rights)
         }
         StmtKind::Call(receivers, name, args) => {
-            check_call(alloc, scope, locals, modifies, stmt.at, receivers, name, args)
+            check_call(
+                alloc, scope, locals, modifies, stmt.at, receivers, name, args,
+            )
         }
         StmtKind::If(guard, then, other) => {
             expect_truth(alloc, scope, locals, Site::Body, guard)?;

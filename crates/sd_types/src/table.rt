@@ -65,7 +65,11 @@ impl NameList {
     }
 
     /// Adds the names of variables, or refuses the first one that is there.
-    pub(crate) fn add_variables(&mut self, alloc: Global, vars: &Items<Var>) -> Result<(), TypeError>
+    pub(crate) fn add_variables(
+        &mut self,
+        alloc: Global,
+        vars: &Items<Var>,
+    ) -> Result<(), TypeError>
         ensures { Leaves (with_names self.old (names_of vars.now)) self.new result }
     {
         for var in vars.as_slice() {
