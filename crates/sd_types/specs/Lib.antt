@@ -6,3 +6,4 @@ pub mod Scopes
 pub mod Phrases
 pub mod Statements
 pub mod Declarations
+pub mod Typing

@@ -5,6 +5,7 @@ mod assigned;
 mod declaration;
 mod declare;
 mod expr;
+pub mod laws;
 mod names;
 mod phrase;
 mod program;
