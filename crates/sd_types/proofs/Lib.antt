@@ -1,4 +1,12 @@
 pub mod NamesLemmas
+pub mod AnswerLemmas
+pub mod GivenLemmas
+pub mod StmtLemmas
+mod Examples
+pub mod TypingLemmas
+pub mod ScopeLemmas
+pub mod TableLemmas
+pub mod SortTests
 pub mod SameLemmas
 pub mod LoopLemmas
 pub mod PhraseLemmas

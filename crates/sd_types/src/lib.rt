@@ -1,12 +1,24 @@
 //! Which programs are checked: those of procedures over truth values alone.
 #![tactic(auto)]
 
+mod assigned;
+mod declaration;
+mod declare;
 mod expr;
+pub mod laws;
 mod names;
+mod phrase;
 mod program;
+mod refusal;
+mod scope;
+mod statement;
 mod stmt;
+mod table;
+mod typed;
 
 pub use program::is_boolean_program;
+pub use refusal::TypeError;
+pub use typed::{Typed, check};
 
 #[cfg(test)]
 mod tests;
