@@ -1,15 +1,16 @@
 -- What a run answers, and why.
-use Rattle.std.specs.Prelude.{◌≡◌, ◌⊎◌, ◌<◌, ℕ, List, Option, None, Some, length}
+use Rattle.std.specs.Prelude.{◌≡◌, ◌⊎◌, ◌<◌, ℕ, List, Option, None, Some, length, codes}
 use Rattle.sd_base.specs.Outside.{WhereTold}
 use Rattle.sd_base.specs.Causes.{Rose}
 use Rattle.sd_ast.specs.declared.Program.{Program}
-use Rattle.sd_parse.specs.Text.{IsRead}
 use Rattle.sd_cert.specs.declared.fault.CertError.{CertError}
 use Rattle.symdiff.specs.Words.{Task, verify, replay, JobNames, job_of}
-use Rattle.symdiff.specs.Texts.{SpellsNone, Holds, Texts, AreRead}
+use Rattle.symdiff.specs.Texts.{Holds, Texts, AreRead}
+use Rattle.symdiff.specs.declared.text.TextRefusal.{TextRefusal}
+use Rattle.symdiff.specs.TextRefusals.{IsTaken, IsTextRefusal, refusal_status, text_error}
 use Rattle.symdiff.specs.Outcome.{Outcome, message, IsComparison, IsReplay, IsRefused}
 use Rattle.symdiff.specs.Verdicts.{NoNewFailure, AreNewFailures}
-use Rattle.symdiff.specs.Report.{usage_text, old_not_yet, new_not_yet, certificate_size}
+use Rattle.symdiff.specs.Report.{usage_text, certificate_size}
 use Rattle.symdiff.specs.CertificateErrors.{certificate_error}
 use Rattle.symdiff.specs.declared.verdict.PairVerdict.{PairVerdict}
 
@@ -20,8 +21,8 @@ ForJob words P = (job : JobNames) → job_of words ≡ Some job → P job
 -- A row for each answer, with its cause, its text, and what is said of the pairs. Of files that aren't told nothing is said.
 pub data Answer (words : List (List ℕ)) (held : List ℕ → Option (List ℕ)) (o : Outcome) : Type 0 where
   no_job : job_of words ≡ None → o ≡ message 2 usage_text → Answer words held o
-  old_refused : (job : JobNames) → job_of words ≡ Some job → WhereTold (held job.old) SpellsNone → o ≡ message 3 old_not_yet → Answer words held o
-  new_refused : (job : JobNames) (old : Program) → job_of words ≡ Some job → WhereTold (held job.old) (λ bytes. IsRead bytes old) → WhereTold (held job.new) SpellsNone → o ≡ message 3 new_not_yet → Answer words held o
+  old_refused : (job : JobNames) (r : TextRefusal) → job_of words ≡ Some job → WhereTold (held job.old) (λ bytes. IsTextRefusal bytes r) → o ≡ message (refusal_status r) (text_error (codes "old") r) → Answer words held o
+  new_refused : (job : JobNames) (old : Program) (r : TextRefusal) → job_of words ≡ Some job → WhereTold (held job.old) (λ bytes. IsTaken bytes old) → WhereTold (held job.new) (λ bytes. IsTextRefusal bytes r) → o ≡ message (refusal_status r) (text_error (codes "new") r) → Answer words held o
   compared : (job : JobNames) (t : Texts) (name : Option (List ℕ)) → job_of words ≡ Some job → job.task ≡ verify name → AreRead held job t → IsComparison name t o → Answer words held o
   too_long : (job : JobNames) (t : Texts) (name : List ℕ) → job_of words ≡ Some job → job.task ≡ replay name → AreRead held job t → WhereTold (held name) (λ bytes. 9223372036854775807 < length bytes) → o ≡ message 9 certificate_size → Answer words held o
   certificate_refused : (job : JobNames) (t : Texts) (name bytes : List ℕ) (e : CertError) → job_of words ≡ Some job → job.task ≡ replay name → AreRead held job t → Holds (held name) bytes → IsRefused bytes t e → o ≡ message 5 (certificate_error e) → Answer words held o
@@ -29,7 +30,7 @@ pub data Answer (words : List (List ℕ)) (held : List ℕ → Option (List ℕ)
 
 -- what holds of the two programs that the told files of the job spell
 abbrev pub ForPrograms : List (List ℕ) → (List ℕ → Option (List ℕ)) → (Program → Program → Type 0) → Type 0
-ForPrograms words held P = ForJob words (λ job. WhereTold (held job.old) (λ old_bytes. WhereTold (held job.new) (λ new_bytes. (old new : Program) → IsRead old_bytes old → IsRead new_bytes new → P old new)))
+ForPrograms words held P = ForJob words (λ job. WhereTold (held job.old) (λ old_bytes. WhereTold (held job.new) (λ new_bytes. (old new : Program) → IsTaken old_bytes old → IsTaken new_bytes new → P old new)))
 
 -- The headline: no pair that is said to be safe has a new failure.
 abbrev pub Headline : List (List ℕ) → (List ℕ → Option (List ℕ)) → List PairVerdict → Type 0

@@ -2,8 +2,10 @@ pub mod Words
 pub mod Jobs
 pub mod Texts
 pub mod Report
+pub mod TextRefusals
 pub mod CertificateErrors
 pub mod Verdicts
+pub mod Taking
 pub mod Outcome
 pub mod Replies
 pub mod Answer

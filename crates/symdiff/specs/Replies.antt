@@ -7,6 +7,9 @@ use Rattle.sd_cert.specs.declared.fault.CertError.{CertError}
 use Rattle.sd_cert.specs.Written.{IsWritten}
 use Rattle.sd_base.specs.Outside.{WhereTold}
 use Rattle.symdiff.specs.declared.text.Text.{Text}
+use Rattle.symdiff.specs.declared.text.TextFault.{TextFault}
+use Rattle.symdiff.specs.declared.text.TextFault.TheVariants.{Refused}
+use Rattle.symdiff.specs.TextRefusals.{refusal_status, text_error}
 use Rattle.symdiff.specs.declared.reply.NamedCertificate.{NamedCertificate}
 use Rattle.symdiff.specs.declared.reply.Report.{Report}
 use Rattle.symdiff.specs.declared.reply.Reply.{Reply}
@@ -34,6 +37,11 @@ abbrev pub IsMade : Texts → List Straight → List Proved → Option (List ℕ
 IsMade t pairs proofs None None = Unit {0}
 IsMade t pairs proofs (Some name) (Some file) = (file.0 ≡ name) × IsWritten pairs (digests_of t) proofs file.1
 IsMade t pairs proofs _ _ = ⊥
+
+-- what is answered where the text that this word names has a fault
+abbrev pub IsTextReply : List ℕ → TextFault → Outcome → Type 0
+IsTextReply word (Refused r) o = o ≡ message (refusal_status r) (text_error word r)
+IsTextReply word _ o = ⊥
 
 -- what is answered to bytes that are refused as a certificate
 abbrev pub refusal : CertError → Outcome

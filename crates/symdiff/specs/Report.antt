@@ -62,11 +62,5 @@ report old new verdicts = flat_map verdict_line verdicts ++ flat_map (only_line 
 abbrev pub usage_text : List ℕ
 usage_text = codes "usage: symdiff verify OLD NEW [--settings FILE] [--workers N] [--leaves N] [--certificate FILE]" ++ line_end ++ codes "       symdiff replay OLD NEW CERTIFICATE [--settings FILE]" ++ line_end ++ codes "       symdiff gen N [--workers N] [--leaves N]" ++ line_end
 
-abbrev pub old_not_yet : List ℕ
-old_not_yet = codes "error: old not yet" ++ line_end
-
-abbrev pub new_not_yet : List ℕ
-new_not_yet = codes "error: new not yet" ++ line_end
-
 abbrev pub certificate_size : List ℕ
 certificate_size = codes "error: certificate size" ++ line_end

@@ -3,14 +3,11 @@ use Rattle.std.specs.Prelude.{◌≡◌, ℕ, List, [], Option}
 use Rattle.sha2.specs.Sha256.{sha256}
 use Rattle.sd_base.specs.Outside.{WhereTold}
 use Rattle.sd_ast.specs.declared.Program.{Program}
-use Rattle.sd_parse.specs.Text.{IsRead}
 use Rattle.sd_product.specs.declared.straight.Straight.{Straight}
 use Rattle.sd_product.specs.Straight.{straights_of}
 use Rattle.sd_cert.specs.declared.digest.Digests.{Digests}
 use Rattle.symdiff.specs.Words.{JobNames}
-
-abbrev pub SpellsNone : List ℕ → Type 0
-SpellsNone bytes = (P : Program) → IsRead bytes P → ⊥
+use Rattle.symdiff.specs.TextRefusals.{IsTaken}
 
 -- these bytes are what is held, where that is told
 abbrev pub Holds : Option (List ℕ) → List ℕ → Type 0
@@ -34,5 +31,5 @@ digests_of t = record { old = sha256 t.old_bytes; new = sha256 t.new_bytes; sett
 pub record AreRead (held : List ℕ → Option (List ℕ)) (job : JobNames) (t : Texts) : Type 0 where
   pub old_held : Holds (held job.old) t.old_bytes
   pub new_held : Holds (held job.new) t.new_bytes
-  pub old_read : IsRead t.old_bytes t.old
-  pub new_read : IsRead t.new_bytes t.new
+  pub old_read : IsTaken t.old_bytes t.old
+  pub new_read : IsTaken t.new_bytes t.new

@@ -1,20 +1,37 @@
 //! The reply to the words of a command line.
-ghost use Rattle.std.specs.Prelude.{◌≡◌, ◌≢◌, IfOk, IsErrOf, Err, map, string_bytes};
+ghost use Rattle.std.specs.Prelude.{◌≡◌, ◌≢◌, ◌↔◌, IfOk, IsErrOf, Err, map, string_bytes};
 ghost use Rattle.sd_base.specs.Causes.{AllSame};
 ghost use Rattle.sd_base.specs.Outside.{AllStay};
 ghost use Rattle.symdiff.specs.Answer.{Answer, ReadRose};
-ghost use Rattle.symdiff.specs.Replies.{outcome_of};
+ghost use Rattle.symdiff.specs.Replies.{outcome_of, IsTextReply};
 
 use crate::comparing::compare;
 use crate::replaying::replay_file;
 use crate::reply::{Reply, Stop, message};
 use crate::text::{TextFault, read_text};
+use crate::text_error::{refusal_status, text_error};
 use crate::words::{Task, job_named};
 use sd_base::Files;
 use std::alloc::Global;
 
 const USAGE: &str =
     "usage: symdiff verify OLD NEW [--settings FILE] [--workers N] [--leaves N] [--certificate FILE]\n       symdiff replay OLD NEW CERTIFICATE [--settings FILE]\n       symdiff gen N [--workers N] [--leaves N]\n";
+
+/// The reply where the text that this word names isn't there.
+fn refuse<'a>(alloc: Global, word: &[u8], fault: TextFault) -> Result<Reply<'a>, Stop>
+    ensures reply { IfOk result (λ reply. IsTextReply word.now fault (outcome_of reply)) }
+    ensures failed { (result ≡ Err Stop.Failed) ↔ (fault ≡ TextFault.Failed) }
+{
+    match fault {
+        TextFault::Refused(refusal) => {
+            let line = text_error(alloc, word, &refusal)?;
+            let status = refusal_status(&refusal);
+            Ok(message(alloc, status, line.as_slice())?)
+        }
+        TextFault::Failed => Err(Stop::Failed),
+        TextFault::Memory => Err(Stop::Memory),
+    }
+}
 
 /// The reply to the words.
 pub fn reply_to<'a, F: Files>(
@@ -32,15 +49,11 @@ pub fn reply_to<'a, F: Files>(
     };
     let old = match read_text(alloc, files, job.old) {
         Ok(old) => old,
-        Err(TextFault::NotYet) => return Ok(message(alloc, 3, b"error: old not yet\n")?),
-        Err(TextFault::Failed) => return Err(Stop::Failed),
-        Err(TextFault::Memory) => return Err(Stop::Memory),
+        Err(fault) => return refuse(alloc, b"old", fault),
     };
     let new = match read_text(alloc, files, job.new) {
         Ok(new) => new,
-        Err(TextFault::NotYet) => return Ok(message(alloc, 3, b"error: new not yet\n")?),
-        Err(TextFault::Failed) => return Err(Stop::Failed),
-        Err(TextFault::Memory) => return Err(Stop::Memory),
+        Err(fault) => return refuse(alloc, b"new", fault),
     };
     match job.task {
         Task::Verify(name) => Ok(compare(alloc, &old, &new, name)?),

@@ -1,7 +1,8 @@
 //! The line that says why a certificate is refused.
-ghost use Rattle.std.specs.Prelude.{◌≡◌, ◌++◌, IfOk, OnOk, decimal};
+ghost use Rattle.std.specs.Prelude.{◌≡◌, ◌++◌, IfOk, OnOk};
 ghost use Rattle.symdiff.specs.CertificateErrors as spec;
 
+use crate::line::{push, push_number};
 use sd_base::NoMemory;
 use sd_cert::CertError;
 use sd_kernel::StepCause;
@@ -18,21 +19,6 @@ fn cause_word(cause: StepCause) -> &'static [u8]
         StepCause::Row => b"row",
         StepCause::Wide => b"wide",
     }
-}
-
-fn push(out: &mut Vec<u8>, words: &[u8]) -> Result<(), NoMemory>
-    ensures { OnOk result (out.new.items ≡ out.old.items ++ words.now) }
-{
-    out.extend_from_slice(words)?;
-    Ok(())
-}
-
-fn push_number(alloc: Global, out: &mut Vec<u8>, word: &[u8], number: u64) -> Result<(), NoMemory>
-    ensures { OnOk result (out.new.items ≡ out.old.items ++ (word.now ++ decimal number)) }
-{
-    push(out, word)?;
-    let digits = number.to_string(alloc)?;
-    push(out, digits.as_bytes())
 }
 
 fn push_step(alloc: Global, out: &mut Vec<u8>, line: u64, cause: StepCause) -> Result<(), NoMemory>

@@ -1,12 +1,12 @@
 //! The comparison of two texts.
 ghost use Rattle.std.specs.Prelude.{◌≡◌, length, IfOk};
 ghost use Rattle.std.specs.Option.{option_copied};
-ghost use Rattle.sd_parse.specs.Text.{IsRead};
 ghost use Rattle.sd_product.specs.Inductive.{proved_of};
 ghost use Rattle.sd_product.specs.Straight.{queries_of};
 ghost use Rattle.sd_cert.specs.Accepts.{Ascend};
 ghost use Rattle.sd_cert.specs.Written.{RefusedAreEmpty};
 ghost use Rattle.symdiff.specs.Outcome.{IsComparison};
+ghost use Rattle.symdiff.specs.TextRefusals.{IsTaken};
 ghost use Rattle.symdiff.specs.Replies.{outcome_of, texts_of, named, IsMade};
 
 use crate::reply::{NamedCertificate, Reply, report_on};
@@ -46,11 +46,11 @@ pub fn compare<'a>(
     new: &Text,
     name: Option<&'a str>,
 ) -> Result<Reply<'a>, NoMemory>
-    requires old_read { IsRead old.now.bytes.items old.now.program }
-    requires new_read { IsRead new.now.bytes.items new.now.program }
+    requires old_read { IsTaken old.now.bytes.items old.now.program }
+    requires new_read { IsTaken new.now.bytes.items new.now.program }
     ensures { IfOk result (λ reply. IsComparison (option_copied name.entry) (texts_of old.now new.now) (outcome_of reply)) }
 {
-    let straights = straight_pairs(alloc, &old.program, &new.program)?;
+    let straights = straight_pairs(alloc, old.program.program(), new.program.program())?;
     let straights = straights.as_slice();
     let settled = settle_straight(alloc, straights)?;
     let certificate = certify(alloc, old, new, straights, settled.proofs.as_slice(), name)?;

@@ -5,6 +5,7 @@ mod answering;
 mod certificate_error;
 mod comparing;
 mod judge;
+mod line;
 mod real;
 mod replaying;
 mod reply;
@@ -13,6 +14,7 @@ mod run;
 #[cfg(test)]
 mod tests;
 mod text;
+mod text_error;
 mod verdict;
 mod words;
 

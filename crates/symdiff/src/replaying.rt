@@ -2,7 +2,7 @@
 ghost use Rattle.std.specs.Prelude.{◌≡◌, ◌≢◌, IfOk, IsErrOf, Err};
 ghost use Rattle.sd_base.specs.Causes.{Rose, AllSame};
 ghost use Rattle.sd_base.specs.Outside.{AllStay};
-ghost use Rattle.sd_parse.specs.Text.{IsRead};
+ghost use Rattle.symdiff.specs.TextRefusals.{IsTaken};
 ghost use Rattle.symdiff.specs.Replies.{outcome_of, texts_of, refusal, IsJudged, IsReplayReply};
 
 use crate::certificate_error::certificate_error;
@@ -30,11 +30,11 @@ fn refuse<'a>(alloc: Global, fault: CertError) -> Result<Reply<'a>, NoMemory>
 
 /// Judges the bytes of a certificate of two texts.
 fn judge<'a>(alloc: Global, old: &Text, new: &Text, bytes: &[u8]) -> Result<Reply<'a>, NoMemory>
-    requires old_read { IsRead old.now.bytes.items old.now.program }
-    requires new_read { IsRead new.now.bytes.items new.now.program }
+    requires old_read { IsTaken old.now.bytes.items old.now.program }
+    requires new_read { IsTaken new.now.bytes.items new.now.program }
     ensures { IfOk result (λ reply. IsJudged bytes.now (texts_of old.now new.now) (outcome_of reply)) }
 {
-    let straights = straight_pairs(alloc, &old.program, &new.program)?;
+    let straights = straight_pairs(alloc, old.program.program(), new.program.program())?;
     let straights = straights.as_slice();
     let replayed = match replay(alloc, straights, &digests(old, new), bytes) {
         Ok(replayed) => replayed,
@@ -66,8 +66,8 @@ pub fn replay_file<'a, F: Files>(
     new: &Text,
     name: &str,
 ) -> Result<Reply<'a>, Stop>
-    requires old_read { IsRead old.now.bytes.items old.now.program }
-    requires new_read { IsRead new.now.bytes.items new.now.program }
+    requires old_read { IsTaken old.now.bytes.items old.now.program }
+    requires new_read { IsTaken new.now.bytes.items new.now.program }
     ensures reply { IfOk result (λ reply. IsReplayReply (F.held files.old name.now) (texts_of old.now new.now) (outcome_of reply)) }
     ensures cause { IsErrOf result Stop.Failed → Rose (F.read_faults files.old name.now) (F.read_faults files.new name.now) }
     ensures stay { AllStay F.held files.old files.new }

@@ -107,7 +107,12 @@ pub fn report_on(
     ensures { IfOk result (λ report. (deaths : List Death) (certificate : Option (List ℕ × List ℕ)) → IsReport otherwise (texts_of old.now new.now) table.now (outcome_with report deaths certificate)) }
 {
     let pairs = verdicts_of(alloc, straights, table, otherwise)?;
-    let text = report_of(alloc, &old.program, &new.program, pairs.as_slice())?;
+    let text = report_of(
+        alloc,
+        old.program.program(),
+        new.program.program(),
+        pairs.as_slice(),
+    )?;
     let status = status_of(pairs.as_slice());
     Ok(Report {
         status,

@@ -1,40 +1,92 @@
-ghost use Rattle.std.specs.Prelude.{◌≡◌, ◌≢◌, IfOk, IsErrOf, Err};
+//! The texts that are read.
+ghost use Rattle.std.specs.Prelude.{◌≡◌, ◌≢◌, IfOk, IfErr, Err};
 ghost use Rattle.sd_base.specs.Causes.{Rose, NeverFall, AllSame};
 ghost use Rattle.sd_base.specs.Outside.{WhereTold, AllStay};
-ghost use Rattle.sd_parse.specs.Text.{IsRead};
-ghost use Rattle.symdiff.specs.Texts.{SpellsNone, Holds, digests_of};
+ghost use Rattle.sd_types.specs.Declarations.{WellTyped};
+ghost use Rattle.symdiff.specs.declared.text.TextRefusal.{TextRefusal as Refusal};
+ghost use Rattle.symdiff.specs.Texts.{Holds, digests_of};
+ghost use Rattle.symdiff.specs.TextRefusals.{IsTaken, IsTextRefusal};
 ghost use Rattle.symdiff.specs.Replies.{texts_of};
+ghost use Rattle.symdiff.specs.Taking.{IsFault, IsReadFault, IsTypeFault};
 
-use sd_ast::Program;
 use sd_base::limits::TEXT_BYTES;
 use sd_base::{Files, ReadFault, read_up_to};
 use sd_cert::{Digests, digests_of};
 use sd_parse::{ReadError, read_program};
+use sd_types::{TypeError, Typed, check, is_boolean_program};
 use std::alloc::Global;
 
 /// A text that was read, and the program that it spells.
 #[derive(Drop)]
 pub struct Text {
     pub bytes: Vec<u8>,
-    pub program: Program,
+    pub program: Typed,
+}
+
+/// Why a text isn't taken.
+#[derive(Drop)]
+pub enum TextRefusal {
+    /// It isn't read.
+    Reading(ReadError),
+    /// It breaks a rule on names and types.
+    Typing(TypeError),
+    /// It is well typed, and of a form that this version doesn't take.
+    NotYet,
 }
 
 /// Why a file gave no program.
-#[derive(Clone, Copy, Debug, PartialEq, Eq)]
+#[derive(Drop)]
 pub enum TextFault {
     Memory,
     /// The reading of the file failed.
     Failed,
-    /// The text is no program of the form that this version takes.
-    NotYet,
+    Refused(TextRefusal),
+}
+
+fn read_fault(error: ReadError) -> TextFault
+    ensures { IsReadFault error result }
+{
+    match error {
+        ReadError::NoMemory => TextFault::Memory,
+        error => TextFault::Refused(TextRefusal::Reading(error)),
+    }
+}
+
+fn type_fault(error: TypeError) -> TextFault
+    ensures { IsTypeFault error result }
+{
+    match error {
+        TypeError::NoMemory => TextFault::Memory,
+        error => TextFault::Refused(TextRefusal::Typing(error)),
+    }
+}
+
+/// The program of a text, where it is taken.
+fn take(alloc: Global, bytes: &[u8]) -> Result<Typed, TextFault>
+    ensures taken { IfOk result (λ program. IsTaken bytes.now program) }
+    ensures refused { IfErr result (IsFault bytes.now) }
+{
+    let program = match read_program(alloc, bytes) {
+        Ok(program) => program,
+        Err(error) => return Err(read_fault(error)),
+    };
+    let typed = match check(alloc, program) {
+        Ok(typed) => typed,
+        Err((_, error)) => return Err(type_fault(error)),
+    };
+    match is_boolean_program(alloc, typed.program()) {
+        Ok(true) => Ok(typed),
+        Ok(false) => Err(TextFault::Refused(TextRefusal::NotYet)),
+        Err(_) => Err(TextFault::Memory),
+    }
 }
 
 /// Reads a file and the program that it spells.
 pub fn read_text<F: Files>(alloc: Global, files: &mut F, name: &str) -> Result<Text, TextFault>
     ensures held { IfOk result (λ text. Holds (F.held files.old name.now) text.bytes.items) }
-    ensures spelled { IfOk result (λ text. IsRead text.bytes.items text.program) }
-    ensures refused { IsErrOf result TextFault.NotYet → WhereTold (F.held files.old name.now) SpellsNone }
-    ensures cause { IsErrOf result TextFault.Failed → Rose (F.read_faults files.old name.now) (F.read_faults files.new name.now) }
+    ensures taken { IfOk result (λ text. IsTaken text.bytes.items text.program) }
+    ensures refused { (r : Refusal) → result ≡ Err (TextFault.Refused r) → WhereTold (F.held files.old name.now) (λ bytes. IsTextRefusal bytes r) }
+    ensures cause { result ≡ Err TextFault.Failed → Rose (F.read_faults files.old name.now) (F.read_faults files.new name.now) }
     ensures stay { AllStay F.held files.old files.new }
     ensures counts { NeverFall (F.read_faults files.old) (F.read_faults files.new) }
     ensures others { NeverFall (F.write_faults files.old) (F.write_faults files.new) }
@@ -45,10 +97,9 @@ pub fn read_text<F: Files>(alloc: Global, files: &mut F, name: &str) -> Result<T
         Err(ReadFault::Failed) => return Err(TextFault::Failed),
         Err(ReadFault::Memory) => return Err(TextFault::Memory),
     };
-    match read_program(alloc, bytes.as_slice()) {
+    match take(alloc, bytes.as_slice()) {
         Ok(program) => Ok(Text { bytes, program }),
-        Err(ReadError::NotYet) => Err(TextFault::NotYet),
-        Err(ReadError::NoMemory) => Err(TextFault::Memory),
+        Err(fault) => Err(fault),
     }
 }
 
