@@ -1,12 +1,12 @@
 -- What a comparison of two programs tells of their runs.
 use Rattle.std.proofs.Common.{◌≡◌, sym, subst, ℕ, List, [], ◌∷◌}
-use Rattle.std.specs.Prelude.{Option}
+use Rattle.std.specs.Prelude.{Option, Result, Ok, Err}
+use Rattle.sd_parse.specs.declared.answer.ReadError.{ReadError}
 use Rattle.std.specs.List.{AllByRecursion}
 use Rattle.sd_ast.specs.declared.Proc.{Proc}
 use Rattle.sd_ast.specs.declared.Program.{Program}
 use Rattle.sd_meaning.specs.NewFailure.{NewFailure}
-use Rattle.sd_parse.specs.Text.{IsRead}
-use Rattle.sd_parse.proofs.TextLemmas.{one_program}
+use Rattle.sd_parse.proofs.AnswerLaws.{one_answer}
 use Rattle.sd_kernel.proofs.Walks.{proves-accepted}
 use Rattle.sd_kernel.proofs.Refuted.{accepted-unsatisfiable}
 use Rattle.sd_product.specs.declared.pair.Candidate.{Candidate}
@@ -20,20 +20,23 @@ use Rattle.sd_product.proofs.Failures.{unsatisfiable-safe, open_cubes-fail}
 use Rattle.symdiff.specs.declared.verdict.PairVerdict.{PairVerdict}
 use Rattle.symdiff.specs.declared.verdict.VerdictState.{VerdictState}
 use Rattle.symdiff.specs.declared.verdict.VerdictState.TheVariants.{Safe, Unknown, Unproved}
+use Rattle.symdiff.specs.TextRefusals.{IsTaken}
 use Rattle.symdiff.specs.Texts.{Texts, pairs_of, digests_of}
 use Rattle.symdiff.specs.Outcome.{Outcome, IsComparison, IsReplay}
 use Rattle.symdiff.specs.Verdicts.{verdicts_of, NoNewFailure, AreNewFailures}
 use Rattle.symdiff.proofs.Settling.{HasProof, HasCube, live_proved, settled_inductive, dead_open}
 use Rattle.symdiff.proofs.VerdictLemmas.{IsRight, all_right}
 
-pub one_program_read : (bytes : List ℕ) (P Q : Program) → IsRead bytes P → IsRead bytes Q → P ≡ Q
-one_program_read bytes P Q p q = one_program bytes P Q p q
+-- a text is taken as one program
+pub one_taken : (bytes : List ℕ) (P Q : Program) → IsTaken bytes P → IsTaken bytes Q → P ≡ Q
+one_taken bytes P Q p q =
+    let same : ◌≡◌ {A = Result Program ReadError} (Ok P) (Ok Q) = one_answer bytes (Ok P) (Ok Q) p.read q.read (λ e. cc) (λ e. cc) in cc
 
 all-map : {X : Type 0} (A B : X → Type 0) → ((x : X) → A x → B x) → (xs : List X) → AllByRecursion A xs → AllByRecursion B xs
 all-map A B f [] a = tt
 all-map A B f (x ∷ xs) a = (f x a.0, all-map A B f xs a.1)
 
-module _ (t : Texts) (old_read : IsRead t.old_bytes t.old) (new_read : IsRead t.new_bytes t.new) where
+module _ (t : Texts) (old_read : IsTaken t.old_bytes t.old) (new_read : IsTaken t.new_bytes t.new) where
   safe : (p q : Proc) (c : Candidate) → IsPair t.old t.new p.head.name q.head.name p q → HasProof (query_of c p q) → NewFailure t.old t.new p.head.name q.head.name → ⊥
   safe p q c pair proof =
       unsatisfiable-safe t.old t.new p.head.name q.head.name p q c pair
@@ -45,7 +48,7 @@ module _ (t : Texts) (old_read : IsRead t.old_bytes t.old) (new_read : IsRead t.
   failure p q pair cube = open_cubes-fail t.old t.new p.head.name q.head.name p q cube.cube pair cube.«open»
 
   abbrev Right : PairVerdict → Type 0
-  Right = IsRight t.old t.new old_read.typed new_read.typed
+  Right = IsRight t.old t.new old_read.boolean new_read.boolean
 
   abbrev AreRight : List PairVerdict → Type 0
   AreRight vs = AllByRecursion Right vs
@@ -63,13 +66,13 @@ module _ (t : Texts) (old_read : IsRead t.old_bytes t.old) (new_read : IsRead t.
   compared_right name o c =
       let queries = queries_of (pairs_of t) in
       subst AreRight (sym c.told.verdicts)
-      (all_right t.old t.new old_read.typed new_read.typed Unknown unknown_not_safe HasProof HasCube safe (λ is. failure) c.live c.settled.0
+      (all_right t.old t.new old_read.boolean new_read.boolean Unknown unknown_not_safe HasProof HasCube safe (λ is. failure) c.live c.settled.0
       (live_proved queries c.live c.proofs (settled_inductive queries c.live o.deaths c.proofs c.settled)) (dead_open queries c.live o.deaths c.proofs c.settled))
 
   pub replayed_right : (bytes : List ℕ) (o : Outcome) → IsReplay bytes t o → AreRight o.pairs
   replayed_right bytes o r =
       subst AreRight (sym r.told.verdicts)
-      (all_right t.old t.new old_read.typed new_read.typed Unproved unproved_not_safe HasProof (λ facts. Unit {0}) safe (λ is p q pair d. absurd (unproved_not_unknown is)) r.live r.accepted.size
+      (all_right t.old t.new old_read.boolean new_read.boolean Unproved unproved_not_safe HasProof (λ facts. Unit {0}) safe (λ is p q pair d. absurd (unproved_not_unknown is)) r.live r.accepted.size
       (live_proved (queries_of (pairs_of t)) r.live _ r.accepted.inductive) (λ c facts dead query. tt))
 
   -- no safe pair has a new failure

@@ -7,6 +7,10 @@ use Rattle.sd_base.specs.Outside.{appended, emptied, AllStay, OthersStay}
 use Rattle.symdiff.specs.declared.run.Ended.{Ended}
 use Rattle.symdiff.specs.declared.run.CertificateFile.{CertificateFile}
 use Rattle.symdiff.specs.declared.run.CertificateFile.TheVariants.{Untouched, NotStarted, Cut, Whole}
+use Rattle.sd_parse.specs.declared.answer.ReadError.TheVariants as read
+use Rattle.symdiff.specs.declared.text.TextRefusal.{TextRefusal}
+use Rattle.symdiff.specs.declared.text.TextRefusal.TheVariants.{Reading, Typing, NotYet}
+use Rattle.symdiff.specs.TextRefusals.{refusal_status}
 use Rattle.symdiff.specs.Words.{JobNames, verify, job_of}
 use Rattle.symdiff.specs.Report.{is_safe}
 use Rattle.symdiff.specs.Texts.{Texts}
@@ -17,9 +21,24 @@ use Rattle.symdiff.proofs.Rows.{row_known, row_headline, row_unknown}
 
 -- ---- the status of a row is none of those of a stop
 
+code_apart : (n code : ℕ) → code ≡ n → (code ≡ 6 → ⊥) → (code ≡ 8 → ⊥) → (n ≡ 6) ⊎ (n ≡ 8) → ⊥
+code_apart n code e six eight (inl h) = six (e ∙ h)
+code_apart n code e six eight (inr h) = eight (e ∙ h)
+
 status_apart : (o : Outcome) (code : ℕ) (text : List ℕ) → o ≡ message code text → (code ≡ 6 → ⊥) → (code ≡ 8 → ⊥) → (o.status ≡ 6) ⊎ (o.status ≡ 8) → ⊥
 status_apart o code text is six eight (inl e) = six (sym (ap (λ (p : Outcome). p.status) is) ∙ e)
 status_apart o code text is six eight (inr e) = eight (sym (ap (λ (p : Outcome). p.status) is) ∙ e)
+
+refusal_apart : (r : TextRefusal) (n : ℕ) → refusal_status r ≡ n → (n ≡ 6) ⊎ (n ≡ 8) → ⊥
+refusal_apart (Reading read.TooLong) n e h = code_apart n 9 e (λ k. omega arith) (λ k. omega arith) h
+refusal_apart (Reading (read.Deep at)) n e h = code_apart n 9 e (λ k. omega arith) (λ k. omega arith) h
+refusal_apart (Reading read.TooMany) n e h = code_apart n 9 e (λ k. omega arith) (λ k. omega arith) h
+refusal_apart (Reading read.NoMemory) n e h = code_apart n 3 e (λ k. omega arith) (λ k. omega arith) h
+refusal_apart (Reading (read.Lex x)) n e h = code_apart n 3 e (λ k. omega arith) (λ k. omega arith) h
+refusal_apart (Reading (read.Star at)) n e h = code_apart n 3 e (λ k. omega arith) (λ k. omega arith) h
+refusal_apart (Reading (read.Syntax at)) n e h = code_apart n 3 e (λ k. omega arith) (λ k. omega arith) h
+refusal_apart (Typing x) n e h = code_apart n 3 e (λ k. omega arith) (λ k. omega arith) h
+refusal_apart NotYet n e h = code_apart n 3 e (λ k. omega arith) (λ k. omega arith) h
 
 zero_one_apart : (b : Bool) (n : ℕ) → n ≡ (if b then 0 else 1) → (n ≡ 6) ⊎ (n ≡ 8) → ⊥
 zero_one_apart true n e (inl h) = absurd (omega arith)
@@ -30,8 +49,8 @@ zero_one_apart false n e (inr h) = absurd (omega arith)
 module _ (words : List (List ℕ)) (held : List ℕ → Option (List ℕ)) (o : Outcome) where
   pub row_apart : Answer words held o → (o.status ≡ 6) ⊎ (o.status ≡ 8) → ⊥
   row_apart (no_job a is) h = status_apart o 2 _ is (λ e. omega arith) (λ e. omega arith) h
-  row_apart (old_refused job a b is) h = status_apart o 3 _ is (λ e. omega arith) (λ e. omega arith) h
-  row_apart (new_refused job old a b c is) h = status_apart o 3 _ is (λ e. omega arith) (λ e. omega arith) h
+  row_apart (old_refused job r a b is) h = refusal_apart r o.status (sym (ap (λ (p : Outcome). p.status) is)) h
+  row_apart (new_refused job old r a b c is) h = refusal_apart r o.status (sym (ap (λ (p : Outcome). p.status) is)) h
   row_apart (compared job t name a b c r) h = zero_one_apart (list_all (λ v. is_safe v.state) o.pairs) o.status r.told.status h
   row_apart (too_long job t name a b c d is) h = status_apart o 9 _ is (λ e. omega arith) (λ e. omega arith) h
   row_apart (certificate_refused job t name bytes e a b c d r is) h = status_apart o 5 _ is (λ e. omega arith) (λ e. omega arith) h
@@ -58,8 +77,8 @@ module _ (words : List (List ℕ)) (held : List ℕ → Option (List ℕ)) (o : 
 
   row_file : (file : List ℕ × List ℕ) → Answer words held o → o.certificate ≡ Some file → NamesFile file
   row_file file (no_job a is) e = absurd (message_file file 2 _ is e)
-  row_file file (old_refused job a b is) e = absurd (message_file file 3 _ is e)
-  row_file file (new_refused job old a b c is) e = absurd (message_file file 3 _ is e)
+  row_file file (old_refused job r a b is) e = absurd (message_file file (refusal_status r) _ is e)
+  row_file file (new_refused job old r a b c is) e = absurd (message_file file (refusal_status r) _ is e)
   row_file file (compared job t name a b c r) e = record { job = job; named = a; task = b ∙ ap verify (certified_file t r.live name o.certificate file r.certified e) }
   row_file file (too_long job t name a b c d is) e = absurd (message_file file 9 _ is e)
   row_file file (certificate_refused job t name bytes x a b c d r is) e = absurd (message_file file 5 _ is e)

@@ -5,16 +5,19 @@ use Rattle.std.specs.List.{list_all}
 use Rattle.sd_base.specs.Causes.{Rose}
 use Rattle.sd_base.specs.Outside.{WhereTold}
 use Rattle.sd_ast.specs.declared.Program.{Program}
-use Rattle.sd_parse.specs.Text.{IsRead}
 use Rattle.symdiff.specs.declared.verdict.PairVerdict.{PairVerdict}
 use Rattle.symdiff.specs.Words.{JobNames, replay, job_of}
 use Rattle.symdiff.specs.Report.{is_safe}
+use Rattle.sd_parse.specs.declared.answer.ReadError.TheVariants as read
+use Rattle.symdiff.specs.declared.text.TextRefusal.{TextRefusal}
+use Rattle.symdiff.specs.declared.text.TextRefusal.TheVariants.{Reading, Typing, NotYet}
+use Rattle.symdiff.specs.TextRefusals.{IsTaken, refusal_status}
 use Rattle.symdiff.specs.Texts.{Holds, Texts, AreRead}
 use Rattle.symdiff.specs.Outcome.{Outcome, message, status_of}
 use Rattle.symdiff.specs.Replies.{IsReplayReply}
 use Rattle.symdiff.specs.Verdicts.{NoNewFailure, AreNewFailures}
 use Rattle.symdiff.specs.Answer.{Answer, no_job, old_refused, new_refused, compared, too_long, certificate_refused, replayed, ForPrograms, Headline, UnknownIsFailure}
-use Rattle.symdiff.proofs.Comparison.{compared_right, replayed_right, right_safe, right_unknown, one_program_read}
+use Rattle.symdiff.proofs.Comparison.{compared_right, replayed_right, right_safe, right_unknown, one_taken}
 
 abbrev codes_known : List ℕ
 codes_known = 0 ∷ 1 ∷ 2 ∷ 3 ∷ 5 ∷ 6 ∷ 7 ∷ 8 ∷ 9 ∷ []
@@ -35,6 +38,23 @@ zero_or_one : (b : Bool) → Contains codes_known (if b then 0 else 1)
 zero_or_one true = (0, omega arith, refl)
 zero_or_one false = (1, omega arith, refl)
 
+three_known : Contains codes_known 3
+three_known = (3, omega arith, refl)
+
+nine_known : Contains codes_known 9
+nine_known = (8, omega arith, refl)
+
+refusal_known : (r : TextRefusal) → Contains codes_known (refusal_status r)
+refusal_known (Reading read.TooLong) = nine_known
+refusal_known (Reading (read.Deep at)) = nine_known
+refusal_known (Reading read.TooMany) = nine_known
+refusal_known (Reading read.NoMemory) = three_known
+refusal_known (Reading (read.Lex e)) = three_known
+refusal_known (Reading (read.Star at)) = three_known
+refusal_known (Reading (read.Syntax at)) = three_known
+refusal_known (Typing e) = three_known
+refusal_known NotYet = three_known
+
 status_is : (o : Outcome) (code : ℕ) (text : List ℕ) → o ≡ message code text → o.status ≡ code
 status_is o code text e = ap (λ (p : Outcome). p.status) e
 
@@ -42,8 +62,8 @@ module _ (words : List (List ℕ)) (held : List ℕ → Option (List ℕ)) (o : 
   -- the status of a row is a known one
   pub row_known : Answer words held o → Contains codes_known o.status
   row_known (no_job a is) = known_by o.status 2 (status_is o 2 _ is) (2, omega arith, refl)
-  row_known (old_refused job a b is) = known_by o.status 3 (status_is o 3 _ is) (3, omega arith, refl)
-  row_known (new_refused job old a b c is) = known_by o.status 3 (status_is o 3 _ is) (3, omega arith, refl)
+  row_known (old_refused job r a b is) = known_by o.status (refusal_status r) (status_is o (refusal_status r) _ is) (refusal_known r)
+  row_known (new_refused job old r a b c is) = known_by o.status (refusal_status r) (status_is o (refusal_status r) _ is) (refusal_known r)
   row_known (compared job t name a b c r) = known_by o.status (status_of o.pairs) r.told.status (zero_or_one (list_all (λ v. is_safe v.state) o.pairs))
   row_known (too_long job t name a b c d is) = known_by o.status 9 (status_is o 9 _ is) (8, omega arith, refl)
   row_known (certificate_refused job t name bytes e a b c d r is) = known_by o.status 5 (status_is o 5 _ is) (4, omega arith, refl)
@@ -63,15 +83,15 @@ module _ (words : List (List ℕ)) (held : List ℕ → Option (List ℕ)) (o : 
         let same : job ≡ j = same_job job j named m in
         let old_same : ob ≡ t.old_bytes = read.old_held ob (ap (λ (k : JobNames). held k.old) same ∙ ot) in
         let new_same : nb ≡ t.new_bytes = read.new_held nb (ap (λ (k : JobNames). held k.new) same ∙ nt) in
-        let old_is : t.old ≡ P = one_program_read t.old_bytes t.old P read.old_read (subst (λ (b : List ℕ). IsRead b P) old_same s) in
-        let new_is : t.new ≡ Q = one_program_read t.new_bytes t.new Q read.new_read (subst (λ (b : List ℕ). IsRead b Q) new_same u) in
+        let old_is : t.old ≡ P = one_taken t.old_bytes t.old P read.old_read (subst (λ (b : List ℕ). IsTaken b P) old_same s) in
+        let new_is : t.new ≡ Q = one_taken t.new_bytes t.new Q read.new_read (subst (λ (b : List ℕ). IsTaken b Q) new_same u) in
         subst (λ (q : Program). claim P q o.pairs) new_is (subst (λ (p : Program). claim p t.new o.pairs) old_is h)
 
   -- the headline holds of each row
   pub row_headline : Answer words held o → Headline words held o.pairs
   row_headline (no_job a is) = silent_for NoNewFailure (λ P Q. tt) 2 _ is
-  row_headline (old_refused job a b is) = silent_for NoNewFailure (λ P Q. tt) 3 _ is
-  row_headline (new_refused job old a b c is) = silent_for NoNewFailure (λ P Q. tt) 3 _ is
+  row_headline (old_refused job r a b is) = silent_for NoNewFailure (λ P Q. tt) (refusal_status r) _ is
+  row_headline (new_refused job old r a b c is) = silent_for NoNewFailure (λ P Q. tt) (refusal_status r) _ is
   row_headline (compared job t name a b c r) =
       texts_for NoNewFailure (λ P Q. tt) job t a c (right_safe t c.old_read c.new_read o.pairs (compared_right t c.old_read c.new_read name o r))
   row_headline (too_long job t name a b c d is) = silent_for NoNewFailure (λ P Q. tt) 9 _ is
@@ -82,8 +102,8 @@ module _ (words : List (List ℕ)) (held : List ℕ → Option (List ℕ)) (o : 
   -- and an unknown pair has a failure
   pub row_unknown : Answer words held o → UnknownIsFailure words held o.pairs
   row_unknown (no_job a is) = silent_for AreNewFailures (λ P Q. tt) 2 _ is
-  row_unknown (old_refused job a b is) = silent_for AreNewFailures (λ P Q. tt) 3 _ is
-  row_unknown (new_refused job old a b c is) = silent_for AreNewFailures (λ P Q. tt) 3 _ is
+  row_unknown (old_refused job r a b is) = silent_for AreNewFailures (λ P Q. tt) (refusal_status r) _ is
+  row_unknown (new_refused job old r a b c is) = silent_for AreNewFailures (λ P Q. tt) (refusal_status r) _ is
   row_unknown (compared job t name a b c r) =
       texts_for AreNewFailures (λ P Q. tt) job t a c (right_unknown t c.old_read c.new_read o.pairs (compared_right t c.old_read c.new_read name o r))
   row_unknown (too_long job t name a b c d is) = silent_for AreNewFailures (λ P Q. tt) 9 _ is
@@ -94,7 +114,7 @@ module _ (words : List (List ℕ)) (held : List ℕ → Option (List ℕ)) (o : 
 -- ---- rows
 
 -- what was read, while the files stay
-pub are_read : (held : List ℕ → Option (List ℕ)) (told : Option (List ℕ)) (job : JobNames) (t : Texts) → told ≡ held job.new → Holds (held job.old) t.old_bytes → IsRead t.old_bytes t.old → Holds told t.new_bytes → IsRead t.new_bytes t.new → AreRead held job t
+pub are_read : (held : List ℕ → Option (List ℕ)) (told : Option (List ℕ)) (job : JobNames) (t : Texts) → told ≡ held job.new → Holds (held job.old) t.old_bytes → IsTaken t.old_bytes t.old → Holds told t.new_bytes → IsTaken t.new_bytes t.new → AreRead held job t
 are_read held told job t stay old_held old_read new_held new_read = record {
   old_held = old_held;
   new_held = λ bytes e. new_held bytes (stay ∙ e);
@@ -103,8 +123,8 @@ are_read held told job t stay old_held old_read new_held new_read = record {
 }
 
 -- a held text that is read
-pub told_read : (told : Option (List ℕ)) (bytes : List ℕ) (P : Program) → Holds told bytes → IsRead bytes P → WhereTold told (λ b. IsRead b P)
-told_read told bytes P h r b e = subst (λ (x : List ℕ). IsRead x P) (sym (h b e)) r
+pub told_taken : (told : Option (List ℕ)) (bytes : List ℕ) (P : Program) → Holds told bytes → IsTaken bytes P → WhereTold told (λ b. IsTaken b P)
+told_taken told bytes P h r b e = subst (λ (x : List ℕ). IsTaken x P) (sym (h b e)) r
 
 pub replay_row : (words : List (List ℕ)) (held : List ℕ → Option (List ℕ)) (o : Outcome) (job : JobNames) (t : Texts) (name : List ℕ) (told : Option (List ℕ)) → job_of words ≡ Some job → job.task ≡ replay name → AreRead held job t → told ≡ held name → IsReplayReply told t o → Answer words held o
 replay_row words held o job t name told named task read same (inl h) = too_long job t name named task read (λ bytes e. h.0 bytes (same ∙ e)) h.1

@@ -1,24 +1,44 @@
 -- What was read within the limit is the whole text.
-use Rattle.std.proofs.Common.{◌≡◌, ◌∙◌, sym, ap, ℕ, ◌+◌, ◌≤◌, List, length, take, subst, arith}
+use Rattle.std.proofs.Common.{◌≡◌, ◌∙◌, sym, ap, ℕ, ◌+◌, ◌≤◌, ◌<◌, List, length, take, subst, arith}
+use Rattle.std.specs.Prelude.{Result, Ok, Err}
 use Rattle.std.proofs.lemmas.List.{take_all, length-take}
 use Rattle.sd_ast.specs.declared.Program.{Program}
-use Rattle.sd_parse.specs.Text.{IsRead}
-use Rattle.symdiff.specs.Texts.{SpellsNone}
+use Rattle.sd_parse.specs.declared.answer.ReadError.{ReadError}
+use Rattle.sd_parse.specs.declared.answer.ReadError.TheVariants.{NoMemory, TooLong, Lex, Star, Syntax, Deep, TooMany}
+use Rattle.sd_parse.specs.Answer.{IsReading, IsParsed}
+use Rattle.symdiff.specs.declared.text.TextRefusal.{TextRefusal}
+use Rattle.symdiff.specs.declared.text.TextRefusal.TheVariants.{Reading, Typing, NotYet}
+use Rattle.symdiff.specs.TextRefusals.{IsTaken, IsTextRefusal}
 
 pub front_is : (limit : ℕ) (bytes read : List ℕ) → read ≡ take (limit + 1) bytes → length read ≤ limit → read ≡ bytes
 front_is limit bytes read front short =
     let short' : length bytes ≤ limit = omega (arith, ap length front, length-take (limit + 1) bytes) in
     front ∙ take_all (limit + 1) bytes (omega arith)
 
-pub read_whole : (limit : ℕ) (bytes read slice : List ℕ) (P : Program) → limit ≡ 16777216 → read ≡ take (limit + 1) bytes → slice ≡ read → IsRead slice P → bytes ≡ read
-read_whole limit bytes read slice P is front same spelled =
-    let short : length read ≤ limit = omega (arith, ap length same, spelled.short) in
-    sym (front_is limit bytes read front short)
+module _ (limit : ℕ) (bytes read slice : List ℕ) (is : limit ≡ 16777216) (front : read ≡ take (limit + 1) bytes) (same : slice ≡ read) where
+  slice_is : length slice ≤ 16777216 → slice ≡ bytes
+  slice_is short = let low : length read ≤ limit = omega (arith, ap length same) in same ∙ front_is limit bytes read front low
 
-pub read_same : (read slice : List ℕ) (P : Program) → slice ≡ read → IsRead slice P → IsRead read P
-read_same read slice P same spelled = subst (λ (b : List ℕ). IsRead b P) same spelled
+  parsed_whole : (r : Result Program ReadError) → IsParsed slice r → IsParsed bytes r
+  parsed_whole r h = subst (λ (b : List ℕ). IsParsed b r) (slice_is h.short) h
 
-pub spells_none_whole : (limit : ℕ) (bytes read slice : List ℕ) → limit ≡ 16777216 → read ≡ take (limit + 1) bytes → slice ≡ read → SpellsNone slice → SpellsNone bytes
-spells_none_whole limit bytes read slice is front same none P spelled =
-    let short : length bytes ≤ limit + 1 = omega (arith, spelled.short) in
-    none P (subst (λ (b : List ℕ). IsRead b P) (sym (same ∙ (front ∙ take_all (limit + 1) bytes short))) spelled)
+  pub reading_whole : (r : Result Program ReadError) → IsReading slice r → IsReading bytes r
+  reading_whole (Ok P) h = parsed_whole (Ok P) h
+  reading_whole (Err NoMemory) h = tt
+  reading_whole (Err TooLong) h = omega (arith, ap length same, ap length front, length-take (limit + 1) bytes)
+  reading_whole (Err (Lex e)) h = subst (λ (b : List ℕ). IsReading b (Err (Lex e))) (slice_is h.0) h
+  reading_whole (Err (Star at)) h = parsed_whole (Err (Star at)) h
+  reading_whole (Err (Syntax at)) h = parsed_whole (Err (Syntax at)) h
+  reading_whole (Err (Deep at)) h = parsed_whole (Err (Deep at)) h
+  reading_whole (Err TooMany) h = parsed_whole (Err TooMany) h
+
+  pub refusal_whole : (r : TextRefusal) → IsTextRefusal slice r → IsTextRefusal bytes r
+  refusal_whole (Reading e) h = (reading_whole (Err e) h.0, h.1)
+  refusal_whole (Typing e) h = (h.0, reading_whole (Ok h.0) h.1, h.2)
+  refusal_whole NotYet h = (h.0, reading_whole (Ok h.0) h.1, h.2)
+
+  pub taken_is : (P : Program) → IsTaken slice P → bytes ≡ read
+  taken_is P t = sym (slice_is t.read.short) ∙ same
+
+pub taken_same : (read slice : List ℕ) (P : Program) → slice ≡ read → IsTaken slice P → IsTaken read P
+taken_same read slice P same t = subst (λ (b : List ℕ). IsTaken b P) same t

@@ -1,9 +1,9 @@
 -- Why a text gave no program.
 use Rattle.std.specs.Prelude.{◌≡◌, ◌≢◌, ℕ, List}
-use Rattle.sd_parse.specs.declared.ReadError.{ReadError}
-use Rattle.sd_parse.specs.declared.ReadError.TheVariants as read
-use Rattle.sd_types.specs.declared.TypeError.{TypeError}
-use Rattle.sd_types.specs.declared.TypeError.TheVariants as kind
+use Rattle.sd_parse.specs.declared.answer.ReadError.{ReadError}
+use Rattle.sd_parse.specs.declared.answer.ReadError.TheVariants as read
+use Rattle.sd_types.specs.declared.refusal.TypeError.{TypeError}
+use Rattle.sd_types.specs.declared.refusal.TypeError.TheVariants as kind
 use Rattle.symdiff.specs.declared.text.TextFault.{TextFault}
 use Rattle.symdiff.specs.declared.text.TextFault.TheVariants.{Memory, Failed, Refused}
 use Rattle.symdiff.specs.declared.text.TextRefusal.TheVariants.{Reading, Typing}

@@ -4,13 +4,13 @@ use Rattle.sd_base.specs.declared.Place.{Place}
 use Rattle.sd_base.specs.Value.{Text}
 use Rattle.sd_ast.specs.declared.Program.{Program}
 use Rattle.sd_ast.specs.Boolean.{IsBooleanProgram}
-use Rattle.sd_lex.specs.declared.LexError.{LexError}
-use Rattle.sd_lex.specs.declared.LexError.TheVariants as lex
-use Rattle.sd_parse.specs.declared.ReadError.{ReadError}
-use Rattle.sd_parse.specs.declared.ReadError.TheVariants as read
-use Rattle.sd_parse.specs.Text.{IsReading}
-use Rattle.sd_types.specs.declared.TypeError.{TypeError}
-use Rattle.sd_types.specs.declared.TypeError.TheVariants as kind
+use Rattle.sd_lex.specs.declared.token.LexError.{LexError}
+use Rattle.sd_lex.specs.declared.token.LexError.TheVariants as lex
+use Rattle.sd_parse.specs.declared.answer.ReadError.{ReadError}
+use Rattle.sd_parse.specs.declared.answer.ReadError.TheVariants as read
+use Rattle.sd_parse.specs.Answer.{IsReading}
+use Rattle.sd_types.specs.declared.refusal.TypeError.{TypeError}
+use Rattle.sd_types.specs.declared.refusal.TypeError.TheVariants as kind
 use Rattle.sd_types.specs.Declarations.{first_broken, WellTyped}
 use Rattle.symdiff.specs.declared.text.TextRefusal.{TextRefusal}
 use Rattle.symdiff.specs.declared.text.TextRefusal.TheVariants.{Reading, Typing, NotYet}
