@@ -19,7 +19,7 @@ is_one_of (x ∷ xs) b = b == x || is_one_of xs b
 abbrev pub is_blank : ℕ → Bool
 is_blank b = b == 32 || b == 9 || b == 13 || b == 10
 
--- a letter or one of _ . $ # ' ~ ^ ? `
+-- a letter, or one of the other signs that may stand in a name
 abbrev pub is_letter : ℕ → Bool
 is_letter b = is_ascii_alphabetic b || b == 95 || b == 46 || b == 36 || b == 35 || b == 39 || b == 126 || b == 94 || b == 63 || b == 96
 

@@ -1,5 +1,6 @@
 use sd_base::{Name, NoMemory, Place};
 use std::alloc::AllocFailed;
+use thiserror::Error;
 
 /// What a token is. The name is its text; that of a string is what stands between the quotes.
 
@@ -34,18 +35,24 @@ pub enum Piece {
 }
 
 /// Why a text has no tokens. The place is that of the first piece of the text that is refused.
-#[derive(Debug, Drop)]
+#[derive(Debug, Drop, Error)]
 pub enum LexError {
+    #[error("out of memory")]
     NoMemory,
     /// A number that is over 18446744073709551615.
+    #[error("a number is too wide")]
     Wide(Place),
     /// A word or a symbol that is kept for what the language leaves out, as it is written.
+    #[error("a word or symbol is not supported")]
     Unsupported(Place, Name),
     /// A byte that begins no token.
+    #[error("a byte begins no token")]
     BadByte(Place),
     /// A comment without its end, at the place of the outermost.
+    #[error("a comment has no end")]
     OpenComment(Place),
     /// A string that doesn't end on its line.
+    #[error("a string has no end")]
     OpenString(Place),
 }
 
