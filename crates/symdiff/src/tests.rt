@@ -70,7 +70,7 @@ fn run_words<R: Threads + Sync + Abort>(
 }
 
 /// Texts with the status and the text that `verify old new` answers.
-const REPORTS: [(&[u8], &[u8], u8, &[u8]); 7] = [
+const REPORTS: [(&[u8], &[u8], u8, &[u8]); 9] = [
     (
         b"",
         b"",
@@ -99,7 +99,19 @@ const REPORTS: [(&[u8], &[u8], u8, &[u8]); 7] = [
         b"",
         b"procedure p() { assert b; }\n",
         3,
+        b"error: new unknown b\n",
+    ),
+    (
+        b"",
+        b"axiom true;\n",
+        3,
         b"error: new not yet\n",
+    ),
+    (
+        b"procedure p(a: bool, b: bool) { assert a <==> b; } // both or none\n",
+        b"procedure {:kept true} p(a: bool, b: bool) { assert !(a != b); }\n",
+        0,
+        b"safe p p\npairs 1 safe 1 equal 0 unknown 0 refused 0 axioms 0 0\n",
     ),
     (
         b"procedure p(b: bool) { }\n",
@@ -124,6 +136,162 @@ fn reports_are_written_whole(rt: HostRuntime) -> Result<(), Fail> {
         assert_eq!(rt; ended.status.code, status);
         assert_eq!(rt; sink.taken(), text);
     }
+    Ok(())
+}
+
+/// Texts that are refused, with the status and the line on the old text.
+const REFUSALS: [(&[u8], u8, &[u8]); 18] = [
+    (
+        b"procedure p(x: int) { assert x <= 18446744073709551616; }",
+        3,
+        b"error: old wide literal at 34\n",
+    ),
+    (
+        b"procedure p(x: int) { havoc x; }",
+        3,
+        b"error: old unsupported havoc at 22\n",
+    ),
+    (b"@", 3, b"error: old bad byte at 0\n"),
+    (b"/* /* */", 3, b"error: old open comment at 0\n"),
+    (b"\"x", 3, b"error: old open string at 0\n"),
+    (
+        b"procedure p(x: int) { if (*) { } }",
+        3,
+        b"error: old unsupported * at 26\n",
+    ),
+    (
+        b"procedure p(a: bool, b: bool, c: bool) { assert a && b || c; }",
+        3,
+        b"error: old syntax at 55\n",
+    ),
+    (
+        b"procedure p(a: int) { assert 0 < a < 9; }",
+        3,
+        b"error: old syntax at 35\n",
+    ),
+    (
+        b"procedure p() { x := 1; }",
+        3,
+        b"error: old unknown x\n",
+    ),
+    (
+        b"procedure p() { } procedure p() { }",
+        3,
+        b"error: old twice p\n",
+    ),
+    (
+        b"procedure p() { assert 1; }",
+        3,
+        b"error: old kind at 23\n",
+    ),
+    (
+        b"function f(x: int): int; procedure p() { assert f() == 0; }",
+        3,
+        b"error: old arity at 48\n",
+    ),
+    (
+        b"procedure p(a: bool) { a := true; }",
+        3,
+        b"error: old read only a\n",
+    ),
+    (
+        b"var g: int; procedure p() { g := 1; }",
+        3,
+        b"error: old not modified g\n",
+    ),
+    (
+        b"procedure q(); procedure p() { call q(); }",
+        3,
+        b"error: old no body q\n",
+    ),
+    (
+        b"procedure p() { break; }",
+        3,
+        b"error: old no loop at 16\n",
+    ),
+    (
+        b"procedure p() { assert 1 < 2; }",
+        3,
+        b"error: old not yet\n",
+    ),
+    (b"procedure p() {", 3, b"error: old syntax at 15\n"),
+];
+
+#[test]
+fn refused_texts_have_their_cause(rt: HostRuntime) -> Result<(), Fail> {
+    let alloc = rt.alloc();
+    for (old, status, text) in REFUSALS {
+        let mut sink = MemSink::new(alloc, 1000, 1000, Vec::new(alloc))?;
+        let ended = run_words(&rt, alloc, &VERIFY, (old, b""), &[], &mut sink)?;
+        assert_eq!(rt; ended.status.code, status);
+        assert_eq!(rt; sink.taken(), text);
+    }
+    Ok(())
+}
+
+/// An axiom within so many parentheses.
+fn nested(alloc: Global, count: usize) -> Result<Vec<u8>, Fail> {
+    let mut text = b"axiom ".to_vec(alloc)?;
+    for _ in 0..count {
+        text.push(b'(')?;
+    }
+    text.extend_from_slice(b"true")?;
+    for _ in 0..count {
+        text.push(b')')?;
+    }
+    text.push(b';')?;
+    Ok(text)
+}
+
+#[test]
+fn phrases_are_200_high_at_most(rt: HostRuntime) -> Result<(), Fail> {
+    let alloc = rt.alloc();
+    let cases: [(usize, u8, &[u8]); 2] = [
+        (200, 9, b"error: old nesting at 205\n"),
+        (199, 3, b"error: old not yet\n"),
+    ];
+    for (count, status, text) in cases {
+        let old = nested(alloc, count)?;
+        let mut sink = MemSink::new(alloc, 1000, 1000, Vec::new(alloc))?;
+        let texts = (old.as_slice(), b"".as_slice());
+        let ended = run_words(&rt, alloc, &VERIFY, texts, &[], &mut sink)?;
+        assert_eq!(rt; ended.status.code, status);
+        assert_eq!(rt; sink.taken(), text);
+    }
+    Ok(())
+}
+
+/// Runs `verify old new` over this old text and an empty new one, and gives the status.
+fn status_of<R: Threads + Sync + Abort>(
+    rt: &R,
+    alloc: Global,
+    old: &[u8],
+    sink: &mut MemSink,
+) -> Result<u8, Fail> {
+    let room = old.len();
+    let mut files = files_of(rt, alloc, (old, b"", b""), room, &[])?;
+    let words = words_of(alloc, &VERIFY)?;
+    let ended = run(rt, alloc, words.as_slice(), &mut files, sink, &OpenGate);
+    Ok(ended.status.code)
+}
+
+#[test]
+fn texts_are_limited(rt: HostRuntime) -> Result<(), Fail> {
+    let alloc = rt.alloc();
+    let mut procedures = Vec::new(alloc);
+    for number in 0..4097u32 {
+        procedures.extend_from_slice(b"procedure p")?;
+        let digits = number.to_string(alloc)?;
+        procedures.extend_from_slice(digits.as_bytes())?;
+        procedures.extend_from_slice(b"() { }\n")?;
+    }
+    let mut sink = MemSink::new(alloc, 1000, 1000, Vec::new(alloc))?;
+    assert_eq!(rt; status_of(&rt, alloc, procedures.as_slice(), &mut sink)?, 9);
+    assert_eq!(rt; sink.taken(), b"error: old procedures\n".as_slice());
+    let blanks = vec![in alloc; b' '; 16777217]?;
+    let mut sink = MemSink::new(alloc, 1000, 1000, Vec::new(alloc))?;
+    assert_eq!(rt; status_of(&rt, alloc, blanks.as_slice(), &mut sink)?, 9);
+    assert_eq!(rt; sink.taken(), b"error: old size\n".as_slice());
     Ok(())
 }
 
