@@ -370,7 +370,7 @@ module _ (d : ℕ) where
   unfolding constants
   constants_go t k a u v b xs T h rest l m g low j =
       let split : (a ++ (u ++ (v ++ k ∷ []))) ++ rest ≡ a ++ (u ++ (v ++ k ∷ rest)) =
-          append_assoc a (u ++ (v ++ k ∷ [])) rest ∙ ap (λ z. a ++ z) (append_assoc u (v ++ k ∷ []) rest ∙ ap (λ z. u ++ z) (append_assoc v (k ∷ []) rest)) in
+      append_assoc a (u ++ (v ++ k ∷ [])) rest ∙ ap (λ z. a ++ z) (append_assoc u (v ++ k ∷ []) rest ∙ ap (λ z. u ++ z) (append_assoc v (k ∷ []) rest)) in
       let word : sign_of (ahead (v ++ k ∷ rest)) ≡ s.Name = typed_first (k ∷ rest) g in
       let first : attributes d (a ++ (u ++ (v ++ k ∷ rest))) ≡ Got tt (u ++ (v ++ k ∷ rest)) = attributes_complete d (u ++ (v ++ k ∷ rest)) (uniqueness_first (v ++ k ∷ rest) m word) l in
       let second : uniqueness (u ++ (v ++ k ∷ rest)) ≡ Got b (v ++ k ∷ rest) = uniqueness_goes (v ++ k ∷ rest) m word in
@@ -382,7 +382,7 @@ module _ (d : ℕ) where
   unfolding function
   function_goes t n k f a u v xs T h m rest l i g r low j =
       let split : (a ++ (n ∷ u ++ (v ++ k ∷ []))) ++ rest ≡ a ++ (n ∷ (u ++ (v ++ k ∷ rest))) =
-          append_assoc a (n ∷ u ++ (v ++ k ∷ [])) rest ∙ ap (λ z. a ++ (n ∷ z)) (append_assoc u (v ++ k ∷ []) rest ∙ ap (λ z. u ++ z) (append_assoc v (k ∷ []) rest)) in
+      append_assoc a (n ∷ u ++ (v ++ k ∷ [])) rest ∙ ap (λ z. a ++ (n ∷ z)) (append_assoc u (v ++ k ∷ []) rest ∙ ap (λ z. u ++ z) (append_assoc v (k ∷ []) rest)) in
       let first : attributes d (a ++ (n ∷ (u ++ (v ++ k ∷ rest)))) ≡ Got tt (n ∷ (u ++ (v ++ k ∷ rest))) = attributes_complete d (n ∷ (u ++ (v ++ k ∷ rest))) (named_first (n ∷ (u ++ (v ++ k ∷ rest))) (name_sign f n i)) l in
       let second : enclosed (argument d) (u ++ (v ++ k ∷ rest)) ≡ Got xs (v ++ k ∷ rest) = arguments_go d (v ++ k ∷ rest) g (omega arith) in
       let third : result_type d (v ++ k ∷ rest) ≡ Got T (k ∷ rest) = result_goes d (k ∷ rest) r (omega arith) in

@@ -181,8 +181,8 @@ module _ (limit d : ℕ) (inner : Reader Stmt) (completes : (u : Tokens) (x : St
       let split : (u ++ v) ++ (b ∷ (q ++ c ∷ rest)) ≡ u ++ (v ++ (b ∷ (q ++ c ∷ rest))) = append_assoc u v (b ∷ (q ++ c ∷ rest)) in
       let first : left d (f ∷ (u ++ (v ++ (b ∷ (q ++ c ∷ rest))))) ≡ Got (record { name = x; indices = is }, f.at) (v ++ (b ∷ (q ++ c ∷ rest))) = left_goes d f x u is h (v ++ (b ∷ (q ++ c ∷ rest))) i m fits (next_left_stops d b (q ++ c ∷ rest) j n) in
       let second : reading.more (plain_left d) (record { name = x; indices = is } ∷ []) (v ++ (b ∷ (q ++ c ∷ rest))) ≡ Got (record { name = x; indices = is } ∷ ls) (b ∷ (q ++ c ∷ rest)) =
-          more_complete (Low LeftSide d) (plain_left d) NoIndex (λ rest e. apart s.Comma s.OpenBracket rest (same_is (sign_of (ahead rest)) s.Comma e) (λ e. cc)) (plain_goes d)
-          (b ∷ (q ++ c ∷ rest)) (apart s.Becomes s.OpenBracket (b ∷ (q ++ c ∷ rest)) j.same (λ e. cc)) (apart s.Becomes s.Comma (b ∷ (q ++ c ∷ rest)) j.same (λ e. cc)) n (record { name = x; indices = is } ∷ []) in
+      more_complete (Low LeftSide d) (plain_left d) NoIndex (λ rest e. apart s.Comma s.OpenBracket rest (same_is (sign_of (ahead rest)) s.Comma e) (λ e. cc)) (plain_goes d)
+      (b ∷ (q ++ c ∷ rest)) (apart s.Becomes s.OpenBracket (b ∷ (q ++ c ∷ rest)) j.same (λ e. cc)) (apart s.Becomes s.Comma (b ∷ (q ++ c ∷ rest)) j.same (λ e. cc)) n (record { name = x; indices = is } ∷ []) in
       let third : reading.commas (expression d) (q ++ c ∷ rest) ≡ Got es (c ∷ rest) = values_go d (c ∷ rest) k.same g low in
       rw (split, first, second, want_goes s.Becomes b (q ++ c ∷ rest) j, third, want_goes s.Semi c rest k) (ap (λ t. Got (stated t.at (Assign (record { name = x; indices = is } ∷ ls) es)) rest) same)
 
@@ -243,7 +243,7 @@ module _ (limit d : ℕ) (inner : Reader Stmt) (completes : (u : Tokens) (x : St
   unfolding statement_layer called
   called_goes t n k f a u v xs es h rest i l r j m o low =
       let split : (a ++ (u ++ n ∷ (v ++ k ∷ []))) ++ rest ≡ a ++ (u ++ n ∷ (v ++ k ∷ rest)) =
-          append_assoc a (u ++ n ∷ (v ++ k ∷ [])) rest ∙ ap (λ z. a ++ z) (append_assoc u (n ∷ (v ++ k ∷ [])) rest ∙ ap (λ z. u ++ n ∷ z) (append_assoc v (k ∷ []) rest)) in
+      append_assoc a (u ++ n ∷ (v ++ k ∷ [])) rest ∙ ap (λ z. a ++ z) (append_assoc u (n ∷ (v ++ k ∷ [])) rest ∙ ap (λ z. u ++ n ∷ z) (append_assoc v (k ∷ []) rest)) in
       let first : attributes limit (a ++ (u ++ n ∷ (v ++ k ∷ rest))) ≡ Got tt (u ++ n ∷ (v ++ k ∷ rest)) = attributes_complete limit (u ++ n ∷ (v ++ k ∷ rest)) (apart s.Name s.OpenAttribute (u ++ n ∷ (v ++ k ∷ rest)) (receivers_first n f (v ++ k ∷ rest) r j) (λ e. cc)) l in
       ap (λ x. statement_by limit d inner x ((t ∷ a ++ (u ++ n ∷ (v ++ k ∷ []))) ++ rest)) i.same
       ∙ rw (split, first) (receiver_goes t.at n k f rest r j m (omega arith) o)
@@ -303,9 +303,9 @@ module _ (limit d : ℕ) (inner : Reader Stmt) (completes : (u : Tokens) (x : St
       ∙ deeper_goes d (λ ts. and_then (guard limit d inner ts) (λ g ts. and_then (block limit d inner ts) (λ a ts. and_then (otherwise limit d inner ts) (λ b ts. Got (stated g.0 (If g.1 a b)) ts))))
       (stated t.at (If e a b)) (t ∷ o ∷ (u ++ c ∷ (v ++ (w ++ rest)))) rest (let z = expression_high q in omega arith)
       (let first : guard limit d inner (t ∷ o ∷ (u ++ c ∷ (v ++ (w ++ rest)))) ≡ Got (t.at, e) (v ++ (w ++ rest)) = guard_goes t o c u e h (v ++ (w ++ rest)) j q (omega arith) l in
-       let second : block limit d inner (v ++ (w ++ rest)) ≡ Got a (w ++ rest) = block_goes (w ++ rest) x (omega arith) in
-       let third : otherwise limit d inner (w ++ rest) ≡ Got b rest = otherwise_goes rest y (omega arith) quiet in
-       rw (first, second, third) refl)
+      let second : block limit d inner (v ++ (w ++ rest)) ≡ Got a (w ++ rest) = block_goes (w ++ rest) x (omega arith) in
+      let third : otherwise limit d inner (w ++ rest) ≡ Got b rest = otherwise_goes rest y (omega arith) quiet in
+      rw (first, second, third) refl)
 
   loop_goes : (t o c : Token) (u v w : Tokens) (e : Expr) (a : List Invariant) (b : List Stmt) (h k m : ℕ) (rest : Tokens) → Is s.While t → Is s.Open o → Expression u e h → Is s.Close c → Row (InvariantLine limit) v a k → Block limit w b m
       → suc (max h (max k m)) ≤ suc d → statement_layer limit d inner ((t ∷ o ∷ u ++ c ∷ (v ++ w)) ++ rest) ≡ Got (stated t.at (While e a b)) rest
@@ -316,9 +316,9 @@ module _ (limit d : ℕ) (inner : Reader Stmt) (completes : (u : Tokens) (x : St
       ∙ deeper_goes d (λ ts. and_then (guard limit d inner ts) (λ g ts. and_then (invariants limit d ts) (λ a ts. and_then (block limit d inner ts) (λ b ts. Got (stated g.0 (While g.1 a b)) ts))))
       (stated t.at (While e a b)) (t ∷ o ∷ (u ++ c ∷ (v ++ (w ++ rest)))) rest (let z = expression_high q in omega arith)
       (let first : guard limit d inner (t ∷ o ∷ (u ++ c ∷ (v ++ (w ++ rest)))) ≡ Got (t.at, e) (v ++ (w ++ rest)) = guard_goes t o c u e h (v ++ (w ++ rest)) j q (omega arith) l in
-       let second : invariants limit d (v ++ (w ++ rest)) ≡ Got a (w ++ rest) = invariants_go limit d (w ++ rest) (block_first rest y) x (omega arith) in
-       let third : block limit d inner (w ++ rest) ≡ Got b rest = block_goes rest y (omega arith) in
-       rw (first, second, third) refl)
+      let second : invariants limit d (v ++ (w ++ rest)) ≡ Got a (w ++ rest) = invariants_go limit d (w ++ rest) (block_first rest y) x (omega arith) in
+      let third : block limit d inner (w ++ rest) ≡ Got b rest = block_goes rest y (omega arith) in
+      rw (first, second, third) refl)
 
   broken_goes : (t c : Token) (rest : Tokens) → Is s.Break t → Is s.Semi c → statement_layer limit d inner (t ∷ c ∷ rest) ≡ Got (stated t.at Break) rest
   unfolding statement_layer broken

@@ -170,7 +170,7 @@ module _ (limit d : ℕ) where
   assigned_of {t = t} {b = b} {k = k} {u = u} {v = v} {q = q} {l = l} {es = es} f m i w j =
       let lefts = commas_of LeftSide d f m.list in
       let made : Low (Statement limit) (suc d) (t ∷ (u ++ v) ++ b ∷ (q ++ k ∷ [])) (stated t.at (Assign (l ∷ m.items) es)) =
-          record { height = suc (max lefts.height w.height); spelt = st.assigned lefts.spelt i w.spelt j; low = let y = lefts.low in let z = w.low in omega arith } in
+      record { height = suc (max lefts.height w.height); spelt = st.assigned lefts.spelt i w.spelt j; low = let y = lefts.low in let z = w.low in omega arith } in
       subst (λ ls. Low (Statement limit) (suc d) (t ∷ (u ++ (v ++ b ∷ (q ++ k ∷ [])))) (stated t.at (Assign ls es))) (sym m.same)
       (subst (λ z. Low (Statement limit) (suc d) (t ∷ z) (stated t.at (Assign (l ∷ m.items) es))) (append_assoc u v (b ∷ (q ++ k ∷ []))) made)
 

@@ -77,8 +77,8 @@ module _ (d : ℕ) (inner : Reader Sort) where
         ∙ deeper_goes d (λ ts. and_then (skip ts) (λ _ ts. and_then (inner ts) (λ a ts. and_then (want s.CloseBracket ts) (λ _ ts. and_then (inner ts) (λ b ts. Got (sort.Map a b) ts))))) (sort.Map a b) (o ∷ (u ++ c ∷ (v ++ rest))) rest
         (let z = type_high f in omega arith)
         (let first : inner (u ++ c ∷ (v ++ rest)) ≡ Got a (c ∷ (v ++ rest)) = completes u a h (c ∷ (v ++ rest)) f (omega arith) in
-         let second : inner (v ++ rest) ≡ Got b rest = completes v b k rest g (omega arith) in
-         rw (first, want_goes s.CloseBracket c (v ++ rest) j, second) refl)
+        let second : inner (v ++ rest) ≡ Got b rest = completes v b k rest g (omega arith) in
+        rw (first, want_goes s.CloseBracket c (v ++ rest) j, second) refl)
 
 -- What is read is a type.
 pub type_sound : (d : ℕ) (ts : Tokens) → Sound (Low TypeText d) ts (type_of d ts)

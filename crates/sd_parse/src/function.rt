@@ -16,12 +16,7 @@ use std::alloc::Global;
 
 /// The type of an argument whose first name was read: it is that name where no colon follows.
 #[tactic(auto, unfolding(crate::specs::ReadingPrograms::after_name))]
-fn after_name(
-    alloc: Global,
-    tokens: &mut Cursor<'_>,
-    limit: u32,
-    name: Name,
-) -> Result<Sort, Fault>
+fn after_name(alloc: Global, tokens: &mut Cursor<'_>, limit: u32, name: Name) -> Result<Sort, Fault>
     ensures { Gives (spec.after_name limit name tokens.old) result tokens.new }
 {
     match tokens.peek() {

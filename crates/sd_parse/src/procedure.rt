@@ -82,12 +82,7 @@ fn body(alloc: Global, tokens: &mut Cursor<'_>, limit: u32) -> Result<Body, Faul
 
 /// The clauses of a procedure without a body, from the semicolon on.
 #[tactic(auto, unfolding(crate::specs::ReadingPrograms::declared))]
-fn declared(
-    alloc: Global,
-    tokens: &mut Cursor<'_>,
-    limit: u32,
-    head: Head,
-) -> Result<Decl, Fault>
+fn declared(alloc: Global, tokens: &mut Cursor<'_>, limit: u32, head: Head) -> Result<Decl, Fault>
     requires { limit < 2 ^ 31 }
     ensures { Gives (spec.declared limit head tokens.old) result tokens.new }
 {

@@ -6,7 +6,10 @@ use std::test::Fail;
 
 #[test]
 fn reads_a_program(rt: HostRuntime) -> Result<(), Fail> {
-    let program = read_program(rt.alloc(), b"procedure p(b: bool) { assert /* a comment */ b; } // the end")?;
+    let program = read_program(
+        rt.alloc(),
+        b"procedure p(b: bool) { assert /* a comment */ b; } // the end",
+    )?;
     assert_eq!(rt; program.decls.len(), 1);
     Ok(())
 }
@@ -36,7 +39,7 @@ fn reads_the_whole_grammar(rt: HostRuntime) -> Result<(), Fail> {
     var {:v} m, n: [int]int, k: int;
     procedure {:p} declared(x: int) returns (y: int, z: bool);
         modifies m, n; modifies;
-        requires x > 0; free requires {:r} x < 9; ensures y == x; free ensures z;
+        requires x > 0; free requires {:r} x < 9; ensures y == old(m[x]) || f(x, c, n[x := -y]); free ensures z;
     procedure p(x: int) returns () modifies k; {
         var {:l} i, j: int; var b: bool;
         m[i][j], k := x, i + 1;
