@@ -6,16 +6,11 @@ use Rattle.sd_base.specs.declared.Place.{Place}
 use Rattle.sd_lex.specs.declared.Token.{Token}
 use Rattle.sd_parse.specs.Grammar.{Tokens}
 use Rattle.sd_parse.specs.Refusals as rule
-use Rattle.sd_parse.specs.Refusals.{BeginsWithin, BeginsSome, IsSyntax, IsDeep, Verdict, Read, IsVerdict}
+use Rattle.sd_parse.specs.Refusals.{BeginsWithin, BeginsSome, IsSyntax, IsDeep, place_of, Verdict, Read, IsVerdict}
 use Rattle.sd_parse.specs.Reading.{Syntax, Deep, Step, Got, Bad, Reader}
 use Rattle.sd_parse.proofs.Algebra.{Begins, Answers, AnswersStep, wide}
 use Rattle.sd_parse.proofs.Local.{Local, rest_of, before}
 use Rattle.sd_parse.proofs.Lifts.{Lifts, same, deep}
-
--- the place of the next token, or of the end
-abbrev pub place_of : Place → Tokens → Place
-place_of end [] = end
-place_of end (t ∷ ts) = t.at
 
 -- A reader of whole texts with its laws.
 pub record Exact {A : Type 0} (L : ℕ → Tokens → A → Type 0) (limit : ℕ) (p : ℕ → Reader A) : Type 0 where
@@ -90,7 +85,7 @@ module _ {A : Type 0} {L : ℕ → Tokens → A → Type 0} {limit : ℕ} {p : �
   one_value ts x y a b = let z : Got x [] ≡ Got y [] = sym (laws.complete limit ts x a) ∙ laws.complete limit ts y b in cc
 
 -- two ways to cut a text before a token
-data Cuts (u : Tokens) (t : Token) (v : Tokens) (s : Token) : Type 0 where
+pub data Cuts (u : Tokens) (t : Token) (v : Tokens) (s : Token) : Type 0 where
   at_one : u ≡ v → t ≡ s → Cuts u t v s
   sooner : (m : Tokens) → v ≡ u ++ t ∷ m → Cuts u t v s
   later : (m : Tokens) → u ≡ v ++ s ∷ m → Cuts u t v s
@@ -100,7 +95,7 @@ more_cut a (at_one e f) = at_one (ap (λ u. a ∷ u) e) f
 more_cut a (sooner m e) = sooner m (ap (λ u. a ∷ u) e)
 more_cut a (later m e) = later m (ap (λ u. a ∷ u) e)
 
-cuts : (u v : Tokens) (t s : Token) (r q : Tokens) → u ++ t ∷ r ≡ v ++ s ∷ q → Cuts u t v s
+pub cuts : (u v : Tokens) (t s : Token) (r q : Tokens) → u ++ t ∷ r ≡ v ++ s ∷ q → Cuts u t v s
 cuts [] [] t s r q e = at_one refl (cc)
 cuts [] (b ∷ v) t s r q e = let same : t ≡ b = cc in sooner v (ap (λ b. b ∷ v) (sym same))
 cuts (a ∷ u) [] t s r q e = let same : a ≡ s = cc in later u (ap (λ a. a ∷ u) same)

@@ -34,3 +34,6 @@ pub mod ProgramLocal
 pub mod ProgramLifts
 pub mod TextLemmas
 pub mod ProgramExact
+pub mod Stars
+pub mod Refused
+pub mod AnswerLaws

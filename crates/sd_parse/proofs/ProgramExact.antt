@@ -6,13 +6,13 @@ use Rattle.sd_ast.specs.declared.Program.{Program}
 use Rattle.sd_parse.specs.Grammar.{Tokens}
 use Rattle.sd_parse.specs.Rows.{Row}
 use Rattle.sd_parse.specs.Programs.{Declaration, Spells}
-use Rattle.sd_parse.specs.Refusals.{IsSyntax, IsDeep}
+use Rattle.sd_parse.specs.Refusals.{IsSyntax, IsDeep, place_of}
 use Rattle.sd_parse.specs.Reading.{Syntax, Deep, Step, Got, Bad, Reader, and_then}
 use Rattle.sd_parse.specs.ReadingPrograms.{declarations, ended, program}
 use Rattle.sd_parse.proofs.Algebra.{Begins, AnswersStep, Answers, bind, begins_map, stop, wide}
 use Rattle.sd_parse.proofs.Local.{Local, local_bind, local_pure}
 use Rattle.sd_parse.proofs.Lifts.{same, lift_bind, lift_more}
-use Rattle.sd_parse.proofs.Exact.{Exact, place_of, syntax_at, deep_at}
+use Rattle.sd_parse.proofs.Exact.{Exact, syntax_at, deep_at}
 use Rattle.sd_parse.proofs.Rows.{Low}
 use Rattle.sd_parse.proofs.Limits.{declarations_more}
 use Rattle.sd_parse.proofs.ProgramAnswers.{program_answers}

@@ -13,3 +13,4 @@ pub mod ReadingTypes
 pub mod ReadingClauses
 pub mod ReadingStatements
 pub mod ReadingPrograms
+pub mod Answer

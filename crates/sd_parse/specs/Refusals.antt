@@ -28,6 +28,11 @@ pub data IsSyntax {A : Type 0} (L : ℕ → Tokens → A → Type 0) (limit : �
 pub data IsDeep {A : Type 0} (L : ℕ → Tokens → A → Type 0) (limit : ℕ) (ts : Tokens) : Place → Type 0 where
   at_token : {u : Tokens} (t : Token) (r : Tokens) → ts ≡ u ++ t ∷ r → BeginsWithin L limit u → BeginsSome L (u ++ t ∷ []) → (BeginsWithin L limit (u ++ t ∷ []) → ⊥) → IsDeep L limit ts t.at
 
+-- the place of the next token, or of the end
+abbrev pub place_of : Place → Tokens → Place
+place_of end [] = end
+place_of end (t ∷ ts) = t.at
+
 -- what is said of a text: its value, or the place that is refused
 pub data Verdict (A : Type 0) : Type 0 where
   Read : A → Verdict A

@@ -1,6 +1,7 @@
 //! The reader: from the bytes of a text to its tree. The grammar is after Boogie 2 (Leino 2008).
 #![tactic(auto)]
 
+pub mod answer;
 mod assignment;
 mod attribute;
 mod clause;
