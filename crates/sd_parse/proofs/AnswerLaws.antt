@@ -13,7 +13,7 @@ use Rattle.sd_parse.specs.Grammar.{Tokens}
 use Rattle.sd_parse.specs.Programs.{Spells}
 use Rattle.sd_parse.specs.Refusals as rule
 use Rattle.sd_parse.specs.Refusals.{Verdict, Read, IsVerdict}
-use Rattle.sd_parse.specs.Text.{procedures}
+use Rattle.sd_parse.specs.Counts.{procedures}
 use Rattle.sd_parse.specs.Answer.{end_of, IsStar, IsAnswer, IsParsed, IsReading, OneAnswer}
 use Rattle.sd_parse.proofs.Exact.{one_verdict}
 use Rattle.sd_parse.proofs.TextLemmas.{one_tree}

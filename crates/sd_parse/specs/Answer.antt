@@ -13,7 +13,7 @@ use Rattle.sd_parse.specs.Signs.{sign, same_sign}
 use Rattle.sd_parse.specs.Grammar.{Tokens}
 use Rattle.sd_parse.specs.Programs.{Spells}
 use Rattle.sd_parse.specs.Refusals.{IsSyntax, IsDeep}
-use Rattle.sd_parse.specs.Text.{procedures}
+use Rattle.sd_parse.specs.Counts.{procedures}
 
 -- the words before a guard
 abbrev pub guards : Sign → Bool

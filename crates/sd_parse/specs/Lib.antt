@@ -5,7 +5,7 @@ pub mod Types
 pub mod Clauses
 pub mod Statements
 pub mod Programs
-pub mod Text
+pub mod Counts
 pub mod Refusals
 pub mod Reading
 pub mod ReadingRows

@@ -1,10 +1,10 @@
 //! How many procedures a text has.
 ghost use Rattle.std.specs.Prelude.{◌≡◌};
-ghost use Rattle.sd_parse.specs.Text as spec;
+ghost use Rattle.sd_parse.specs.Counts as spec;
 
 use sd_ast::Decl;
 
-#[tactic(auto, unfolding(crate::specs::Text::is_procedure))]
+#[tactic(auto, unfolding(crate::specs::Counts::is_procedure))]
 fn is_procedure(decl: &Decl) -> bool
     ensures { result ≡ spec.is_procedure decl.now }
 {

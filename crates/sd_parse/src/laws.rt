@@ -1,11 +1,5 @@
 //! Laws of the reader.
 ghost use Rattle.sd_parse.specs.Answer.{OneAnswer};
-ghost use Rattle.sd_parse.specs.Text.{OneProgram};
-
-/// A text has at most one program.
-pub fn one_program()
-    ensures { OneProgram }
-{}
 
 /// A text has one answer, unless memory runs out: its program, or the one refusal that is its own.
 pub fn one_answer()

@@ -1,7 +1,7 @@
 //! The reader: from the bytes of a text to its tree. The grammar is after Boogie 2 (Leino 2008).
 #![tactic(auto)]
 
-pub mod answer;
+mod answer;
 mod assignment;
 mod attribute;
 mod clause;
@@ -19,9 +19,8 @@ mod sign;
 mod statement;
 #[cfg(test)]
 mod tests;
-mod text;
 mod types;
 mod values;
 mod variables;
 
-pub use text::{ReadError, read_program};
+pub use answer::{ReadError, read_program};

@@ -1,7 +1,4 @@
-use crate::cursor::Cursor;
-use crate::program::program;
 use crate::{ReadError, read_program};
-use sd_lex::tokens;
 use std::test::Fail;
 
 #[test]
@@ -49,31 +46,40 @@ fn reads_the_whole_grammar(rt: HostRuntime) -> Result<(), Fail> {
         if (b) { return; } else if (i == j) { } else { k := 0; }
     }
     implementation {:q} declared(x: int) returns (y: int, z: bool) { y := x; }";
-    let found = tokens(rt.alloc(), text)?;
-    let mut cursor = Cursor::new(found.as_slice());
-    let read = program(rt.alloc(), &mut cursor, 200).map(|decls| decls.len());
-    assert!(rt; read == Ok(11));
+    let program = read_program(rt.alloc(), text)?;
+    assert_eq!(rt; program.decls.len(), 11);
+    Ok(())
+}
+
+/// A copy of a program has as many declarations.
+#[test]
+fn a_program_is_copied(rt: HostRuntime) -> Result<(), Fail> {
+    let text = b"type Account; var balance: [Account]int;
+    procedure Withdraw(a: Account, n: int) returns (ok: bool) modifies balance; {
+        ok := false;
+        if (n <= balance[a]) { balance[a] := balance[a] - n; ok := true; }
+        assert balance[a] >= 0 || !ok;
+    }
+    procedure Transfer(a: Account, b: Account, n: int) returns (ok: bool) requires n >= 0; modifies balance; {
+        call ok := Withdraw(a, n);
+        if (ok) { balance[b] := balance[b] + n; }
+    }";
+    let program = read_program(rt.alloc(), text)?;
+    let copy = program.clone_of(rt.alloc())?;
+    assert_eq!(rt; copy.decls.len(), 4);
     Ok(())
 }
 
 #[test]
-fn refuses(rt: HostRuntime) {
-    let texts: [&[u8]; 12] = [
-        b"procedure p() { assert 1 < 2; }",
-        b"procedure p(a, b, c: bool) { assert a && b || c; }",
-        b"procedure p() { } procedure p() { } // end",
-        b"procedure p() { assert a; }",
-        b"procedure p(a: bool) { a := true; }",
-        b"procedure p(a: bool, a: bool) { }",
-        b"procedure p() { } procedure p() { } procedure q() { }",
-        b"procedure p(a: int) { }",
-        b"procedure p() { assert true }",
-        b"procedure p();",
-        b"procedure while() { }",
-        b"procedure p() { } }",
+fn the_earliest_place_decides(rt: HostRuntime) {
+    let cases: [(&[u8], u64); 4] = [
+        (b"procedure p(a, b, c: bool) { assert a && b || c; }", 43),
+        (b"procedure p() { assert true }", 28),
+        (b"procedure while() { }", 10),
+        (b"procedure p() { } }", 18),
     ];
-    for text in texts {
+    for (text, byte) in cases {
         let answer = read_program(rt.alloc(), text);
-        assert!(rt; matches!(answer, Err(ReadError::NotYet)));
+        assert!(rt; matches!(answer, Err(ReadError::Syntax(place)) if place.byte == byte));
     }
 }

@@ -1,5 +1,5 @@
 use Rattle.std.proofs.Common.{◌≡◌, ◌-◌, ◌≤◌, ◌<◌, true, false, sym, ap, ◌∙◌, subst, refl, length, arith}
-use Rattle.sd_parse.specs.Text.{procedures}
+use Rattle.sd_parse.specs.Counts.{procedures}
 use Rattle.sd_parse.specs.Reading.{Syntax, Deep, Bad}
 use Rattle.sd_parse.specs.ReadingPrograms.{program}
 use Rattle.sd_parse.proofs.TextLemmas.{read_is_spelled}

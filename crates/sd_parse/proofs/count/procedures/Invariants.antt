@@ -1,5 +1,5 @@
 use Rattle.std.proofs.Common.{◌≡◌, ◌≤◌, take}
-use Rattle.sd_parse.specs.Text.{procedures}
+use Rattle.sd_parse.specs.Counts.{procedures}
 use Rattle.sd_parse.proofs.count.procedures.Given as goal
 
 abbrev pub invariant-decls : goal.invariant-decls
