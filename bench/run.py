@@ -1,5 +1,5 @@
 #!/usr/bin/env python3
-"""Times the built program on texts of many procedures, and on the replay of long certificates.
+"""Times the built program on texts of many procedures, on the replay of long certificates, and on long texts.
 
     python3 bench/run.py [--count N] [--runs R] [--program PATH]
 
@@ -9,11 +9,16 @@ greatest peak memory, and then the ratio of the two times.
 
 Then it makes two texts of one procedure that takes the parity of its parameters, in one order and in the other, lets the program
 write the certificate, and runs `symdiff replay old new certificate` R times: once on a certificate of more than 10000 steps, and
-once on one of twice as many. It is no part of the gate. The program has to be built before: `rt run` in crates/symdiff leaves it as
+once on one of twice as many.
+
+Last it makes a text of 16777216 bytes, the longest that is read, and one of half the size, with types, maps, loops, calls and contracts,
+and runs `symdiff verify old new` R times with it as the old text and none as the new one. The texts are read and checked whole, and
+answered with `not yet`, since their form isn't taken. It is no part of the gate. The program has to be built before: `rt run` in crates/symdiff leaves it as
 crates/symdiff/out/symdiff.
 
-The status is 0 where each report is right, both ratios are below 2.5, the larger text takes less than a second and 200 MB, and the
-replay of the first certificate less than a second. Where one of these fails a line says so, and the status is 1.
+The status is 0 where each answer is right, all ratios are below 2.5, the text of 2N procedures takes less than a second and 200 MB, the
+replay of the first certificate less than a second, and the longest text less than 4 seconds and 3 GB. Where one of these fails a line says
+so, and the status is 1.
 """
 
 import argparse
@@ -30,6 +35,9 @@ GREATEST_SECONDS = 1.0
 GREATEST_BYTES = 200_000_000
 LEAST_STEPS = 10_000
 REPLAY_PARAMETERS = 11
+LONGEST_TEXT = 16_777_216
+READING_SECONDS = 4.0
+READING_BYTES = 3_000_000_000
 
 # One procedure. The parts that the new text may change are the last two assertions.
 FORM = """procedure handler_{number:04d}(ready: bool, locked: bool, open: bool, forced: bool)
@@ -134,8 +142,56 @@ def measure_replay(program, count, runs, complaints):
     return best, steps
 
 
+# A procedure of about 4096 bytes in the whole language, of which PART stands many times.
+HEAD = """procedure {{:number {number}}} account_{number:04d}(who: Account, amount: int) returns (ok: bool)
+  requires amount >= 0; modifies balance;
+{{
+  var i, left: int;
+"""
+PART = """  left := balance[who] - amount * 2; // what stays
+  while (i < left && ok ==> i != {part}) invariant i <= left; {{ i := i + 1; call left := least(i, left); }}
+  if (left >= 0) {{ balance[who], ok := left, true; }} else {{ assume old(balance[who]) >= 0; }}
+"""
+DECLARED = """type Account;
+var balance: [Account]int;
+procedure least(a: int, b: int) returns (c: int) { c := b; if (a < b) { c := a; } }
+"""
+
+
+def long_text(size):
+    """A text of exactly so many bytes, in at most 4096 procedures."""
+    pieces = [DECLARED]
+    length = len(DECLARED)
+    number = 0
+    while True:
+        procedure = HEAD.format(number=number) + "".join(PART.format(part=part) for part in range(14)) + "}\n"
+        if length + len(procedure) > size:
+            return "".join(pieces) + " " * (size - length)
+        pieces.append(procedure)
+        length += len(procedure)
+        number += 1
+
+
+def measure_reading(program, size, runs, complaints):
+    """The least time of several readings of a text of so many bytes, and the greatest peak memory."""
+    best, peak = None, 0
+    with tempfile.TemporaryDirectory() as folder:
+        for name, text in (("old", long_text(size)), ("new", "")):
+            with open(os.path.join(folder, name), "w", encoding="ascii") as file:
+                file.write(text)
+        for _ in range(runs):
+            seconds, bytes_used, status, written = run_once(program, folder)
+            best = seconds if best is None else min(best, seconds)
+            peak = max(peak, bytes_used)
+            if status != 3 or written != "error: old not yet\n":
+                complaints.append("a text of %d bytes: status %d, and the answer isn't the one that is right" % (size, status))
+                break
+    print("reading of %8d bytes  %8.3f s  %7.1f MB" % (size, best, peak / 1e6))
+    return best, peak
+
+
 def main():
-    parser = argparse.ArgumentParser(description="times the built program on texts of many procedures, and on replays")
+    parser = argparse.ArgumentParser(description="times the built program on texts of many procedures, on replays, and on long texts")
     parser.add_argument("--count", type=int, default=2048)
     parser.add_argument("--runs", type=int, default=3)
     parser.add_argument("--program", default=PROGRAM)
@@ -167,6 +223,15 @@ def main():
         complaints.append("the ratio of the times of replay isn't below %.1f" % GREATEST_RATIO)
     if single >= GREATEST_SECONDS:
         complaints.append("the replay of %d steps takes a second or more" % steps)
+    half, _ = measure_reading(program, LONGEST_TEXT // 2, given.runs, complaints)
+    whole, peak = measure_reading(program, LONGEST_TEXT, given.runs, complaints)
+    print("ratio of the times of reading at %d and %d bytes: %.2f" % (LONGEST_TEXT, LONGEST_TEXT // 2, whole / half))
+    if whole / half >= GREATEST_RATIO:
+        complaints.append("the ratio of the times of reading isn't below %.1f" % GREATEST_RATIO)
+    if whole >= READING_SECONDS:
+        complaints.append("the longest text takes 4 seconds or more")
+    if peak >= READING_BYTES:
+        complaints.append("the longest text takes 3 GB or more")
     for complaint in complaints:
         print("falls short: " + complaint)
     return 1 if complaints else 0

@@ -60,7 +60,7 @@ module _ (d : ℕ) where
 
   pub local_more_groups : (xs : List Var) → Local (more_groups d xs)
   unfolding more_groups
-  local_more_groups xs = local_all (is s.Comma) (reading.next (group d)) join_lists (next_takes (group d) local_group) (local_next (group d) local_group ) xs
+  local_more_groups xs = local_all (is s.Comma) (reading.next (group d)) join_lists (next_takes (group d) local_group) (local_next (group d) local_group) xs
 
   pub local_vars : Local (vars d)
   unfolding vars
@@ -186,7 +186,7 @@ module _ (d : ℕ) where
 
   pub local_function : Local (function d)
   unfolding function
-  local_function = local_bind _ _ local_skip (λ _. local_bind _ _ (local_attributes d) (λ _. local_bind _ _ local_name (λ f. local_bind _ _ (local_enclosed (argument d) local_argument ) (λ xs. local_bind _ _ local_result_type (λ T. local_bind _ _ (local_want s.Semi) (λ _. local_pure (decl.Function f.0 xs T)))))))
+  local_function = local_bind _ _ local_skip (λ _. local_bind _ _ (local_attributes d) (λ _. local_bind _ _ local_name (λ f. local_bind _ _ (local_enclosed (argument d) local_argument) (λ xs. local_bind _ _ local_result_type (λ T. local_bind _ _ (local_want s.Semi) (λ _. local_pure (decl.Function f.0 xs T)))))))
 
   pub local_axiom_line : Local (axiom_line d)
   unfolding axiom_line

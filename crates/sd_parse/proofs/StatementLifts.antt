@@ -164,15 +164,15 @@ module _ (limit d : ℕ) (inner wider : Reader Stmt) (up : (ts : Tokens) → Lif
 
   pub lift_assigned : (ts : Tokens) → Lifts (assigned limit d inner ts) (assigned (suc limit) (suc d) wider ts)
   unfolding assigned
-  lift_assigned ts = lift_deeper d (left d >>= λ l. reading.more (plain_left d) (l.0 ∷ []) >>= λ ls. want s.Becomes >>= λ _. reading.commas (expression d) >>= λ es. want s.Semi >>= λ _. pure (stated l.1 (Assign ls es))) (left (suc d) >>= λ l. reading.more (plain_left (suc d)) (l.0 ∷ []) >>= λ ls. want s.Becomes >>= λ _. reading.commas (expression (suc d)) >>= λ es. want s.Semi >>= λ _. pure (stated l.1 (Assign ls es))) ts (lift_bind _ _ _ _ (lift_left d ts) (λ l ts. lift_bind _ _ _ _ (lift_more (plain_left d) (plain_left (suc d)) (lift_plain_left d) (l.0 ∷ []) ts) (λ ls ts. lift_after (want s.Becomes ts) _ _ (λ _ ts. lift_bind _ _ _ _ (lift_commas (expression d) (expression (suc d)) (lift_expression d)  ts) (λ es ts. lift_after (want s.Semi ts) _ _ (λ _ ts. same refl))))))
+  lift_assigned ts = lift_deeper d (left d >>= λ l. reading.more (plain_left d) (l.0 ∷ []) >>= λ ls. want s.Becomes >>= λ _. reading.commas (expression d) >>= λ es. want s.Semi >>= λ _. pure (stated l.1 (Assign ls es))) (left (suc d) >>= λ l. reading.more (plain_left (suc d)) (l.0 ∷ []) >>= λ ls. want s.Becomes >>= λ _. reading.commas (expression (suc d)) >>= λ es. want s.Semi >>= λ _. pure (stated l.1 (Assign ls es))) ts (lift_bind _ _ _ _ (lift_left d ts) (λ l ts. lift_bind _ _ _ _ (lift_more (plain_left d) (plain_left (suc d)) (lift_plain_left d) (l.0 ∷ []) ts) (λ ls ts. lift_after (want s.Becomes ts) _ _ (λ _ ts. lift_bind _ _ _ _ (lift_commas (expression d) (expression (suc d)) (lift_expression d) ts) (λ es ts. lift_after (want s.Semi ts) _ _ (λ _ ts. same refl))))))
 
   pub lift_applied : (p : Place) (xs : List Text) (ts : Tokens) → Lifts (applied limit d inner p xs ts) (applied (suc limit) (suc d) wider p xs ts)
   unfolding applied
-  lift_applied p xs ts = lift_after (name ts) _ _ (λ f ts. lift_bind _ _ _ _ (lift_enclosed (expression d) (expression (suc d)) (lift_expression d)  ts) (λ es ts. lift_after (want s.Semi ts) _ _ (λ _ ts. same refl)))
+  lift_applied p xs ts = lift_after (name ts) _ _ (λ f ts. lift_bind _ _ _ _ (lift_enclosed (expression d) (expression (suc d)) (lift_expression d) ts) (λ es ts. lift_after (want s.Semi ts) _ _ (λ _ ts. same refl)))
 
   pub lift_applied_to : (p : Place) (f : Text) (ts : Tokens) → Lifts (applied_to limit d inner p f ts) (applied_to (suc limit) (suc d) wider p f ts)
   unfolding applied_to
-  lift_applied_to p f ts = lift_bind _ _ _ _ (lift_enclosed (expression d) (expression (suc d)) (lift_expression d)  ts) (λ es ts. lift_after (want s.Semi ts) _ _ (λ _ ts. same refl))
+  lift_applied_to p f ts = lift_bind _ _ _ _ (lift_enclosed (expression d) (expression (suc d)) (lift_expression d) ts) (λ es ts. lift_after (want s.Semi ts) _ _ (λ _ ts. same refl))
 
   pub lift_received : (p : Place) (x : Text) (ts : Tokens) → Lifts (received limit d inner p x ts) (received (suc limit) (suc d) wider p x ts)
   unfolding received
