@@ -142,7 +142,7 @@ def measure_replay(program, count, runs, complaints):
     return best, steps
 
 
-# A procedure of about 4096 bytes in the whole language, of which PART stands many times.
+# A procedure of about 4600 bytes in the whole language, of which PART stands many times.
 HEAD = """procedure {{:number {number}}} account_{number:04d}(who: Account, amount: int) returns (ok: bool)
   requires amount >= 0; modifies balance;
 {{
@@ -164,7 +164,7 @@ def long_text(size):
     length = len(DECLARED)
     number = 0
     while True:
-        procedure = HEAD.format(number=number) + "".join(PART.format(part=part) for part in range(14)) + "}\n"
+        procedure = HEAD.format(number=number) + "".join(PART.format(part=part) for part in range(18)) + "}\n"
         if length + len(procedure) > size:
             return "".join(pieces) + " " * (size - length)
         pieces.append(procedure)
