@@ -295,7 +295,14 @@ fn a_written_certificate_is_accepted(rt: HostRuntime) -> Result<(), Fail> {
     for words in [CERTIFY.as_slice(), REPLAY.as_slice()] {
         let mut sink = MemSink::new(alloc, 1000, 1000, Vec::new(alloc))?;
         let words = words_of(alloc, words)?;
-        let ended = run(&rt, alloc, words.as_slice(), &mut files, &mut sink, &OpenGate);
+        let ended = run(
+            &rt,
+            alloc,
+            words.as_slice(),
+            &mut files,
+            &mut sink,
+            &OpenGate,
+        );
         assert_eq!(rt; ended.status.code, 0);
         assert!(rt; ended.table.as_slice() == [2].as_slice());
     }
