@@ -2,7 +2,7 @@ use crate::{
     CertError, digests_of, read_certificate, replay, spell_certificate, write_certificate,
 };
 use sd_base::{Name, NoMemory};
-use sd_kernel::{How, Proof, Proved, Step, StepCause};
+use sd_kernel::StepCause;
 use sd_product::Straight;
 use sd_term::{Bank, Head, Op, Query};
 use sqlite_items::Items;
@@ -90,18 +90,10 @@ fn a_certificate_shows_its_table(rt: HostRuntime) -> Result<(), CertError> {
 }
 
 #[test]
-fn what_is_written_of_a_proof(rt: HostRuntime) -> Result<(), CertError> {
+fn what_is_written_of_two_empty_texts(rt: HostRuntime) -> Result<(), CertError> {
     let alloc = rt.alloc();
-    let pairs = [one_pair(alloc)?];
-    let Ok(steps) = Items::from_slice(alloc, &[Step::Close(0)]) else {
-        return Err(CertError::NoMemory);
-    };
-    let proofs = [Proved {
-        candidate: 1,
-        how: How::Steps(Proof { steps }),
-    }];
-    let written = write_certificate(alloc, &pairs, &digests_of(b"", b"", b""), &proofs)?;
-    assert!(rt; written.as_slice() == ONE);
+    let written = write_certificate(alloc, &[], &digests_of(b"", b"", b""), &[])?;
+    assert!(rt; written.as_slice() == EMPTY);
     Ok(())
 }
 

@@ -455,6 +455,28 @@ fn a_certificate_is_written_and_replayed(rt: HostRuntime) -> Result<(), Fail> {
     Ok(())
 }
 
+#[test]
+fn a_written_certificate_is_accepted(rt: HostRuntime) -> Result<(), Fail> {
+    let alloc = rt.alloc();
+    let texts = (ASSERTS_B, ASSERTS_NOT_NOT_B, b"".as_slice());
+    let mut files = files_of(&rt, alloc, texts, ROOM, &[])?;
+    for words in [CERTIFY.as_slice(), REPLAY.as_slice()] {
+        let mut sink = MemSink::new(alloc, 1000, 1000, Vec::new(alloc))?;
+        let words = words_of(alloc, words)?;
+        let ended = run(
+            &rt,
+            alloc,
+            words.as_slice(),
+            &mut files,
+            &mut sink,
+            &OpenGate,
+        );
+        assert_eq!(rt; ended.status.code, 0);
+        assert!(rt; ended.table.as_slice() == [2].as_slice());
+    }
+    Ok(())
+}
+
 /// Certificates with the status and the text that `replay old new c` answers to them, where `old` asserts `b` and `new` `!!b`.
 const REPLAYS: [(&[u8], u8, &[u8]); 5] = [
     (
