@@ -1,6 +1,6 @@
 -- What follows from a row of the table of answers.
 use Rattle.std.proofs.Common.{◌≡◌, ◌∙◌, sym, ap, subst, refl, ℕ, Bool, true, false, List, [], ◌∷◌, arith, inl, inr}
-use Rattle.std.specs.Prelude.{Option, None, Some, Contains, ◌⊎◌, if◌then◌else◌}
+use Rattle.std.specs.Prelude.{Option, None, Some, Contains, ◌⊎◌, Result, Err, codes, if◌then◌else◌}
 use Rattle.std.specs.List.{list_all}
 use Rattle.sd_base.specs.Causes.{Rose}
 use Rattle.sd_base.specs.Outside.{WhereTold}
@@ -11,10 +11,13 @@ use Rattle.symdiff.specs.Report.{is_safe}
 use Rattle.sd_parse.specs.declared.answer.ReadError.TheVariants as read
 use Rattle.symdiff.specs.declared.text.TextRefusal.{TextRefusal}
 use Rattle.symdiff.specs.declared.text.TextRefusal.TheVariants.{Reading, Typing, NotYet}
-use Rattle.symdiff.specs.TextRefusals.{IsTaken, refusal_status}
+use Rattle.symdiff.specs.declared.text.Text.{Text}
+use Rattle.symdiff.specs.declared.text.TextFault.{TextFault}
+use Rattle.symdiff.specs.declared.text.TextFault.TheVariants.{Memory, Failed, Refused}
+use Rattle.symdiff.specs.TextRefusals.{IsTaken, IsTextRefusal, refusal_status}
 use Rattle.symdiff.specs.Texts.{Holds, Texts, AreRead}
 use Rattle.symdiff.specs.Outcome.{Outcome, message, status_of}
-use Rattle.symdiff.specs.Replies.{IsReplayReply}
+use Rattle.symdiff.specs.Replies.{IsTextReply, IsReplayReply}
 use Rattle.symdiff.specs.Verdicts.{NoNewFailure, AreNewFailures}
 use Rattle.symdiff.specs.Answer.{Answer, no_job, old_refused, new_refused, compared, too_long, certificate_refused, replayed, ForPrograms, Headline, UnknownIsFailure}
 use Rattle.symdiff.proofs.Comparison.{compared_right, replayed_right, right_safe, right_unknown, one_taken}
@@ -125,6 +128,18 @@ are_read held told job t stay old_held old_read new_held new_read = record {
 -- a held text that is read
 pub told_taken : (told : Option (List ℕ)) (bytes : List ℕ) (P : Program) → Holds told bytes → IsTaken bytes P → WhereTold told (λ b. IsTaken b P)
 told_taken told bytes P h r b e = subst (λ (x : List ℕ). IsTaken x P) (sym (h b e)) r
+
+pub old_row : (words : List (List ℕ)) (held : List ℕ → Option (List ℕ)) (o : Outcome) (job : JobNames) (f : TextFault) → job_of words ≡ Some job
+    → ((r : TextRefusal) → ◌≡◌ {A = Result Text TextFault} (Err f) (Err (Refused r)) → WhereTold (held job.old) (λ bytes. IsTextRefusal bytes r)) → IsTextReply (codes "old") f o → Answer words held o
+old_row words held o job Memory named refused h = absurd h
+old_row words held o job Failed named refused h = absurd h
+old_row words held o job (Refused r) named refused h = old_refused job r named (refused r refl) h
+
+pub new_row : (words : List (List ℕ)) (held : List ℕ → Option (List ℕ)) (o : Outcome) (job : JobNames) (old : Program) (f : TextFault) → job_of words ≡ Some job → WhereTold (held job.old) (λ bytes. IsTaken bytes old)
+    → ((r : TextRefusal) → ◌≡◌ {A = Result Text TextFault} (Err f) (Err (Refused r)) → WhereTold (held job.new) (λ bytes. IsTextRefusal bytes r)) → IsTextReply (codes "new") f o → Answer words held o
+new_row words held o job old Memory named taken refused h = absurd h
+new_row words held o job old Failed named taken refused h = absurd h
+new_row words held o job old (Refused r) named taken refused h = new_refused job old r named taken (refused r refl) h
 
 pub replay_row : (words : List (List ℕ)) (held : List ℕ → Option (List ℕ)) (o : Outcome) (job : JobNames) (t : Texts) (name : List ℕ) (told : Option (List ℕ)) → job_of words ≡ Some job → job.task ≡ replay name → AreRead held job t → told ≡ held name → IsReplayReply told t o → Answer words held o
 replay_row words held o job t name told named task read same (inl h) = too_long job t name named task read (λ bytes e. h.0 bytes (same ∙ e)) h.1

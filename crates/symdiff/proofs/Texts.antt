@@ -8,7 +8,11 @@ use Rattle.sd_parse.specs.declared.answer.ReadError.TheVariants.{NoMemory, TooLo
 use Rattle.sd_parse.specs.Answer.{IsReading, IsParsed}
 use Rattle.symdiff.specs.declared.text.TextRefusal.{TextRefusal}
 use Rattle.symdiff.specs.declared.text.TextRefusal.TheVariants.{Reading, Typing, NotYet}
+use Rattle.symdiff.specs.declared.text.Text.{Text}
+use Rattle.symdiff.specs.declared.text.TextFault.{TextFault}
+use Rattle.symdiff.specs.declared.text.TextFault.TheVariants.{Memory, Failed, Refused}
 use Rattle.symdiff.specs.TextRefusals.{IsTaken, IsTextRefusal}
+use Rattle.symdiff.specs.Taking.{IsFault}
 
 pub front_is : (limit : ℕ) (bytes read : List ℕ) → read ≡ take (limit + 1) bytes → length read ≤ limit → read ≡ bytes
 front_is limit bytes read front short =
@@ -34,11 +38,17 @@ module _ (limit : ℕ) (bytes read slice : List ℕ) (is : limit ≡ 16777216) (
 
   pub refusal_whole : (r : TextRefusal) → IsTextRefusal slice r → IsTextRefusal bytes r
   refusal_whole (Reading e) h = (reading_whole (Err e) h.0, h.1)
-  refusal_whole (Typing e) h = (h.0, reading_whole (Ok h.0) h.1, h.2)
-  refusal_whole NotYet h = (h.0, reading_whole (Ok h.0) h.1, h.2)
+  refusal_whole (Typing e) h = (h.0, reading_whole (Ok h.0) h.1, h.2, h.3)
+  refusal_whole NotYet h = (h.0, reading_whole (Ok h.0) h.1, h.2, h.3)
 
   pub taken_is : (P : Program) → IsTaken slice P → bytes ≡ read
   taken_is P t = sym (slice_is t.read.short) ∙ same
 
 pub taken_same : (read slice : List ℕ) (P : Program) → slice ≡ read → IsTaken slice P → IsTaken read P
 taken_same read slice P same t = subst (λ (b : List ℕ). IsTaken b P) same t
+
+-- the refusal of a fault
+pub fault_refused : (bytes : List ℕ) (f : TextFault) (r : TextRefusal) → ◌≡◌ {A = Result Text TextFault} (Err f) (Err (Refused r)) → IsFault bytes f → IsTextRefusal bytes r
+fault_refused bytes Memory r e h = absurd (cc)
+fault_refused bytes Failed r e h = absurd h
+fault_refused bytes (Refused s) r e h = let same : s ≡ r = cc in subst (λ (x : TextRefusal). IsTextRefusal bytes x) same h

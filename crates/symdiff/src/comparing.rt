@@ -10,12 +10,12 @@ ghost use Rattle.symdiff.specs.TextRefusals.{IsTaken};
 ghost use Rattle.symdiff.specs.Replies.{outcome_of, texts_of, named, IsMade};
 
 use crate::reply::{NamedCertificate, Reply, report_on};
-use crate::text::{Text, digests};
+use crate::text::{Text, digests, pairs};
 use crate::verdict::VerdictState;
 use sd_base::NoMemory;
 use sd_cert::write_certificate;
 use sd_kernel::Proved;
-use sd_product::{Straight, straight_pairs};
+use sd_product::Straight;
 use sd_rounds::settle_straight;
 use std::alloc::Global;
 
@@ -50,7 +50,7 @@ pub fn compare<'a>(
     requires new_read { IsTaken new.now.bytes.items new.now.program }
     ensures { IfOk result (λ reply. IsComparison (option_copied name.entry) (texts_of old.now new.now) (outcome_of reply)) }
 {
-    let straights = straight_pairs(alloc, old.program.program(), new.program.program())?;
+    let straights = pairs(alloc, old, new)?;
     let straights = straights.as_slice();
     let settled = settle_straight(alloc, straights)?;
     let certificate = certify(alloc, old, new, straights, settled.proofs.as_slice(), name)?;

@@ -7,11 +7,10 @@ ghost use Rattle.symdiff.specs.Replies.{outcome_of, texts_of, refusal, IsJudged,
 
 use crate::certificate_error::certificate_error;
 use crate::reply::{Reply, Stop, message, report_on};
-use crate::text::{Text, digests};
+use crate::text::{Text, digests, pairs};
 use crate::verdict::VerdictState;
 use sd_base::{Files, NoMemory, ReadFault, read_up_to};
 use sd_cert::{CertError, replay};
-use sd_product::straight_pairs;
 use std::alloc::Global;
 
 /// The bytes of a certificate that are read at most.
@@ -34,7 +33,7 @@ fn judge<'a>(alloc: Global, old: &Text, new: &Text, bytes: &[u8]) -> Result<Repl
     requires new_read { IsTaken new.now.bytes.items new.now.program }
     ensures { IfOk result (λ reply. IsJudged bytes.now (texts_of old.now new.now) (outcome_of reply)) }
 {
-    let straights = straight_pairs(alloc, old.program.program(), new.program.program())?;
+    let straights = pairs(alloc, old, new)?;
     let straights = straights.as_slice();
     let replayed = match replay(alloc, straights, &digests(old, new), bytes) {
         Ok(replayed) => replayed,

@@ -10,8 +10,7 @@ ghost use Rattle.symdiff.specs.Replies.{outcome_of, outcome_with, texts_of};
 ghost use Rattle.symdiff.specs.Report.{is_safe};
 
 use crate::judge::verdicts_of;
-use crate::report::report_of;
-use crate::text::Text;
+use crate::text::{Text, report};
 use crate::verdict::{PairVerdict, VerdictState};
 use sd_base::NoMemory;
 use sd_cand::LiveTable;
@@ -107,12 +106,7 @@ pub fn report_on(
     ensures { IfOk result (λ report. (deaths : List Death) (certificate : Option (List ℕ × List ℕ)) → IsReport otherwise (texts_of old.now new.now) table.now (outcome_with report deaths certificate)) }
 {
     let pairs = verdicts_of(alloc, straights, table, otherwise)?;
-    let text = report_of(
-        alloc,
-        old.program.program(),
-        new.program.program(),
-        pairs.as_slice(),
-    )?;
+    let text = report(alloc, old, new, pairs.as_slice())?;
     let status = status_of(pairs.as_slice());
     Ok(Report {
         status,

@@ -4,15 +4,22 @@ ghost use Rattle.sd_base.specs.Causes.{Rose, NeverFall, AllSame};
 ghost use Rattle.sd_base.specs.Outside.{WhereTold, AllStay};
 ghost use Rattle.sd_types.specs.Declarations.{WellTyped};
 ghost use Rattle.symdiff.specs.declared.text.TextRefusal.{TextRefusal as Refusal};
-ghost use Rattle.symdiff.specs.Texts.{Holds, digests_of};
+ghost use Rattle.std.specs.List.{AllByRecursion};
+ghost use Rattle.sd_kernel.specs.OpenCube.{AllBoolean};
+ghost use Rattle.sd_product.specs.Straight.{queries_of};
+ghost use Rattle.symdiff.specs.Report as spec;
+ghost use Rattle.symdiff.specs.Texts.{Holds, pairs_of, digests_of};
 ghost use Rattle.symdiff.specs.TextRefusals.{IsTaken, IsTextRefusal};
 ghost use Rattle.symdiff.specs.Replies.{texts_of};
 ghost use Rattle.symdiff.specs.Taking.{IsFault, IsReadFault, IsTypeFault};
 
+use crate::report::report_of;
+use crate::verdict::PairVerdict;
 use sd_base::limits::TEXT_BYTES;
-use sd_base::{Files, ReadFault, read_up_to};
+use sd_base::{Files, NoMemory, ReadFault, read_up_to};
 use sd_cert::{Digests, digests_of};
 use sd_parse::{ReadError, read_program};
+use sd_product::{Straight, straight_pairs};
 use sd_types::{TypeError, Typed, check, is_boolean_program};
 use std::alloc::Global;
 
@@ -101,6 +108,33 @@ pub fn read_text<F: Files>(alloc: Global, files: &mut F, name: &str) -> Result<T
         Ok(program) => Ok(Text { bytes, program }),
         Err(fault) => Err(fault),
     }
+}
+
+/// The pairs of the procedures of two texts, each with the queries of its candidates.
+pub fn pairs(alloc: Global, old: &Text, new: &Text) -> Result<Vec<Straight>, NoMemory>
+    requires old_taken { IsTaken old.now.bytes.items old.now.program }
+    requires new_taken { IsTaken new.now.bytes.items new.now.program }
+    ensures pairs { IfOk result (λ pairs. pairs.items ≡ pairs_of (texts_of old.now new.now)) }
+    ensures boolean { IfOk result (λ pairs. AllByRecursion AllBoolean (queries_of pairs.items)) }
+{
+    straight_pairs(alloc, old.program.program(), new.program.program())
+}
+
+/// The report on two texts whose pairs have these verdicts.
+pub fn report(
+    alloc: Global,
+    old: &Text,
+    new: &Text,
+    verdicts: &[PairVerdict],
+) -> Result<Vec<u8>, NoMemory>
+    ensures { IfOk result (λ text. text.items ≡ spec.report old.now.program.decls new.now.program.decls verdicts.now) }
+{
+    report_of(
+        alloc,
+        old.program.program(),
+        new.program.program(),
+        verdicts,
+    )
 }
 
 /// The digests of two texts, and of absent settings.

@@ -1,35 +1,35 @@
-use Rattle.std.proofs.Common.{◌∙◌, ap, refl}
+use Rattle.std.proofs.Common.{◌∙◌, ap}
 use Rattle.std.specs.Option.{option_copied}
 use Rattle.symdiff.specs.Jobs.{task_of, names_of}
 use Rattle.symdiff.specs.Outcome.{message}
 use Rattle.symdiff.specs.Replies.{texts_of, outcome_of}
-use Rattle.symdiff.specs.Answer.{no_job, old_refused, new_refused, compared}
+use Rattle.symdiff.specs.Answer.{no_job, compared}
 use Rattle.symdiff.proofs.Certified.{ok-map}
-use Rattle.symdiff.proofs.Rows.{are_read, told_read, replay_row}
+use Rattle.symdiff.proofs.Rows.{are_read, told_taken, old_row, new_row, replay_row}
 use Rattle.symdiff.proofs.answering.reply_to.Goals as goal
 
 pub returns-in_default-clause-answer : goal.returns-in_default-clause-answer
 returns-in_default-clause-answer g c = no_job c.in_default.ensures (c.in_ok-message.ensures ∙ ap (message 2) c.as_bytes.ensures.value)
 
-pub returns-in-Err-NotYet-clause-answer : goal.returns-in-Err-NotYet-clause-answer
-returns-in-Err-NotYet-clause-answer g c =
-    old_refused (names_of c.in-Some.job) c.in-Some.ensures (c.in-Err-NotYet.ensures.refused (rw c.in-Err-NotYet.field-0-is refl)) c.in_ok-message-in-Err-NotYet.ensures
+pub returns-in-Err-clause-answer : goal.returns-in-Err-clause-answer
+returns-in-Err-clause-answer g c =
+    ok-map c.refuse.result c.refuse.ensures.reply (λ reply h. old_row _ _ (outcome_of reply) (names_of c.in-Some.job) c.in-Err.fault c.in-Some.ensures c.in-Err.ensures.refused h)
 
-pub returns-in-Err-NotYet-read_text-clause-answer : goal.returns-in-Err-NotYet-read_text-clause-answer
-returns-in-Err-NotYet-read_text-clause-answer g c =
-    new_refused (names_of c.in-Some.job) c.in-Ok.old.program c.in-Some.ensures (told_read _ c.in-Ok.old.bytes.items c.in-Ok.old.program c.in-Ok.ensures.held c.in-Ok.ensures.spelled)
-    (λ bytes told. c.in-Err-NotYet-read_text.ensures.refused (rw c.in-Err-NotYet-read_text.field-0-is refl) bytes (c.read_text.ensures.stay c.in-Some.job.new.now ∙ told))
-    c.in_ok-message-in-Err-NotYet-read_text.ensures
+pub returns-in-Err-read_text-clause-answer : goal.returns-in-Err-read_text-clause-answer
+returns-in-Err-read_text-clause-answer g c =
+    ok-map c.refuse-in-Err-read_text.result c.refuse-in-Err-read_text.ensures.reply
+    (λ reply h. new_row _ _ (outcome_of reply) (names_of c.in-Some.job) c.in-Ok.old.program c.in-Err-read_text.fault c.in-Some.ensures (told_taken _ c.in-Ok.old.bytes.items c.in-Ok.old.program c.in-Ok.ensures.held c.in-Ok.ensures.taken)
+    (λ r is bytes told. c.in-Err-read_text.ensures.refused r is bytes (c.read_text.ensures.stay c.in-Some.job.new.now ∙ told)) h)
 
 pub returns-in-Verify-clause-answer : goal.returns-in-Verify-clause-answer
 returns-in-Verify-clause-answer g c =
     compared (names_of c.in-Some.job) (texts_of c.in-Ok.old c.in-Ok-read_text.new) (option_copied c.in-Verify.name) c.in-Some.ensures (ap task_of c.in-Verify.is)
-    (are_read _ _ (names_of c.in-Some.job) (texts_of c.in-Ok.old c.in-Ok-read_text.new) (c.read_text.ensures.stay c.in-Some.job.new.now) c.in-Ok.ensures.held c.in-Ok.ensures.spelled c.in-Ok-read_text.ensures.held c.in-Ok-read_text.ensures.spelled)
+    (are_read _ _ (names_of c.in-Some.job) (texts_of c.in-Ok.old c.in-Ok-read_text.new) (c.read_text.ensures.stay c.in-Some.job.new.now) c.in-Ok.ensures.held c.in-Ok.ensures.taken c.in-Ok-read_text.ensures.held c.in-Ok-read_text.ensures.taken)
     c.in_ok-compare-in-Verify.ensures
 
 pub returns-clause-answer : goal.returns-clause-answer
 returns-clause-answer g c =
     ok-map c.replay_file.result c.replay_file.ensures.reply
     (λ reply h. replay_row _ _ (outcome_of reply) (names_of c.in-Some.job) (texts_of c.in-Ok.old c.in-Ok-read_text.new) c.in-Replay.name.now _ c.in-Some.ensures (ap task_of c.in-Replay.is)
-    (are_read _ _ (names_of c.in-Some.job) (texts_of c.in-Ok.old c.in-Ok-read_text.new) (c.read_text.ensures.stay c.in-Some.job.new.now) c.in-Ok.ensures.held c.in-Ok.ensures.spelled c.in-Ok-read_text.ensures.held c.in-Ok-read_text.ensures.spelled)
+    (are_read _ _ (names_of c.in-Some.job) (texts_of c.in-Ok.old c.in-Ok-read_text.new) (c.read_text.ensures.stay c.in-Some.job.new.now) c.in-Ok.ensures.held c.in-Ok.ensures.taken c.in-Ok-read_text.ensures.held c.in-Ok-read_text.ensures.taken)
     (c.read_text-2.ensures.stay c.in-Replay.name.now ∙ c.read_text.ensures.stay c.in-Replay.name.now) h)

@@ -88,3 +88,15 @@ returns-in-Err-clause-headline g c =
 pub returns-in-Err-clause-unknown : goal.returns-in-Err-clause-unknown
 returns-in-Err-clause-unknown g c =
     let r = c.in-Ok.reply in ended_unknown _ _ c.end_with-in-Err.result r.status r.status r.text.items (named r.certificate) (outcome_of r) refl c.end_with-in-Err.ensures.outcome c.in-Ok.ensures.answer
+
+pub returns-in-Ok-write_all-clause-first_fault : goal.returns-in-Ok-write_all-clause-first_fault
+returns-in-Ok-write_all-clause-first_fault g c _ _ =
+    let r = c.in-Ok.ensures.first_fault (λ bad. cc) in
+    let w = c.write_certificate-file.ensures.no_fault (unbroken c.write_certificate-file.result c.is_broken.result c.is_broken.ensures c.if-is_broken.false) in
+    (λ name. w.0 name ∙ r.0 name, λ name. w.1 name ∙ r.1 name)
+
+pub returns-in-Err-clause-first_fault : goal.returns-in-Err-clause-first_fault
+returns-in-Err-clause-first_fault g c _ _ =
+    let r = c.in-Ok.ensures.first_fault (λ bad. cc) in
+    let w = c.write_certificate-file.ensures.no_fault (unbroken c.write_certificate-file.result c.is_broken.result c.is_broken.ensures c.if-is_broken.false) in
+    (λ name. w.0 name ∙ r.0 name, λ name. w.1 name ∙ r.1 name)

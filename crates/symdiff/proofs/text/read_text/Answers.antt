@@ -1,15 +1,15 @@
 use Rattle.std.proofs.Common.{refl}
-use Rattle.symdiff.proofs.Texts.{read_whole, read_same, spells_none_whole}
+use Rattle.symdiff.proofs.Texts.{taken_is, taken_same, refusal_whole, fault_refused}
 use Rattle.symdiff.proofs.text.read_text.Goals as goal
 
-pub returns-in-Ok-read_program-clause-held : goal.returns-in-Ok-read_program-clause-held
-returns-in-Ok-read_program-clause-held g c bytes told =
-    read_whole 16777216 bytes c.in-Ok.bytes.items c.as_slice.result.now c.in-Ok-read_program.program refl (c.in-Ok.ensures.told bytes told) c.as_slice.ensures.value c.in-Ok-read_program.ensures.read
+pub returns-in-Ok-take-clause-held : goal.returns-in-Ok-take-clause-held
+returns-in-Ok-take-clause-held g c bytes told =
+    taken_is 16777216 bytes c.in-Ok.bytes.items c.as_slice.result.now refl (c.in-Ok.ensures.told bytes told) c.as_slice.ensures.value c.in-Ok-take.program c.in-Ok-take.ensures.taken
 
-pub returns-in-Ok-read_program-clause-spelled : goal.returns-in-Ok-read_program-clause-spelled
-returns-in-Ok-read_program-clause-spelled g c =
-    read_same c.in-Ok.bytes.items c.as_slice.result.now c.in-Ok-read_program.program c.as_slice.ensures.value c.in-Ok-read_program.ensures.read
+pub returns-in-Ok-take-clause-taken : goal.returns-in-Ok-take-clause-taken
+returns-in-Ok-take-clause-taken g c =
+    taken_same c.in-Ok.bytes.items c.as_slice.result.now c.in-Ok-take.program c.as_slice.ensures.value c.in-Ok-take.ensures.taken
 
-pub returns-in-Err-NotYet-clause-refused : goal.returns-in-Err-NotYet-clause-refused
-returns-in-Err-NotYet-clause-refused g c e bytes told =
-    spells_none_whole 16777216 bytes c.in-Ok.bytes.items c.as_slice.result.now refl (c.in-Ok.ensures.told bytes told) c.as_slice.ensures.value (c.in-Err-NotYet.ensures.not_yet (rw c.in-Err-NotYet.field-0-is refl))
+pub returns-in-Err-clause-refused : goal.returns-in-Err-clause-refused
+returns-in-Err-clause-refused g c r is bytes told =
+    refusal_whole 16777216 bytes c.in-Ok.bytes.items c.as_slice.result.now refl (c.in-Ok.ensures.told bytes told) c.as_slice.ensures.value r (fault_refused c.as_slice.result.now c.in-Err.fault r is c.in-Err.ensures.refused)

@@ -1,0 +1,8 @@
+use Rattle.std.proofs.Common.{◌∙◌}
+use Rattle.symdiff.specs.Report.{report}
+use Rattle.symdiff.proofs.Certified.{ok-map}
+use Rattle.symdiff.proofs.text.report.Goals as goal
+
+pub returns : goal.returns
+returns c =
+    ok-map c.report_of.result c.report_of.ensures (λ text e. e ∙ (λ i. report (c.program.ensures.program i).decls (c.program-2.ensures.program i).decls c.args.verdicts.now))
