@@ -1,3 +1,4 @@
+use crate::answer;
 use crate::cursor::Cursor;
 use crate::program::program;
 use crate::{ReadError, read_program};
@@ -76,4 +77,30 @@ fn refuses(rt: HostRuntime) {
         let answer = read_program(rt.alloc(), text);
         assert!(rt; matches!(answer, Err(ReadError::NotYet)));
     }
+}
+
+#[test]
+fn names_each_refusal(rt: HostRuntime) {
+    let star = answer::read_program(rt.alloc(), b"procedure p() { if (*) { } }");
+    assert!(rt; matches!(star, Err(answer::ReadError::Star(at)) if at.byte == 20));
+    let product = answer::read_program(rt.alloc(), b"procedure p() { if (a*b) { } }");
+    assert!(rt; product.is_ok());
+    let syntax = answer::read_program(rt.alloc(), b"procedure p() { assert true }");
+    assert!(rt; matches!(syntax, Err(answer::ReadError::Syntax(at)) if at.byte == 28));
+    let end = answer::read_program(rt.alloc(), b"procedure p() {");
+    assert!(rt; matches!(end, Err(answer::ReadError::Syntax(at)) if at.byte == 15));
+    let lexical = answer::read_program(rt.alloc(), b"axiom 1 % 2;");
+    assert!(rt; matches!(lexical, Err(answer::ReadError::Lex(_))));
+}
+
+#[test]
+fn names_the_first_token_too_deep(rt: HostRuntime) -> Result<(), Fail> {
+    let mut text = Vec::new(rt.alloc());
+    text.extend_from_slice(b"axiom ")?;
+    for _paren in 0..250 {
+        text.push(b'(')?;
+    }
+    let answer = answer::read_program(rt.alloc(), text.as_slice());
+    assert!(rt; matches!(answer, Err(answer::ReadError::Deep(at)) if at.byte == 205));
+    Ok(())
 }
