@@ -419,9 +419,12 @@ module _ (d : ℕ) (inner : Level → Reader Tall)
   store_goes : (n : ℕ) (o b c : Token) (m i e : Expr) (h k l : ℕ) (p q r : Place) (v w rest : Tokens) → suc (suc d) ≤ h + n → suc (max h (max k l)) ≤ suc d → Is s.OpenBracket o → Phrase Whole v i k q → Is s.Becomes b → Phrase Whole w e l r → Is s.CloseBracket c
       → (j : ℕ) × (suc (suc d) ≤ suc (max h (max k l)) + j) × (brackets d inner n (m, h, p) ((o ∷ (v ++ b ∷ (w ++ c ∷ []))) ++ rest) ≡ brackets d inner j (placed p (Store m i e), suc (max h (max k l)), p) rest)
   store_goes zero o b c m i e h k l p q r v w rest room low z y a x j = absurd (omega arith)
-  store_goes (suc n) o b c m i e h k l p q r v w rest room low z y a x j =
-      (n, omega arith, ap (λ ts. brackets d inner (suc n) (m, h, p) (o ∷ ts)) (append_assoc v (b ∷ (w ++ c ∷ [])) rest ∙ ap (λ ts. v ++ b ∷ ts) (append_assoc w (c ∷ []) rest))
-      ∙ bracket_goes n o (m, h, p) v i k q (b ∷ (w ++ c ∷ rest)) rest _ (omega arith) (omega arith) z y (record { looser = rw a.same (omega arith) }) (write_goes (m, h, p) (i, k, q) b c w e l r rest a x (omega arith) j))
+  store_goes (suc n) o b c m i e h k l p q r v w rest room low z y a x j = (
+    n,
+    omega arith,
+    ap (λ ts. brackets d inner (suc n) (m, h, p) (o ∷ ts)) (append_assoc v (b ∷ (w ++ c ∷ [])) rest ∙ ap (λ ts. v ++ b ∷ ts) (append_assoc w (c ∷ []) rest))
+        ∙ bracket_goes n o (m, h, p) v i k q (b ∷ (w ++ c ∷ rest)) rest _ (omega arith) (omega arith) z y (record { looser = rw a.same (omega arith) }) (write_goes (m, h, p) (i, k, q) b c w e l r rest a x (omega arith) j),
+  )
 
   in_prefix : (t : Token) (f : UnOp) (u rest : Tokens) (e : Expr) (h : ℕ) (p : Place) → suc h ≤ suc d → prefixes (sign t) ≡ Some f → Phrase Prefix u e h p → Stops Prefix rest → layer d inner Prefix (t ∷ u ++ rest) ≡ Got (placed t.at (Unary f e), suc h, t.at) rest
   unfolding prefix prefixed

@@ -1,5 +1,5 @@
 -- The reader of programs answers by the rule of refusals.
-use Rattle.std.proofs.Common.{◌≡◌, ℕ, suc, ◌+◌, ◌≤◌, List, [], ◌∷◌, ◌++◌, refl, ap, sym, ◌∙◌, subst, arith}
+use Rattle.std.proofs.Common.{◌≡◌, ℕ, suc, ◌+◌, ◌≤◌, List, [], ◌∷◌, refl, ap, arith}
 use Rattle.sd_base.specs.declared.Place.{Place}
 use Rattle.sd_ast.specs.declared.Decl.{Decl}
 use Rattle.sd_ast.specs.declared.Program.{Program}
@@ -9,8 +9,8 @@ use Rattle.sd_parse.specs.Programs.{Declaration, Spells}
 use Rattle.sd_parse.specs.Refusals.{IsSyntax, IsDeep, place_of}
 use Rattle.sd_parse.specs.Reading.{Syntax, Deep, Step, Got, Bad, Reader, and_then}
 use Rattle.sd_parse.specs.ReadingPrograms.{declarations, ended, program}
-use Rattle.sd_parse.proofs.Algebra.{Begins, AnswersStep, Answers, bind, begins_map, stop, wide}
-use Rattle.sd_parse.proofs.Local.{Local, local_bind, local_pure}
+use Rattle.sd_parse.proofs.Algebra.{Answers, bind, begins_map, stop, wide}
+use Rattle.sd_parse.proofs.Local.{local_bind, local_pure}
 use Rattle.sd_parse.proofs.Lifts.{same, lift_bind, lift_more}
 use Rattle.sd_parse.proofs.Exact.{Exact, syntax_at, deep_at}
 use Rattle.sd_parse.proofs.Rows.{Low}
@@ -34,10 +34,12 @@ spells_more : (d k : ℕ) (u : Tokens) (P : Program) → Spells k u P → Spells
 spells_more d k u P w = record { height = w.height; spelled = declarations_more (omega arith) w.spelled; low = let z = w.low in omega arith }
 
 whole_answers : (d : ℕ) → 1 ≤ d → (ts : Tokens) → Answers (Spells d) (Spells (wide d)) ts (whole d ts)
-whole_answers d pos ts = record { fact = bind (Low (Row (Declaration d)) d) (Low (Row (Declaration (wide d))) (wide d)) (Spells d) (Spells (wide d)) [] ts (program d ts) (λ xs ts. Got (tree xs) ts) (program_answers d pos ts).fact
-    (λ u b. begins_map (Low (Row (Declaration d)) d) (Spells d) tree u (to_spells d) b)
-    (λ u b. begins_map (Low (Row (Declaration (wide d))) (wide d)) (Spells (wide d)) tree u (to_spells (wide d)) b)
-    (λ xs u rest w. stop (Spells d) (Spells (wide d)) u rest (tree xs) (to_spells d u xs w)) }
+whole_answers d pos ts = record {
+  fact = bind (Low (Row (Declaration d)) d) (Low (Row (Declaration (wide d))) (wide d)) (Spells d) (Spells (wide d)) [] ts (program d ts) (λ xs ts. Got (tree xs) ts) (program_answers d pos ts).fact
+      (λ u b. begins_map (Low (Row (Declaration d)) d) (Spells d) tree u (to_spells d) b)
+      (λ u b. begins_map (Low (Row (Declaration (wide d))) (wide d)) (Spells (wide d)) tree u (to_spells (wide d)) b)
+      (λ xs u rest w. stop (Spells d) (Spells (wide d)) u rest (tree xs) (to_spells d u xs w));
+}
 
 whole_complete : (d : ℕ) (u : Tokens) (P : Program) → Spells d u P → whole d u ≡ Got P []
 whole_complete d u P w = ap (λ s. and_then s (λ xs ts. Got (tree xs) ts)) (spelled_is_read d u P w)

@@ -26,7 +26,7 @@ module _ (d : ℕ) where
 
   pub lift_more_groups : (xs : List Var) (ts : Tokens) → Lifts (more_groups d xs ts) (more_groups (suc d) xs ts)
   unfolding more_groups
-  lift_more_groups xs ts = lift_all (is s.Comma) (reading.next (group d)) (reading.next (group (suc d))) join_lists (λ ts. lift_next (group d) (group (suc d)) lift_group  ts) xs ts
+  lift_more_groups xs ts = lift_all (is s.Comma) (reading.next (group d)) (reading.next (group (suc d))) join_lists (λ ts. lift_next (group d) (group (suc d)) lift_group ts) xs ts
 
   pub lift_vars : (ts : Tokens) → Lifts (vars d ts) (vars (suc d) ts)
   unfolding vars
@@ -148,7 +148,7 @@ module _ (d : ℕ) where
 
   pub lift_function : (ts : Tokens) → Lifts (function d ts) (function (suc d) ts)
   unfolding function
-  lift_function ts = lift_after (skip ts) _ _ (λ _ ts. lift_bind _ _ _ _ (lift_attributes d ts) (λ _ ts. lift_after (name ts) _ _ (λ f ts. lift_bind _ _ _ _ (lift_enclosed (argument d) (argument (suc d)) lift_argument  ts) (λ xs ts. lift_bind _ _ _ _ (lift_result_type ts) (λ T ts. lift_after (want s.Semi ts) _ _ (λ _ ts. same refl))))))
+  lift_function ts = lift_after (skip ts) _ _ (λ _ ts. lift_bind _ _ _ _ (lift_attributes d ts) (λ _ ts. lift_after (name ts) _ _ (λ f ts. lift_bind _ _ _ _ (lift_enclosed (argument d) (argument (suc d)) lift_argument ts) (λ xs ts. lift_bind _ _ _ _ (lift_result_type ts) (λ T ts. lift_after (want s.Semi ts) _ _ (λ _ ts. same refl))))))
 
   pub lift_axiom_line : (ts : Tokens) → Lifts (axiom_line d ts) (axiom_line (suc d) ts)
   unfolding axiom_line

@@ -11,9 +11,8 @@ use Rattle.sd_ast.specs.declared.Decl.TheVariants as decl
 use Rattle.sd_parse.specs.declared.sign.Sign.{Sign}
 use Rattle.sd_parse.specs.declared.sign.Sign.TheVariants as s
 use Rattle.sd_parse.specs.Grammar.{Tokens}
-use Rattle.sd_parse.specs.Clauses as c
 use Rattle.sd_parse.specs.Programs.{variables}
-use Rattle.sd_parse.specs.Reading.{Syntax, sign_of, name}
+use Rattle.sd_parse.specs.Reading.{Syntax, sign_of}
 use Rattle.sd_parse.specs.ReadingRows.{push, join_lists, is}
 use Rattle.sd_parse.specs.ReadingStatements.{statement}
 use Rattle.sd_parse.specs.ReadingPrograms.{begins_spec, begins_declaration, modified_by, modified, modifies, uniqueness_by, uniqueness, typed, group, more_groups, vars, var_line, locals, parameters_by, listed_parameters, parameters, results_by, results, head, required, ensured, condition_by, condition, free_condition, clause_by, clause, clauses, body, named_by, after_name, named_argument, argument_by, argument, returned_type, colon_type, result_by, result_type, types, constants, function, axiom_line, globals, declared, defined, procedure_by, procedure_from, procedure, implementation, declaration_by, declaration, declarations, ended, program}
@@ -60,7 +59,7 @@ module _ (d : ℕ) where
 
   pub local_more_groups : (xs : List Var) → Local (more_groups d xs)
   unfolding more_groups
-  local_more_groups xs = local_all (is s.Comma) (reading.next (group d)) join_lists (next_takes (group d) local_group) (local_next (group d) local_group ) xs
+  local_more_groups xs = local_all (is s.Comma) (reading.next (group d)) join_lists (next_takes (group d) local_group) (local_next (group d) local_group) xs
 
   pub local_vars : Local (vars d)
   unfolding vars
@@ -186,7 +185,7 @@ module _ (d : ℕ) where
 
   pub local_function : Local (function d)
   unfolding function
-  local_function = local_bind _ _ local_skip (λ _. local_bind _ _ (local_attributes d) (λ _. local_bind _ _ local_name (λ f. local_bind _ _ (local_enclosed (argument d) local_argument ) (λ xs. local_bind _ _ local_result_type (λ T. local_bind _ _ (local_want s.Semi) (λ _. local_pure (decl.Function f.0 xs T)))))))
+  local_function = local_bind _ _ local_skip (λ _. local_bind _ _ (local_attributes d) (λ _. local_bind _ _ local_name (λ f. local_bind _ _ (local_enclosed (argument d) local_argument) (λ xs. local_bind _ _ local_result_type (λ T. local_bind _ _ (local_want s.Semi) (λ _. local_pure (decl.Function f.0 xs T)))))))
 
   pub local_axiom_line : Local (axiom_line d)
   unfolding axiom_line

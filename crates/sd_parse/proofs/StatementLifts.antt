@@ -11,7 +11,6 @@ use Rattle.sd_parse.specs.declared.sign.Sign.{Sign}
 use Rattle.sd_parse.specs.declared.sign.Sign.TheVariants as s
 use Rattle.sd_parse.specs.Grammar.{Tokens, Whole}
 use Rattle.sd_parse.specs.Statements.{stated}
-use Rattle.sd_parse.specs.Clauses as c
 use Rattle.sd_parse.specs.Reading.{Syntax, Deep, Bad, Reader, ◌>>=◌, pure, bad, ahead, sign_of, skip, want, name}
 use Rattle.sd_parse.specs.ReadingRows.{push, keep, is, plain_name}
 use Rattle.sd_parse.specs.ReadingTypes.{begins_type, map_type, type_by, type_layer, type_of}
@@ -164,15 +163,15 @@ module _ (limit d : ℕ) (inner wider : Reader Stmt) (up : (ts : Tokens) → Lif
 
   pub lift_assigned : (ts : Tokens) → Lifts (assigned limit d inner ts) (assigned (suc limit) (suc d) wider ts)
   unfolding assigned
-  lift_assigned ts = lift_deeper d (left d >>= λ l. reading.more (plain_left d) (l.0 ∷ []) >>= λ ls. want s.Becomes >>= λ _. reading.commas (expression d) >>= λ es. want s.Semi >>= λ _. pure (stated l.1 (Assign ls es))) (left (suc d) >>= λ l. reading.more (plain_left (suc d)) (l.0 ∷ []) >>= λ ls. want s.Becomes >>= λ _. reading.commas (expression (suc d)) >>= λ es. want s.Semi >>= λ _. pure (stated l.1 (Assign ls es))) ts (lift_bind _ _ _ _ (lift_left d ts) (λ l ts. lift_bind _ _ _ _ (lift_more (plain_left d) (plain_left (suc d)) (lift_plain_left d) (l.0 ∷ []) ts) (λ ls ts. lift_after (want s.Becomes ts) _ _ (λ _ ts. lift_bind _ _ _ _ (lift_commas (expression d) (expression (suc d)) (lift_expression d)  ts) (λ es ts. lift_after (want s.Semi ts) _ _ (λ _ ts. same refl))))))
+  lift_assigned ts = lift_deeper d (left d >>= λ l. reading.more (plain_left d) (l.0 ∷ []) >>= λ ls. want s.Becomes >>= λ _. reading.commas (expression d) >>= λ es. want s.Semi >>= λ _. pure (stated l.1 (Assign ls es))) (left (suc d) >>= λ l. reading.more (plain_left (suc d)) (l.0 ∷ []) >>= λ ls. want s.Becomes >>= λ _. reading.commas (expression (suc d)) >>= λ es. want s.Semi >>= λ _. pure (stated l.1 (Assign ls es))) ts (lift_bind _ _ _ _ (lift_left d ts) (λ l ts. lift_bind _ _ _ _ (lift_more (plain_left d) (plain_left (suc d)) (lift_plain_left d) (l.0 ∷ []) ts) (λ ls ts. lift_after (want s.Becomes ts) _ _ (λ _ ts. lift_bind _ _ _ _ (lift_commas (expression d) (expression (suc d)) (lift_expression d) ts) (λ es ts. lift_after (want s.Semi ts) _ _ (λ _ ts. same refl))))))
 
   pub lift_applied : (p : Place) (xs : List Text) (ts : Tokens) → Lifts (applied limit d inner p xs ts) (applied (suc limit) (suc d) wider p xs ts)
   unfolding applied
-  lift_applied p xs ts = lift_after (name ts) _ _ (λ f ts. lift_bind _ _ _ _ (lift_enclosed (expression d) (expression (suc d)) (lift_expression d)  ts) (λ es ts. lift_after (want s.Semi ts) _ _ (λ _ ts. same refl)))
+  lift_applied p xs ts = lift_after (name ts) _ _ (λ f ts. lift_bind _ _ _ _ (lift_enclosed (expression d) (expression (suc d)) (lift_expression d) ts) (λ es ts. lift_after (want s.Semi ts) _ _ (λ _ ts. same refl)))
 
   pub lift_applied_to : (p : Place) (f : Text) (ts : Tokens) → Lifts (applied_to limit d inner p f ts) (applied_to (suc limit) (suc d) wider p f ts)
   unfolding applied_to
-  lift_applied_to p f ts = lift_bind _ _ _ _ (lift_enclosed (expression d) (expression (suc d)) (lift_expression d)  ts) (λ es ts. lift_after (want s.Semi ts) _ _ (λ _ ts. same refl))
+  lift_applied_to p f ts = lift_bind _ _ _ _ (lift_enclosed (expression d) (expression (suc d)) (lift_expression d) ts) (λ es ts. lift_after (want s.Semi ts) _ _ (λ _ ts. same refl))
 
   pub lift_received : (p : Place) (x : Text) (ts : Tokens) → Lifts (received limit d inner p x ts) (received (suc limit) (suc d) wider p x ts)
   unfolding received

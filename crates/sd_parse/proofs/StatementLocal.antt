@@ -14,7 +14,7 @@ use Rattle.sd_parse.specs.Grammar.{Tokens, Whole}
 use Rattle.sd_parse.specs.Statements.{InvariantLine, stated}
 use Rattle.sd_parse.specs.Statements as st
 use Rattle.sd_parse.specs.Clauses as c
-use Rattle.sd_parse.specs.Reading.{Syntax, Deep, Got, Reader, bad, sign_of, name, read}
+use Rattle.sd_parse.specs.Reading.{Syntax, Deep, Got, Reader, bad, sign_of}
 use Rattle.sd_parse.specs.ReadingRows.{push, keep, is, plain_name, names}
 use Rattle.sd_parse.specs.ReadingTypes.{begins_type, map_type, type_by, type_layer, type_of}
 use Rattle.sd_parse.specs.ReadingClauses.{expression, datum_by, datum, next_datum, more_data, contents_by, contents, attribute, attributes, claim}
@@ -203,15 +203,15 @@ module _ (limit d : ℕ) (inner : Reader Stmt) (li : Local inner) (takes : Takes
 
   pub local_assigned : Local (assigned limit d inner)
   unfolding assigned
-  local_assigned = local_deeper d _ (local_bind _ _ (local_left d) (λ l. local_bind _ _ (local_more (plain_left d) (local_plain_left d) (l.0 ∷ [])) (λ ls. local_bind _ _ (local_want s.Becomes) (λ _. local_bind _ _ (local_commas (expression d) (local_expression d) ) (λ es. local_bind _ _ (local_want s.Semi) (λ _. local_pure (stated l.1 (Assign ls es))))))))
+  local_assigned = local_deeper d _ (local_bind _ _ (local_left d) (λ l. local_bind _ _ (local_more (plain_left d) (local_plain_left d) (l.0 ∷ [])) (λ ls. local_bind _ _ (local_want s.Becomes) (λ _. local_bind _ _ (local_commas (expression d) (local_expression d)) (λ es. local_bind _ _ (local_want s.Semi) (λ _. local_pure (stated l.1 (Assign ls es))))))))
 
   pub local_applied : (p : Place) (xs : List Text) → Local (applied limit d inner p xs)
   unfolding applied
-  local_applied p xs = local_bind _ _ local_name (λ f. local_bind _ _ (local_enclosed (expression d) (local_expression d) ) (λ es. local_bind _ _ (local_want s.Semi) (λ _. local_pure (stated p (Call xs f.0 es)))))
+  local_applied p xs = local_bind _ _ local_name (λ f. local_bind _ _ (local_enclosed (expression d) (local_expression d)) (λ es. local_bind _ _ (local_want s.Semi) (λ _. local_pure (stated p (Call xs f.0 es)))))
 
   pub local_applied_to : (p : Place) (f : Text) → Local (applied_to limit d inner p f)
   unfolding applied_to
-  local_applied_to p f = local_bind _ _ (local_enclosed (expression d) (local_expression d) ) (λ es. local_bind _ _ (local_want s.Semi) (λ _. local_pure (stated p (Call [] f es))))
+  local_applied_to p f = local_bind _ _ (local_enclosed (expression d) (local_expression d)) (λ es. local_bind _ _ (local_want s.Semi) (λ _. local_pure (stated p (Call [] f es))))
 
   pub local_received : (p : Place) (x : Text) → Local (received limit d inner p x)
   unfolding received

@@ -1,7 +1,6 @@
-use crate::answer;
 use crate::cursor::Cursor;
 use crate::program::program;
-use crate::{ReadError, read_program};
+use crate::{ReadError, answer, read_program};
 use sd_lex::tokens;
 use std::test::Fail;
 

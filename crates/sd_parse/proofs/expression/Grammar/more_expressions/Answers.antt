@@ -1,6 +1,6 @@
-use Rattle.std.proofs.Common.{◌≡◌, ◌-◌, ◌+◌, ◌≤◌, max, true, false, sym, ap, ◌∙◌, subst, rules, arith}
+use Rattle.std.proofs.Common.{◌≡◌, ◌≤◌, max, true, false, sym, ap, ◌∙◌, subst, rules, arith}
 use Rattle.std.proofs.lemmas.Grind.{common_steps}
-use Rattle.sd_parse.specs.Reading.{sign_of, ahead, many, comma, next_expression, add, more_expressions, read}
+use Rattle.sd_parse.specs.Reading.{sign_of, ahead, comma, next_expression, add, more_expressions, read}
 use Rattle.sd_parse.proofs.Many.{starts, ends, goes_on, next, runs_out}
 use Rattle.sd_parse.proofs.expression.Grammar.more_expressions.Goals as goal
 
@@ -33,7 +33,7 @@ loop-turn-preserved g c =
     let low : max c.loop-turn.group.1 c.in_ok-next.next.1 ≤ d = let z = c.loop-turn.invariant.low in let y = c.in_ok-next.ensures.low in omega arith in
     record {
       reads = next comma (next_expression d (read d)) add (more_expressions d (read d) c.args.first c.args.tokens.now) c.turns-turn-end.result c.loop-turn._turn c.loop-turn.group c.loop-turn.tokens c.loop-turn.invariant.reads
-      c.in_ok-next.next c.next_expression.new.tokens c.in_ok-group.group c.loop-turn-test.true e c.in_ok-next.ensures.gives c.in_ok-group.ensures;
+          c.in_ok-next.next c.next_expression.new.tokens c.in_ok-group.group c.loop-turn-test.true e c.in_ok-next.ensures.gives c.in_ok-group.ensures;
       low = subst (λ y. y.1 ≤ d) (sym c.in_ok-group.ensures) low;
     }
 
