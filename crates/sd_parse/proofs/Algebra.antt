@@ -1,18 +1,16 @@
 -- What a reader answers: what it got is in its language; at a fault the tokens before it begin a text of the language, and at a fault
 -- of depth they do with one token more in a wider language, that of all heights.
-use Rattle.std.proofs.Common.{◌≡◌, ℕ, zero, suc, ◌≤◌, max, true, false, cond, [], ◌∷◌, ◌++◌, refl, ap, sym, ◌∙◌, subst, arith, append_assoc}
-use Rattle.std.specs.Prelude.{Bool, Option, Some, None}
+use Rattle.std.proofs.Common.{◌≡◌, ℕ, zero, suc, ◌≤◌, true, false, cond, [], ◌∷◌, ◌++◌, refl, ap, sym, ◌∙◌, subst, arith, append_assoc}
+use Rattle.std.specs.Prelude.{Bool}
 use Rattle.std.proofs.lemmas.List.{append-nil}
 use Rattle.sd_base.specs.declared.Place.{Place}
-use Rattle.sd_base.specs.Value.{Text}
 use Rattle.sd_lex.specs.declared.Token.{Token}
 use Rattle.sd_lex.specs.declared.TokenKind.{TokenKind}
 use Rattle.sd_lex.specs.declared.TokenKind.TheVariants as kind
 use Rattle.sd_parse.specs.declared.sign.Sign.{Sign}
-use Rattle.sd_parse.specs.declared.sign.Sign.TheVariants as s
 use Rattle.sd_parse.specs.Signs.{same_sign}
-use Rattle.sd_parse.specs.Grammar.{Tokens, Is, IsName, IsNumber}
-use Rattle.sd_parse.specs.Reading.{Fault, Syntax, Deep, Step, Got, Bad, Reader, and_then, ahead, sign_of, skip, want, name_by, name, number_by, number, many, deeper}
+use Rattle.sd_parse.specs.Grammar.{Tokens, Is}
+use Rattle.sd_parse.specs.Reading.{Syntax, Deep, Step, Got, Bad, Reader, and_then, ahead, sign_of, skip, want, name_by, name, number_by, number, many, deeper}
 use Rattle.sd_parse.proofs.Sound as r
 use Rattle.sd_parse.proofs.Sound.{SoundStep, Sound, Wanted, wanted, Named, named, Counted, counted, Nothing, nothing, Both, both, Repeat, same_is}
 use Rattle.sd_parse.proofs.Spelling.{Spelled}

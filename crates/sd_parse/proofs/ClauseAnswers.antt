@@ -1,5 +1,5 @@
 -- What the readers of expressions alone, of attributes, claims and names answer.
-use Rattle.std.proofs.Common.{◌≡◌, ℕ, zero, suc, ◌≤◌, max, true, false, cond, List, [], ◌∷◌, ◌++◌, refl, arith}
+use Rattle.std.proofs.Common.{◌≡◌, ℕ, zero, suc, ◌≤◌, true, false, cond, List, [], ◌∷◌, refl, arith}
 use Rattle.std.specs.Prelude.{Bool}
 use Rattle.sd_base.specs.declared.Place.{Place}
 use Rattle.sd_base.specs.Value.{Text}
@@ -11,19 +11,19 @@ use Rattle.sd_parse.specs.Grammar.{Tokens, Whole, Is}
 use Rattle.sd_parse.specs.Clauses as c
 use Rattle.sd_parse.specs.Clauses.{Expression, Attributes, Claim}
 use Rattle.sd_parse.specs.Statements.{Names}
-use Rattle.sd_parse.specs.Reading.{Syntax, Deep, Got, Bad, Reader, Tall, and_then, ahead, sign_of, skip, begins, read}
+use Rattle.sd_parse.specs.Reading.{Syntax, Deep, Got, Bad, Reader, Tall, and_then, ahead, sign_of, begins, read}
 use Rattle.sd_parse.specs.ReadingRows.{is, keep, plain_name, names}
 use Rattle.sd_parse.specs.ReadingRows as reading
 use Rattle.sd_parse.specs.ReadingClauses.{expression, datum_by, datum, next_datum, more_data, contents_by, contents, attribute, attributes, claim}
-use Rattle.sd_parse.proofs.Sound.{Wanted, wanted, Named, named, Nothing, nothing, Both, both, Repeat, same_is}
+use Rattle.sd_parse.proofs.Sound.{Repeat, same_is}
 use Rattle.sd_parse.proofs.Spelling.{Spelled, spelled}
-use Rattle.sd_parse.proofs.Algebra.{Begins, Answers, Rule, begins_map, into, fails, seq, done, rule_into, want_rule, name_rule, after, wide}
-use Rattle.sd_parse.proofs.ExpressionAnswers.{Within, filler, filled, begun, read_rule, read_floor}
-use Rattle.sd_parse.proofs.Lists.{Many, Behind}
+use Rattle.sd_parse.proofs.Algebra.{Begins, Answers, Rule, begins_map, into, seq, done, rule_into, want_rule, name_rule, after, wide}
+use Rattle.sd_parse.proofs.ExpressionAnswers.{Within, filler, filled, begun, read_rule}
+use Rattle.sd_parse.proofs.Lists.{Behind}
 use Rattle.sd_parse.proofs.Rows.{Low, Next, next}
 use Rattle.sd_parse.proofs.RowAnswers.{low_wide, all_rule, more_rule, commas_rule, Item, full, floor, Refuses, refused, too_deep}
-use Rattle.sd_parse.proofs.ClauseLaws.{to_expression, DatumText, DataText, AttributeText, AttributesText, to_text, to_datum, to_next, data_of, Contents, empty, given, to_given, to_attribute, attributes_of, to_claim}
-use Rattle.sd_parse.proofs.NameLaws.{NameText, name_text, NextNames, to_plain, names_of, commas_names}
+use Rattle.sd_parse.proofs.ClauseLaws.{to_expression, DatumText, DataText, AttributeText, AttributesText, to_text, to_datum, to_next, Contents, empty, given, to_given, to_attribute, attributes_of, to_claim}
+use Rattle.sd_parse.proofs.NameLaws.{NameText, NextNames, to_plain, names_of}
 use Rattle.sd_parse.proofs.Limits.{attributes_more, claim_more}
 
 -- ---- expressions

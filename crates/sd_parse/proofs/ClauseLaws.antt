@@ -1,17 +1,14 @@
 -- The readers of attributes and claims read what is one within its height, and all of it.
 use Rattle.std.proofs.Common.{◌≡◌, ℕ, suc, ◌<◌, ◌≤◌, max, true, false, [], ◌∷◌, ◌++◌, length, refl, ap, sym, ◌∙◌, subst, arith, append_assoc}
-use Rattle.std.specs.Prelude.{Some}
 use Rattle.std.proofs.lemmas.List.{append-nil}
 use Rattle.sd_base.specs.declared.Place.{Place}
 use Rattle.sd_base.specs.Value.{Text}
 use Rattle.sd_lex.specs.declared.Token.{Token}
 use Rattle.sd_ast.specs.declared.Expr.{Expr}
-use Rattle.sd_ast.specs.declared.UnOp.{UnOp}
 use Rattle.sd_parse.specs.declared.sign.Sign.{Sign}
 use Rattle.sd_parse.specs.declared.sign.Sign.TheVariants as s
 use Rattle.sd_parse.specs.Signs.{sign}
-use Rattle.sd_parse.specs.Grammar as g
-use Rattle.sd_parse.specs.Grammar.{Tokens, Level, Whole, Phrase, Is, IsName, prefixes}
+use Rattle.sd_parse.specs.Grammar.{Tokens, Whole, Is, IsName}
 use Rattle.sd_parse.specs.Clauses as c
 use Rattle.sd_parse.specs.Clauses.{Expression, Datum, Data, Attribute, Attributes, Claim}
 use Rattle.sd_parse.specs.Reading.{Got, and_then, ahead, sign_of, begins, read}
@@ -21,7 +18,7 @@ use Rattle.sd_parse.proofs.Sound as r
 use Rattle.sd_parse.proofs.Sound.{Sound, Wanted, wanted, Named, named, Nothing, settle, Both, both, Repeat, seq, done, into, skip_sound, want_sound, name_sound, many_sound, same_is}
 use Rattle.sd_parse.proofs.ExpressionSound.{Within, read_law}
 use Rattle.sd_parse.proofs.Heights.{tall}
-use Rattle.sd_parse.proofs.ExpressionComplete.{rank, Stops, read_complete, phrase_first, want_goes, name_goes, name_sign, number_sign, same_signs}
+use Rattle.sd_parse.proofs.ExpressionComplete.{rank, Stops, read_complete, phrase_first, want_goes, name_goes, same_signs}
 use Rattle.sd_parse.proofs.Lists.{all_complete}
 use Rattle.sd_parse.proofs.Rows.{Low, Next, next, next_first, next_some, other_sign}
 

@@ -1,13 +1,13 @@
 -- The rule of refusals, from the laws of a reader: what it answers, that it reads what is spelled, that it looks no further than the
 -- next token, and that more height changes only the answer that a token is too deep.
-use Rattle.std.proofs.Common.{◌≡◌, ℕ, suc, ◌+◌, ◌≤◌, [], ◌∷◌, ◌++◌, refl, ap, sym, ◌∙◌, subst, arith, append_assoc}
+use Rattle.std.proofs.Common.{◌≡◌, ℕ, ◌+◌, [], ◌∷◌, ◌++◌, refl, ap, sym, ◌∙◌, subst, append_assoc}
 use Rattle.std.proofs.lemmas.List.{append-nil}
 use Rattle.sd_base.specs.declared.Place.{Place}
 use Rattle.sd_lex.specs.declared.Token.{Token}
 use Rattle.sd_parse.specs.Grammar.{Tokens}
 use Rattle.sd_parse.specs.Refusals as rule
 use Rattle.sd_parse.specs.Refusals.{BeginsWithin, BeginsSome, IsSyntax, IsDeep, place_of, Verdict, Read, IsVerdict}
-use Rattle.sd_parse.specs.Reading.{Syntax, Deep, Step, Got, Bad, Reader}
+use Rattle.sd_parse.specs.Reading.{Syntax, Deep, Got, Bad, Reader}
 use Rattle.sd_parse.proofs.Algebra.{Begins, Answers, AnswersStep, wide}
 use Rattle.sd_parse.proofs.Local.{Local, rest_of, before}
 use Rattle.sd_parse.proofs.Lifts.{Lifts, same, deep}

@@ -6,9 +6,8 @@ use Rattle.std.proofs.lemmas.List.{append-nil}
 use Rattle.sd_base.specs.declared.Place.{Place}
 use Rattle.sd_base.specs.Value.{Text}
 use Rattle.sd_lex.specs.declared.Token.{Token}
-use Rattle.sd_lex.specs.declared.TokenKind.{TokenKind}
 use Rattle.sd_ast.specs.declared.Expr.{Expr}
-use Rattle.sd_ast.specs.declared.ExprKind.{Num, Truth, Var, Apply, Old, Unary, Binary, Select, Store}
+use Rattle.sd_ast.specs.declared.ExprKind.{Num, Truth, Var, Apply, Old, Unary, Binary}
 use Rattle.sd_ast.specs.declared.UnOp.{UnOp}
 use Rattle.sd_ast.specs.declared.BinOp.{BinOp}
 use Rattle.sd_ast.specs.declared.BinOp.TheVariants as op
@@ -24,7 +23,7 @@ use Rattle.sd_parse.proofs.Sound.{Wanted, wanted, Named, named, Counted, counted
 use Rattle.sd_parse.proofs.Spelling.{Spelled, spelled}
 use Rattle.sd_parse.proofs.Tables.{is_number, is_name}
 use Rattle.sd_parse.proofs.Heights.{tall}
-use Rattle.sd_parse.proofs.Algebra.{Begins, AnswersStep, Answers, Rule, shift, bind, onto, chain, begins_map, begins_whole, answers_map, stop, stop_syntax, stop_deep, into, fails, seq_at, seq, done, rule_into, skip_answers, want_rule, name_rule, number_rule, after, deeper_answers, many_rule, wide}
+use Rattle.sd_parse.proofs.Algebra.{Begins, AnswersStep, Answers, Rule, shift, bind, onto, chain, begins_map, begins_whole, answers_map, stop, stop_deep, into, fails, seq_at, seq, done, rule_into, want_rule, name_rule, number_rule, after, deeper_answers, many_rule, wide}
 
 -- a phrase of this level, of height d at most
 pub record Within (d : ℕ) (l : Level) (u : Tokens) (x : Tall) : Type 0 where

@@ -91,6 +91,10 @@ limit Whole = 7
 pub record Stops (l : Level) (rest : Tokens) : Type 0 where
   pub looser : limit l < rank (sign_of (ahead rest))
 
+-- a junction goes on with no `==>`
+before_implies : (t : Token) (rest : Tokens) → Is s.Implies t → Stops Junction (t ∷ rest)
+before_implies t rest i = record { looser = rw i.same (omega arith) }
+
 repeated_has : (l : Level) (x : Sign) (f : BinOp) → repeated l x ≡ Some f → has_operand l ≡ true
 repeated_has Whole x f e = refl
 repeated_has Explied x f e = refl
@@ -559,7 +563,7 @@ module _ (d : ℕ) (inner : Level → Reader Tall)
   spell (g.last {u = u} {e = e} {h = h} {p = p} q) low = no_spine _ _ _ _ _ refl refl (λ rest stops. right_alone (u ++ rest) rest (e, h, p) ((spell q low).alone rest (record { looser = let z = stops.looser in omega arith })) stops)
   spell (g.right {t = t} {u = u} {v = v} {a = a} {b = b} {h = h} {k = k} {p = i} {q = j} p o q) low = no_spine _ _ _ _ _ refl refl (λ rest stops.
       ap (layer d inner Right) (append_assoc u (t ∷ v) rest) ∙
-      right_more (u ++ (t ∷ v ++ rest)) t a b h k i j v rest ((spell p (omega arith)).alone (t ∷ v ++ rest) (record { looser = rw o.same (omega arith) })) o.same low q stops)
+      right_more (u ++ (t ∷ v ++ rest)) t a b h k i j v rest ((spell p (omega arith)).alone (t ∷ v ++ rest) (before_implies t (v ++ rest) o)) o.same low q stops)
   spell (g.implies {u = u} {e = e} {h = h} {p = p} q) low = no_spine _ _ _ _ _ refl refl (λ rest stops.
       after_junction (λ x ts. right_by d inner x (sign_of (ahead ts)) ts) (u ++ rest) rest (e, h, p) (λ x ts r. by_right x (e, h, p) ts rest (sign_of (ahead ts)) refl stops.looser r)
       (sym (right_split (u ++ rest)) ∙ (spell q low).alone rest (record { looser = stops.looser })))

@@ -1,5 +1,5 @@
 -- The reader of expressions looks no further than the next token.
-use Rattle.std.proofs.Common.{◌≡◌, ℕ, zero, suc, true, false, [], ◌∷◌}
+use Rattle.std.proofs.Common.{ℕ, zero, suc, true, false, [], ◌∷◌}
 use Rattle.std.specs.Prelude.{Bool, Option, Some, None, nat_lt}
 use Rattle.sd_base.specs.declared.Place.{Place}
 use Rattle.sd_base.specs.Value.{Text}

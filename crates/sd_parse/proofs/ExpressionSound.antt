@@ -1,8 +1,8 @@
 -- What the reader of expressions has read is a phrase within its height.
-use Rattle.std.proofs.Common.{◌≡◌, ℕ, zero, suc, ◌≤◌, true, false, cond, [], arith}
+use Rattle.std.proofs.Common.{ℕ, zero, suc, true, false, cond, arith}
 use Rattle.std.specs.Prelude.{Bool}
 use Rattle.sd_parse.specs.Grammar.{Tokens, Level}
-use Rattle.sd_parse.specs.Reading.{Syntax, Deep, Got, Bad, Reader, ahead, sign_of, begins, Tall, read}
+use Rattle.sd_parse.specs.Reading.{Syntax, Deep, Bad, Reader, ahead, sign_of, begins, Tall, read}
 use Rattle.sd_parse.proofs.Sound.{Sound}
 use Rattle.sd_parse.proofs.Algebra.{sound}
 pub use Rattle.sd_parse.proofs.ExpressionAnswers.{Within}

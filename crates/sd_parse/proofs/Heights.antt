@@ -1,5 +1,5 @@
 -- Each phrase has a height of 1 at least.
-use Rattle.std.proofs.Common.{◌≡◌, ℕ, suc, ◌≤◌, max, arith}
+use Rattle.std.proofs.Common.{ℕ, ◌≤◌, arith}
 use Rattle.sd_base.specs.declared.Place.{Place}
 use Rattle.sd_ast.specs.declared.Expr.{Expr}
 use Rattle.sd_parse.specs.Grammar as g

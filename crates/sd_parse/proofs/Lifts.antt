@@ -1,10 +1,9 @@
 -- More height changes only the answer that a token is too deep.
-use Rattle.std.proofs.Common.{◌≡◌, ℕ, zero, suc, ◌+◌, true, false, cond, length, refl, ap, sym, ◌∙◌, subst, arith}
-use Rattle.std.specs.Prelude.{Bool, Option}
-use Rattle.sd_base.specs.declared.Place.{Place}
+use Rattle.std.proofs.Common.{◌≡◌, ℕ, zero, suc, ◌+◌, true, false, cond, length, refl, ap, ◌∙◌, subst, arith}
+use Rattle.std.specs.Prelude.{Bool}
 use Rattle.sd_parse.specs.declared.sign.Sign.{Sign}
 use Rattle.sd_parse.specs.Grammar.{Tokens}
-use Rattle.sd_parse.specs.Reading.{Deep, Step, Got, Bad, Reader, and_then, ahead, sign_of, skip, many, all, deeper}
+use Rattle.sd_parse.specs.Reading.{Deep, Step, Got, Bad, Reader, and_then, ahead, sign_of, many, all, deeper}
 
 -- t is what s is, unless s is a fault of depth
 pub data Lifts {A : Type 0} (s t : Step A) : Type 0 where

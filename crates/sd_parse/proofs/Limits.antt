@@ -1,5 +1,5 @@
 -- What is spelled under a limit for attributes is spelled under a higher one.
-use Rattle.std.proofs.Common.{◌≡◌, ℕ, ◌≤◌, max, List, [], ◌∷◌, ◌++◌, arith}
+use Rattle.std.proofs.Common.{ℕ, ◌≤◌, List, arith}
 use Rattle.std.specs.Prelude.{Bool}
 use Rattle.sd_base.specs.declared.Place.{Place}
 use Rattle.sd_base.specs.declared.Var.{Var}

@@ -1,5 +1,5 @@
 -- A reader's answer depends on no token after the next one.
-use Rattle.std.proofs.Common.{◌≡◌, ℕ, zero, suc, ◌+◌, ◌<◌, true, false, cond, [], ◌∷◌, ◌++◌, length, length-append, refl, ap, sym, ◌∙◌, subst, arith, append_assoc}
+use Rattle.std.proofs.Common.{◌≡◌, ℕ, zero, suc, ◌+◌, ◌<◌, true, false, cond, [], ◌∷◌, ◌++◌, length, length-append, refl, ap, sym, ◌∙◌, arith, append_assoc}
 use Rattle.std.specs.Prelude.{Bool, Option, Some, None}
 use Rattle.std.proofs.lemmas.List.{append_cancel_right}
 use Rattle.sd_base.specs.declared.Place.{Place}
@@ -10,7 +10,7 @@ use Rattle.sd_lex.specs.declared.TokenKind.TheVariants as kind
 use Rattle.sd_parse.specs.declared.sign.Sign.{Sign}
 use Rattle.sd_parse.specs.Signs.{same_sign}
 use Rattle.sd_parse.specs.Grammar.{Tokens}
-use Rattle.sd_parse.specs.Reading.{Fault, Syntax, Deep, Step, Got, Bad, Reader, and_then, ahead, sign_of, pure, bad, skip, want, name_by, name, number_by, number, many, all, deeper}
+use Rattle.sd_parse.specs.Reading.{Fault, Syntax, Deep, Step, Got, Bad, Reader, and_then, ahead, sign_of, bad, skip, want, name_by, name, number_by, number, many, all, deeper}
 
 abbrev pub rest_of : {A : Type 0} → Step A → Tokens
 rest_of (Got x rest) = rest

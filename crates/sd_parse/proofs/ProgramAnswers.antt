@@ -1,12 +1,10 @@
 -- What the reader of programs answers.
-use Rattle.std.proofs.Common.{◌≡◌, ℕ, zero, suc, ◌≤◌, max, true, false, List, [], ◌∷◌, ◌++◌, refl, sym, ◌∙◌, subst, arith}
+use Rattle.std.proofs.Common.{◌≡◌, ℕ, zero, suc, ◌≤◌, true, false, List, [], ◌∷◌, refl, arith}
 use Rattle.std.specs.Prelude.{Bool, Some, None}
 use Rattle.sd_base.specs.declared.Sort.{Sort}
 use Rattle.sd_base.specs.declared.Sort.TheVariants as sort
 use Rattle.sd_base.specs.declared.Var.{Var}
 use Rattle.sd_base.specs.Value.{Text}
-use Rattle.sd_lex.specs.declared.Token.{Token}
-use Rattle.sd_ast.specs.declared.Body.{Body}
 use Rattle.sd_ast.specs.declared.Head.{Head}
 use Rattle.sd_ast.specs.declared.Spec.{Spec}
 use Rattle.sd_ast.specs.declared.Spec.TheVariants as spec
@@ -14,22 +12,19 @@ use Rattle.sd_ast.specs.declared.Decl.{Decl}
 use Rattle.sd_ast.specs.declared.Decl.TheVariants as decl
 use Rattle.sd_parse.specs.declared.sign.Sign.{Sign}
 use Rattle.sd_parse.specs.declared.sign.Sign.TheVariants as s
-use Rattle.sd_parse.specs.Grammar.{Tokens, Is, IsName}
+use Rattle.sd_parse.specs.Grammar.{Tokens}
 use Rattle.sd_parse.specs.Rows as w
 use Rattle.sd_parse.specs.Rows.{Row, Joined, Enclosed}
 use Rattle.sd_parse.specs.Types as ty
 use Rattle.sd_parse.specs.Types.{TypeText}
-use Rattle.sd_parse.specs.Clauses as c
-use Rattle.sd_parse.specs.Clauses.{Claim}
-use Rattle.sd_parse.specs.Statements as st
 use Rattle.sd_parse.specs.Programs as p
 use Rattle.sd_parse.specs.Programs.{variables, Vars, VarLine, Parameters, Results, HeadText, SpecText, BodyText, Uniqueness, Argument, ResultType, Declaration}
-use Rattle.sd_parse.specs.Reading.{Got, Bad, Reader, and_then, ahead, sign_of}
+use Rattle.sd_parse.specs.Reading.{Reader, ahead, sign_of}
 use Rattle.sd_parse.specs.ReadingRows.{is, join_lists}
 use Rattle.sd_parse.specs.ReadingRows as reading
 use Rattle.sd_parse.specs.ReadingStatements.{statement}
 use Rattle.sd_parse.specs.ReadingPrograms.{begins_spec, begins_declaration, modified_by, modified, modifies, uniqueness_by, uniqueness, typed, group, more_groups, vars, var_line, locals, parameters_by, listed_parameters, parameters, results_by, results, head, required, ensured, condition_by, condition, free_condition, clause_by, clause, clauses, body, named_by, after_name, named_argument, argument_by, argument, returned_type, colon_type, result_by, result_type, types, constants, function, axiom_line, globals, declared, defined, procedure_by, procedure_from, procedure, implementation, declaration_by, declaration, declarations, ended, program}
-use Rattle.sd_parse.proofs.Sound.{Wanted, Named, Both, same_is}
+use Rattle.sd_parse.proofs.Sound.{Wanted, Both, same_is}
 use Rattle.sd_parse.proofs.Spelling.{Spelled, spelled}
 use Rattle.sd_parse.proofs.Algebra.{Begins, AnswersStep, Answers, Rule, bind, begins_map, begins_whole, stop, stop_syntax, into, fails, seq_at, seq, done, rule_into, want_rule, name_rule, after, wide}
 use Rattle.sd_parse.proofs.Lists as lists
@@ -39,7 +34,7 @@ use Rattle.sd_parse.proofs.RowAnswers.{low_wide, all_rule, row_rule, joined_rule
 use Rattle.sd_parse.proofs.TypeAnswers.{type_rule}
 use Rattle.sd_parse.proofs.ClauseAnswers.{attributes_rule, claim_wide, claim_rule, names_rule}
 use Rattle.sd_parse.proofs.StatementAnswers.{lift_low, statements_rule, statement_rule}
-use Rattle.sd_parse.proofs.Limits.{var_line_more, spec_more, body_more, declaration_more, specs_more, declarations_more}
+use Rattle.sd_parse.proofs.Limits.{var_line_more, spec_more, body_more, declaration_more, specs_more}
 use Rattle.sd_parse.proofs.ProgramSound as made
 use Rattle.sd_parse.proofs.ProgramSound.{TypedPair, GroupText, Closed, Modified, Condition, of_requires, of_ensures, AfterName, colon, nothing_more, ProcedureFrom, declared_from, defined_from}
 

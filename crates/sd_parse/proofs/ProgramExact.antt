@@ -1,5 +1,5 @@
 -- The reader of programs answers by the rule of refusals.
-use Rattle.std.proofs.Common.{◌≡◌, ℕ, suc, ◌+◌, ◌≤◌, List, [], ◌∷◌, ◌++◌, refl, ap, sym, ◌∙◌, subst, arith}
+use Rattle.std.proofs.Common.{◌≡◌, ℕ, suc, ◌+◌, ◌≤◌, List, [], ◌∷◌, refl, ap, arith}
 use Rattle.sd_base.specs.declared.Place.{Place}
 use Rattle.sd_ast.specs.declared.Decl.{Decl}
 use Rattle.sd_ast.specs.declared.Program.{Program}
@@ -9,8 +9,8 @@ use Rattle.sd_parse.specs.Programs.{Declaration, Spells}
 use Rattle.sd_parse.specs.Refusals.{IsSyntax, IsDeep, place_of}
 use Rattle.sd_parse.specs.Reading.{Syntax, Deep, Step, Got, Bad, Reader, and_then}
 use Rattle.sd_parse.specs.ReadingPrograms.{declarations, ended, program}
-use Rattle.sd_parse.proofs.Algebra.{Begins, AnswersStep, Answers, bind, begins_map, stop, wide}
-use Rattle.sd_parse.proofs.Local.{Local, local_bind, local_pure}
+use Rattle.sd_parse.proofs.Algebra.{Answers, bind, begins_map, stop, wide}
+use Rattle.sd_parse.proofs.Local.{local_bind, local_pure}
 use Rattle.sd_parse.proofs.Lifts.{same, lift_bind, lift_more}
 use Rattle.sd_parse.proofs.Exact.{Exact, syntax_at, deep_at}
 use Rattle.sd_parse.proofs.Rows.{Low}

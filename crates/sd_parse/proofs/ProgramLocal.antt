@@ -11,9 +11,8 @@ use Rattle.sd_ast.specs.declared.Decl.TheVariants as decl
 use Rattle.sd_parse.specs.declared.sign.Sign.{Sign}
 use Rattle.sd_parse.specs.declared.sign.Sign.TheVariants as s
 use Rattle.sd_parse.specs.Grammar.{Tokens}
-use Rattle.sd_parse.specs.Clauses as c
 use Rattle.sd_parse.specs.Programs.{variables}
-use Rattle.sd_parse.specs.Reading.{Syntax, sign_of, name}
+use Rattle.sd_parse.specs.Reading.{Syntax, sign_of}
 use Rattle.sd_parse.specs.ReadingRows.{push, join_lists, is}
 use Rattle.sd_parse.specs.ReadingStatements.{statement}
 use Rattle.sd_parse.specs.ReadingPrograms.{begins_spec, begins_declaration, modified_by, modified, modifies, uniqueness_by, uniqueness, typed, group, more_groups, vars, var_line, locals, parameters_by, listed_parameters, parameters, results_by, results, head, required, ensured, condition_by, condition, free_condition, clause_by, clause, clauses, body, named_by, after_name, named_argument, argument_by, argument, returned_type, colon_type, result_by, result_type, types, constants, function, axiom_line, globals, declared, defined, procedure_by, procedure_from, procedure, implementation, declaration_by, declaration, declarations, ended, program}

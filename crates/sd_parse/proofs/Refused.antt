@@ -1,7 +1,6 @@
 -- Where the code finds the token that is refused.
-use Rattle.std.proofs.Common.{◌≡◌, ℕ, zero, suc, ◌+◌, ◌-◌, ◌≤◌, ◌<◌, true, false, [], ◌∷◌, ◌++◌, length, length-append, drop, take, refl, ap, sym, ◌∙◌, subst, arith}
+use Rattle.std.proofs.Common.{◌≡◌, ℕ, zero, suc, ◌+◌, ◌-◌, ◌≤◌, true, false, [], ◌∷◌, ◌++◌, length, length-append, drop, take, refl, ap, sym, ◌∙◌, subst, arith}
 use Rattle.sd_base.specs.declared.Place.{Place}
-use Rattle.sd_ast.specs.declared.Decl.{Decl}
 use Rattle.sd_parse.specs.Grammar.{Tokens}
 use Rattle.sd_parse.specs.Programs.{Spells}
 use Rattle.sd_parse.specs.Refusals.{IsSyntax, IsDeep, place_of}

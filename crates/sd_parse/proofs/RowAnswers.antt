@@ -1,22 +1,21 @@
 -- What the readers of lists answer, from what their items' readers answer.
-use Rattle.std.proofs.Common.{◌≡◌, ℕ, zero, suc, ◌≤◌, max, true, List, [], ◌∷◌, ◌++◌, length, refl, ap, sym, ◌∙◌, subst, arith, append_assoc}
+use Rattle.std.proofs.Common.{◌≡◌, ℕ, suc, ◌≤◌, max, true, List, [], ◌∷◌, ◌++◌, length, refl, sym, subst, arith}
 use Rattle.std.specs.Prelude.{Bool}
-use Rattle.std.proofs.lemmas.List.{append-nil}
 use Rattle.sd_lex.specs.declared.Token.{Token}
 use Rattle.sd_parse.specs.declared.sign.Sign.{Sign}
 use Rattle.sd_parse.specs.declared.sign.Sign.TheVariants as s
-use Rattle.sd_parse.specs.Grammar.{Tokens, Is}
+use Rattle.sd_parse.specs.Grammar.{Tokens}
 use Rattle.sd_parse.specs.Rows as w
 use Rattle.sd_parse.specs.Rows.{Row, Joined, Commas, Enclosed}
 use Rattle.sd_parse.specs.Reading.{Syntax, Deep, Step, Got, Bad, Reader, and_then, ahead, sign_of, want, many, all}
 use Rattle.sd_parse.specs.ReadingRows.{push, join_lists, is, listed_by, listed, enclosed}
 use Rattle.sd_parse.specs.ReadingRows as reading
-use Rattle.sd_parse.proofs.Sound.{Wanted, wanted, Nothing, nothing, Both, both, Repeat, same_is}
+use Rattle.sd_parse.proofs.Sound.{wanted, nothing, both, Repeat, same_is}
 use Rattle.sd_parse.proofs.Lists as lists
 use Rattle.sd_parse.proofs.Lists.{Many, none, more, Behind, pushed, joined}
-use Rattle.sd_parse.proofs.Rows.{Low, Next, next, to_next, row_of, of_row, joined_of, of_joined, to_commas, commas_of, Opened, opened, to_none, to_some, to_enclosed}
+use Rattle.sd_parse.proofs.Rows.{Low, Next, next, to_next, row_of, of_row, joined_of, of_joined, to_commas, Opened, opened, to_none, to_some, to_enclosed}
 use Rattle.sd_parse.proofs.Spelling.{Spelled, spelled}
-use Rattle.sd_parse.proofs.Algebra.{Begins, Answers, Rule, stop_deep, into, fails, seq_at, seq, done, rule_into, filled_by, want_rule, after, many_rule, wide}
+use Rattle.sd_parse.proofs.Algebra.{Begins, Answers, Rule, stop_deep, into, fails, seq, done, rule_into, want_rule, after, many_rule, wide}
 
 pub low_wide : {A : Type 0} (F : Tokens → A → ℕ → Type 0) (d : ℕ) (u : Tokens) (x : A) → Low F d u x → Low F (wide d) u x
 low_wide F d u x w = record { height = w.height; spelt = w.spelt; low = let z = w.low in omega arith }

@@ -5,7 +5,7 @@ use Rattle.sd_lex.specs.declared.TokenKind.{TokenKind}
 use Rattle.sd_lex.specs.declared.TokenKind.TheVariants as kind
 use Rattle.sd_parse.specs.declared.sign.Sign.{Sign}
 use Rattle.sd_parse.specs.declared.sign.Sign.TheVariants as s
-use Rattle.sd_parse.specs.Signs.{sign, sign_of_kind}
+use Rattle.sd_parse.specs.Signs.{sign_of_kind}
 use Rattle.sd_parse.specs.Grammar.{Is}
 
 -- a token of this sign, which isn't the end

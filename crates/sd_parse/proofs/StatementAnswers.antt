@@ -1,7 +1,6 @@
 -- What the reader of statements answers.
-use Rattle.std.proofs.Common.{◌≡◌, ℕ, zero, suc, ◌≤◌, max, true, false, List, [], ◌∷◌, ◌++◌, refl, ap, sym, ◌∙◌, subst, arith}
+use Rattle.std.proofs.Common.{◌≡◌, ℕ, zero, suc, ◌≤◌, true, false, List, [], ◌∷◌, ◌++◌, refl, ap, sym, ◌∙◌, subst, arith}
 use Rattle.std.specs.Prelude.{Bool}
-use Rattle.std.proofs.lemmas.List.{append-nil}
 use Rattle.sd_base.specs.declared.Place.{Place}
 use Rattle.sd_base.specs.Value.{Text}
 use Rattle.sd_lex.specs.declared.Token.{Token}
@@ -13,31 +12,29 @@ use Rattle.sd_ast.specs.declared.Stmt.{Stmt}
 use Rattle.sd_ast.specs.declared.StmtKind.{Assert, Assume, Assign, Call, If, While, Break, Return}
 use Rattle.sd_parse.specs.declared.sign.Sign.{Sign}
 use Rattle.sd_parse.specs.declared.sign.Sign.TheVariants as s
-use Rattle.sd_parse.specs.Grammar.{Tokens, Whole, Is, IsName, placed}
+use Rattle.sd_parse.specs.Grammar.{Tokens, Whole, Is, placed}
 use Rattle.sd_parse.specs.Rows as w
 use Rattle.sd_parse.specs.Rows.{Row, Commas, Enclosed}
 use Rattle.sd_parse.specs.Clauses as c
 use Rattle.sd_parse.specs.Clauses.{Expression, Attributes, Claim}
 use Rattle.sd_parse.specs.Statements as st
 use Rattle.sd_parse.specs.Statements.{Index, LeftSide, InvariantLine, Statement, Otherwise, Block, Statements, stated}
-use Rattle.sd_parse.specs.Reading.{Syntax, Deep, Step, Got, Bad, Reader, and_then, ahead, sign_of, skip, want, name}
+use Rattle.sd_parse.specs.Reading.{Syntax, Deep, Step, Got, Bad, Reader, and_then, ahead, sign_of, want}
 use Rattle.sd_parse.specs.ReadingRows.{is, push, plain_name}
 use Rattle.sd_parse.specs.ReadingRows as reading
-use Rattle.sd_parse.specs.ReadingClauses.{expression, attributes, claim}
+use Rattle.sd_parse.specs.ReadingClauses.{expression, claim}
 use Rattle.sd_parse.specs.ReadingStatements.{index, indices, left, plain_left, begins_invariant, stated_invariant, invariant_by, loop_invariant, invariants, begins_statement, asserted, assumed, assigned, applied, applied_to, received, call_by, call_from, called, statements, block, branch_by, branch, otherwise_by, otherwise, guard, conditional, looped, broken, returned, statement_by, statement_layer, statement}
-use Rattle.sd_parse.proofs.Sound.{Wanted, wanted, Named, named, Nothing, nothing, Both, both, Repeat, same_is}
+use Rattle.sd_parse.proofs.Sound.{Repeat, same_is}
 use Rattle.sd_parse.proofs.Spelling.{Spelled, spelled}
 use Rattle.sd_parse.proofs.Tables.{is_name}
-use Rattle.sd_parse.proofs.Algebra.{Begins, AnswersStep, Answers, Rule, begins_map, stop_syntax, into, fails, seq_at, seq, done, rule_into, want_rule, name_rule, after, deeper_answers, wide}
+use Rattle.sd_parse.proofs.Algebra.{Begins, Answers, Rule, begins_map, into, fails, seq_at, seq, done, rule_into, want_rule, name_rule, after, deeper_answers, wide}
 use Rattle.sd_parse.proofs.ExpressionAnswers.{filler, filled}
-use Rattle.sd_parse.proofs.Lists.{Many, Behind, none, more, pushed}
-use Rattle.sd_parse.proofs.Rows.{Low, Next}
+use Rattle.sd_parse.proofs.Lists.{pushed}
+use Rattle.sd_parse.proofs.Rows.{Low}
 use Rattle.sd_parse.proofs.RowAnswers.{low_wide, all_rule, row_rule, more_rule, commas_rule, enclosed_rule}
-use Rattle.sd_parse.proofs.NameLaws.{NextNames}
-use Rattle.sd_parse.proofs.ClauseLaws.{AttributesText}
 use Rattle.sd_parse.proofs.ClauseAnswers.{expression_rule, expression_item, attributes_rule, claim_wide, claim_rule, claim_begins, more_names_rule}
-use Rattle.sd_parse.proofs.Limits.{invariant_more, statement_more, otherwise_more, block_more, statements_more, invariants_more}
-use Rattle.sd_parse.proofs.StatementSound.{low_statements, some_tokens, IfStatement, if_statement, Branch, of_block, of_if, PlacedLeft, placed_left, to_index, to_left, to_plain, Guarded, guarded, to_guard, Applied, applied_text, CallFrom, through, direct, StatedInvariant, stated_line, to_stated, to_free, to_checked, to_asserted, to_assumed, to_assigned, to_applied, to_received, to_direct, to_called, to_block, to_otherwise, to_conditional, to_loop, to_broken, to_returned}
+use Rattle.sd_parse.proofs.Limits.{invariant_more, statement_more, otherwise_more, block_more, statements_more}
+use Rattle.sd_parse.proofs.StatementSound.{low_statements, some_tokens, if_statement, Branch, of_block, of_if, PlacedLeft, placed_left, to_index, to_left, to_plain, Guarded, guarded, to_guard, Applied, applied_text, CallFrom, through, direct, StatedInvariant, stated_line, to_stated, to_free, to_checked, to_asserted, to_assumed, to_assigned, to_applied, to_received, to_direct, to_called, to_block, to_otherwise, to_conditional, to_loop, to_broken, to_returned}
 
 -- what is spelled in one language within a height is so in a wider one
 pub lift_low : {A : Type 0} {F V : Tokens → A → ℕ → Type 0} → ((u : Tokens) (x : A) (h : ℕ) → F u x h → V u x h) → (d : ℕ) (u : Tokens) (x : A) → Low F d u x → Low V (wide d) u x

@@ -11,7 +11,6 @@ use Rattle.sd_parse.specs.declared.sign.Sign.{Sign}
 use Rattle.sd_parse.specs.declared.sign.Sign.TheVariants as s
 use Rattle.sd_parse.specs.Grammar.{Tokens, Whole}
 use Rattle.sd_parse.specs.Statements.{stated}
-use Rattle.sd_parse.specs.Clauses as c
 use Rattle.sd_parse.specs.Reading.{Syntax, Deep, Bad, Reader, ◌>>=◌, pure, bad, ahead, sign_of, skip, want, name}
 use Rattle.sd_parse.specs.ReadingRows.{push, keep, is, plain_name}
 use Rattle.sd_parse.specs.ReadingTypes.{begins_type, map_type, type_by, type_layer, type_of}

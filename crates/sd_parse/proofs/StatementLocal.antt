@@ -14,7 +14,7 @@ use Rattle.sd_parse.specs.Grammar.{Tokens, Whole}
 use Rattle.sd_parse.specs.Statements.{InvariantLine, stated}
 use Rattle.sd_parse.specs.Statements as st
 use Rattle.sd_parse.specs.Clauses as c
-use Rattle.sd_parse.specs.Reading.{Syntax, Deep, Got, Reader, bad, sign_of, name, read}
+use Rattle.sd_parse.specs.Reading.{Syntax, Deep, Got, Reader, bad, sign_of}
 use Rattle.sd_parse.specs.ReadingRows.{push, keep, is, plain_name, names}
 use Rattle.sd_parse.specs.ReadingTypes.{begins_type, map_type, type_by, type_layer, type_of}
 use Rattle.sd_parse.specs.ReadingClauses.{expression, datum_by, datum, next_datum, more_data, contents_by, contents, attribute, attributes, claim}

@@ -1,5 +1,5 @@
 -- What the reader of types answers.
-use Rattle.std.proofs.Common.{◌≡◌, ℕ, zero, suc, ◌≤◌, max, [], ◌∷◌, ◌++◌, refl, arith}
+use Rattle.std.proofs.Common.{◌≡◌, ℕ, zero, suc, ◌≤◌, [], ◌∷◌, refl, arith}
 use Rattle.sd_base.specs.declared.Sort.{Sort}
 use Rattle.sd_base.specs.declared.Sort.TheVariants as sort
 use Rattle.sd_lex.specs.declared.Token.{Token}
@@ -8,7 +8,7 @@ use Rattle.sd_parse.specs.declared.sign.Sign.TheVariants as s
 use Rattle.sd_parse.specs.Grammar.{Tokens, Is}
 use Rattle.sd_parse.specs.Types as ty
 use Rattle.sd_parse.specs.Types.{TypeText}
-use Rattle.sd_parse.specs.Reading.{Syntax, Deep, Got, Bad, Reader, and_then, ahead, sign_of, skip, want}
+use Rattle.sd_parse.specs.Reading.{Got, Reader, and_then, ahead, sign_of, skip, want}
 use Rattle.sd_parse.specs.ReadingTypes.{map_type, type_by, type_layer, type_of}
 use Rattle.sd_parse.proofs.Spelling.{Spelled, spelled}
 use Rattle.sd_parse.proofs.Algebra.{Begins, Answers, Rule, into, fails, seq, done, want_rule, name_rule, after, deeper_answers, wide}

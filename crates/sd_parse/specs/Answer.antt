@@ -77,10 +77,3 @@ star_at ts _ = false
 abbrev pub IsParsing : Tokens → Place → Result Program ReadError → Type 0
 IsParsing ts end (Err NoMemory) = Unit {0}
 IsParsing ts end r = IsAnswer ts end r
-
--- what the tokens of a text are, or its refusal
-abbrev pub IsCut : Bytes → Result Tokens ReadError → Type 0
-IsCut bytes (Ok ts) = lex.Tokens 0 bytes ts
-IsCut bytes (Err NoMemory) = Unit {0}
-IsCut bytes (Err (Lex e)) = lex.Refused 0 bytes e
-IsCut bytes (Err _) = ⊥

@@ -1,12 +1,8 @@
 -- Which token is refused, and why, in any language whose texts have heights.
-use Rattle.std.specs.Prelude.{◌≡◌, ℕ, List, [], ◌∷◌, ◌++◌}
+use Rattle.std.specs.Prelude.{◌≡◌, ℕ, [], ◌∷◌, ◌++◌}
 use Rattle.sd_base.specs.declared.Place.{Place}
 use Rattle.sd_lex.specs.declared.Token.{Token}
 use Rattle.sd_parse.specs.Grammar.{Tokens}
-
--- texts and their values, of a height at most
-abbrev pub Language : Type 0 → Type 1
-Language A = ℕ → Tokens → A → Type 0
 
 -- The tokens begin a text of this height at most.
 pub record BeginsWithin {A : Type 0} (L : ℕ → Tokens → A → Type 0) (d : ℕ) (u : Tokens) : Type 0 where

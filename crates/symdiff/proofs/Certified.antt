@@ -1,6 +1,6 @@
 -- The certificate of a comparison shows its table.
-use Rattle.std.proofs.Common.{◌≡◌, ◌≢◌, ◌∙◌, sym, ap, refl, subst, ℕ, Bool, true, false, cond, List, [], ◌∷◌, ◌++◌, length, inl, inr, append_assoc}
-use Rattle.std.specs.Prelude.{Option, None, Some, not, ◌⊎◌, Result, Ok, Err, IfOk, OnOk}
+use Rattle.std.proofs.Common.{◌≡◌, ◌≢◌, ◌∙◌, sym, ap, refl, subst, ℕ, Bool, true, false, cond, List, [], ◌∷◌, length, inl, inr}
+use Rattle.std.specs.Prelude.{Option, None, Some, not, ◌⊎◌, Result, Ok, Err, IfOk}
 use Rattle.std.specs.Option.{option_map}
 use Rattle.std.specs.List.{AllByRecursion, cons_option}
 use Rattle.sd_ast.specs.declared.Decl.{Decl}
@@ -91,15 +91,6 @@ refused-of t bytes e pairs d is same fault none named = record {
   named = named;
   none = λ live a. none named live (subst (λ (ps : List Straight). Accepts ps d bytes live) (sym is) (subst (λ (x : Digests). Accepts (pairs_of t) x bytes live) (sym same) a));
 }
-
--- words that are added after others
-pub then_pushed : (old mid new words more : List ℕ) → mid ≡ old ++ words → new ≡ mid ++ more → new ≡ old ++ (words ++ more)
-then_pushed old mid new words more e f = f ∙ ap (λ t. t ++ more) e ∙ append_assoc old words more
-
--- what follows from what is said of an `Ok`
-pub on-ok-map : {T E : Type 0} (r : Result T E) {P Q : Type 0} → OnOk r P → (P → Q) → OnOk r Q
-on-ok-map (Ok x) h f = f h
-on-ok-map (Err e) h f = tt
 
 -- what follows from what is said of the value in an `Ok`
 pub ok-map : {T E : Type 0} (r : Result T E) {P Q : T → Type 0} → IfOk r P → ((x : T) → P x → Q x) → IfOk r Q

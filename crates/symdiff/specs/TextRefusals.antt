@@ -39,7 +39,7 @@ naming words name = words ++ name
 abbrev pub lex_text : LexError → List ℕ
 lex_text lex.NoMemory = []
 lex_text (lex.Wide at) = placed (codes "wide literal") at
-lex_text (lex.Unsupported at word) = placed (naming (codes "unsupported ") word) at
+lex_text (lex.Unsupported at word) = codes "unsupported " ++ word ++ codes " at " ++ decimal at.byte
 lex_text (lex.BadByte at) = placed (codes "bad byte") at
 lex_text (lex.OpenComment at) = placed (codes "open comment") at
 lex_text (lex.OpenString at) = placed (codes "open string") at

@@ -38,7 +38,8 @@ fn push_unsupported(
 ) -> Result<(), NoMemory>
     ensures { OnOk result (line.new.items ≡ line.old.items ++ spec.lex_text (lex.Unsupported at word.now)) }
 {
-    push_naming(line, b"unsupported ", word)?;
+    push(line, b"unsupported ")?;
+    push(line, word.as_bytes())?;
     push_number(alloc, line, b" at ", at.byte)
 }
 

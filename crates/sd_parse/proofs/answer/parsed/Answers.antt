@@ -1,6 +1,6 @@
-use Rattle.std.proofs.Common.{◌≡◌, ◌-◌, ◌≤◌, ◌<◌, true, false, sym, ap, ◌∙◌, subst, refl, length, arith}
+use Rattle.std.proofs.Common.{◌≡◌, ◌-◌, ◌<◌, sym, ap, ◌∙◌, subst, refl, length, arith}
 use Rattle.sd_parse.specs.Counts.{procedures}
-use Rattle.sd_parse.specs.Reading.{Syntax, Deep, Bad}
+use Rattle.sd_parse.specs.Reading.{Syntax, Deep}
 use Rattle.sd_parse.specs.ReadingPrograms.{program}
 use Rattle.sd_parse.proofs.TextLemmas.{read_is_spelled}
 use Rattle.sd_parse.proofs.Refused.{fits, is_star, no_star, is_syntax, is_deep}

@@ -1,6 +1,6 @@
-use Rattle.std.proofs.Common.{◌≡◌, ◌-◌, ◌+◌, ◌≤◌, max, true, false, sym, ap, ◌∙◌, subst, rules, arith}
+use Rattle.std.proofs.Common.{◌≡◌, ◌≤◌, max, true, false, sym, ap, ◌∙◌, subst, rules, arith}
 use Rattle.std.proofs.lemmas.Grind.{common_steps}
-use Rattle.sd_parse.specs.Reading.{sign_of, ahead, many, comma, next_expression, add, more_expressions, read}
+use Rattle.sd_parse.specs.Reading.{sign_of, ahead, comma, next_expression, add, more_expressions, read}
 use Rattle.sd_parse.proofs.Many.{starts, ends, goes_on, next, runs_out}
 use Rattle.sd_parse.proofs.expression.Grammar.more_expressions.Goals as goal
 
