@@ -115,10 +115,12 @@ call-typed R p xs f es u h =
     let e = parts (fits_callee p d.0 c.0 a.0) (λ _. both (each (assignable R) xs) (both (each (modified R) d.0.modifies) (has_body R.scope.bodies f))) u d.2 in
     let i = parts (agree d.0.outs c.0) (λ _. both (agree d.0.ins a.0) (same_numbers p d.0 c.0 a.0)) e.0 e.1 in
     let j = parts (agree d.0.ins a.0) (λ _. same_numbers p d.0 c.0 a.0) e.0 i.2 in
-    let k = parts (same_number p d.0.outs c.0) (λ _. same_number p d.0.ins a.0) e.0 j.2 in
-    (d.0, declared-as f (named R.scope.procedures f) d.0 d.1,
-    subst (AreVariablesOf R.context xs) (sym (agree-sorts d.0.outs c.0 i.1 (numbers-same p d.0.outs c.0 k.0 k.1))) (targets-typed R.context p xs c.0 c.1),
-    subst (AllHave R.context es) (sym (agree-sorts d.0.ins a.0 j.1 (numbers-same p d.0.ins a.0 e.0 k.2))) (all-typed R.context es a.0 a.1))
+    let k = parts (same_number p d.0.outs c.0) (λ _. same_number p d.0.ins a.0) e.0 j.2 in (
+      d.0,
+      declared-as f (named R.scope.procedures f) d.0 d.1,
+      subst (AreVariablesOf R.context xs) (sym (agree-sorts d.0.outs c.0 i.1 (numbers-same p d.0.outs c.0 k.0 k.1))) (targets-typed R.context p xs c.0 c.1),
+      subst (AllHave R.context es) (sym (agree-sorts d.0.ins a.0 j.1 (numbers-same p d.0.ins a.0 e.0 k.2))) (all-typed R.context es a.0 a.1),
+    )
 
 truths-typed : (C : Context) (invs : List Invariant) (u : Unit {0}) → each (true_invariant C) invs ≡ Ok u → AllTruths C invs
 truths-typed C [] u h = tt

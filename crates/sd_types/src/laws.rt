@@ -11,5 +11,4 @@ pub fn types_are_exact()
 /// assignment agree, and so do arguments and receivers with the callee. `break` stands in loops alone.
 pub fn bodies_are_typed()
     ensures { BodiesAreTyped }
-{
-}
+{}
