@@ -185,10 +185,13 @@ fn with_body(
 
 /// `const c: int; var g: int; procedure q();` and the procedure.
 fn below(alloc: Global, procedure: Decl) -> Result<Program, NoMemory> {
+    let constant = constant(alloc)?;
+    let global = global(alloc)?;
+    let callee = without_body(alloc)?;
     let mut decls = Items::new(alloc);
-    decls.push(constant(alloc)?)?;
-    decls.push(global(alloc)?)?;
-    decls.push(without_body(alloc)?)?;
+    decls.push(constant)?;
+    decls.push(global)?;
+    decls.push(callee)?;
     decls.push(procedure)?;
     Ok(Program { decls })
 }
@@ -278,28 +281,48 @@ fn assigned(
 #[test]
 fn globals_are_modified(rt: HostRuntime) -> Result<(), NoMemory> {
     let alloc = rt.alloc();
-    assert!(rt; assigned(alloc, Some(b"g"), b"g", 1)?.is_none());
-    assert!(rt; is_not_modified(&assigned(alloc, None, b"g", 1)?, b"g"));
-    assert!(rt; is_unknown(&assigned(alloc, Some(b"c"), b"g", 1)?, b"c"));
+    let answer = assigned(alloc, Some(b"g"), b"g", 1)?;
+    assert!(rt; answer.is_none());
+    let answer = assigned(alloc, None, b"g", 1)?;
+    assert!(rt; is_not_modified(&answer, b"g"));
     Ok(())
 }
 
 #[test]
-fn assignments_break_rules_in_order(rt: HostRuntime) -> Result<(), NoMemory> {
+fn types_come_before_numbers(rt: HostRuntime) -> Result<(), NoMemory> {
     let alloc = rt.alloc();
-    assert!(rt; is_unknown(&assigned(alloc, None, b"x", 2)?, b"x"));
-    assert!(rt; is_kind(&assigned(alloc, None, b"a", 2)?, RIGHT));
-    assert!(rt; is_arity(&assigned(alloc, None, b"c", 2)?, STATEMENT));
-    assert!(rt; is_read_only(&assigned(alloc, None, b"c", 1)?, b"c"));
+    let answer = assigned(alloc, None, b"a", 2)?;
+    assert!(rt; is_kind(&answer, RIGHT));
+    let answer = assigned(alloc, None, b"c", 2)?;
+    assert!(rt; is_arity(&answer, STATEMENT));
     Ok(())
 }
 
 #[test]
-fn other_statements_break_rules(rt: HostRuntime) -> Result<(), NoMemory> {
+fn constants_are_read_only(rt: HostRuntime) -> Result<(), NoMemory> {
     let alloc = rt.alloc();
-    assert!(rt; is_no_loop(&refused(alloc, None, b"b", StmtKind::Break)?, STATEMENT));
-    assert!(rt; is_twice(&refused(alloc, None, b"a", StmtKind::Break)?, b"a"));
+    let answer = assigned(alloc, None, b"x", 2)?;
+    assert!(rt; is_unknown(&answer, b"x"));
+    let answer = assigned(alloc, None, b"c", 1)?;
+    assert!(rt; is_read_only(&answer, b"c"));
+    Ok(())
+}
+
+#[test]
+fn loops_and_names(rt: HostRuntime) -> Result<(), NoMemory> {
+    let alloc = rt.alloc();
+    let answer = refused(alloc, None, b"b", StmtKind::Break)?;
+    assert!(rt; is_no_loop(&answer, STATEMENT));
+    let answer = refused(alloc, None, b"a", StmtKind::Break)?;
+    assert!(rt; is_twice(&answer, b"a"));
+    Ok(())
+}
+
+#[test]
+fn a_callee_has_a_body(rt: HostRuntime) -> Result<(), NoMemory> {
+    let alloc = rt.alloc();
     let called = call(alloc)?;
-    assert!(rt; is_no_body(&refused(alloc, None, b"b", called)?, b"q"));
+    let answer = refused(alloc, None, b"b", called)?;
+    assert!(rt; is_no_body(&answer, b"q"));
     Ok(())
 }
