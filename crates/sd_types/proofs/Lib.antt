@@ -11,3 +11,4 @@ pub mod SameLemmas
 pub mod LoopLemmas
 pub mod PhraseLemmas
 pub mod BodyLemmas
+pub mod TypedBodyLemmas

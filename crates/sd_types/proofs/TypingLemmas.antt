@@ -25,20 +25,20 @@ use Rattle.sd_types.proofs.SortTests.{sort_is, same_sort-refl}
 -- ---- checks that passed
 
 -- a check that passes has a first part that passes
-parts : {A B : Type 0} (d : Result A TypeError) (f : A → Result B TypeError) (b : B) → and_then d f ≡ Ok b → (a : A) × (d ≡ Ok a) × (f a ≡ Ok b)
+pub parts : {A B : Type 0} (d : Result A TypeError) (f : A → Result B TypeError) (b : B) → and_then d f ≡ Ok b → (a : A) × (d ≡ Ok a) × (f a ≡ Ok b)
 parts (Ok a) f b h = (a, refl, h)
 parts (Err e) f b h = absurd (cc)
 
 joined : {A B : Type 0} {d : Result A TypeError} (f : A → Result B TypeError) {a : A} {b : B} → d ≡ Ok a → f a ≡ Ok b → and_then d f ≡ Ok b
 joined f h k = ap (λ d. and_then d f) h ∙ k
 
-abbrev ok_of : {A : Type 0} → A → Result A TypeError
+abbrev pub ok_of : {A : Type 0} → A → Result A TypeError
 ok_of a = Ok a
 
-ok_is : {A : Type 0} {a b : A} (h : ok_of a ≡ ok_of b) → a ≡ b
+pub ok_is : {A : Type 0} {a b : A} (h : ok_of a ≡ ok_of b) → a ≡ b
 ok_is h = cc
 
-fits-same : (w : Sort) (p : Place) (s : Sort) (u : Unit {0}) → is_of w p s ≡ Ok u → w ≡ s
+pub fits-same : (w : Sort) (p : Place) (s : Sort) (u : Unit {0}) → is_of w p s ≡ Ok u → w ≡ s
 fits-same w p s u = go (same_sort w s) refl
   where
     go : (b : Test) → same_sort w s ≡ b → (if b then Ok tt else Err (Kind p)) ≡ Ok u → w ≡ s
@@ -108,7 +108,7 @@ takes-binary op.Mul = joins-from_to Int Int
 
 -- ---- maps
 
-selected-map : (p : Place) (m : Sort) (g : Given) (r : Sort) → selected p m g ≡ Ok r → m ≡ MapOf g.sort r
+pub selected-map : (p : Place) (m : Sort) (g : Given) (r : Sort) → selected p m g ≡ Ok r → m ≡ MapOf g.sort r
 selected-map p (MapOf i v) g r h =
     let k = parts (is_of i g.at g.sort) (λ _. Ok v) r h in (λ j. MapOf (fits-same i g.at g.sort k.0 k.1 j) (ok_is k.2 j))
 selected-map p _ g r h = absurd (cc)
@@ -119,11 +119,11 @@ map-selected p g r = joined _ (same-fits g.sort g.at g.sort refl) refl
 -- ---- expressions
 
 -- the arguments that have types, with their places
-abbrev sorts_given : List Given → List Sort
+abbrev pub sorts_given : List Given → List Sort
 sorts_given [] = []
 sorts_given (g ∷ gs) = g.sort ∷ sorts_given gs
 
-agree-sorts : (ss : List Sort) (gs : List Given) → agree ss gs ≡ Ok tt → length ss ≡ length gs → ss ≡ sorts_given gs
+pub agree-sorts : (ss : List Sort) (gs : List Given) → agree ss gs ≡ Ok tt → length ss ≡ length gs → ss ≡ sorts_given gs
 agree-sorts [] [] h e = refl
 agree-sorts [] (g ∷ gs) h e = absurd (omega arith)
 agree-sorts (s ∷ ss) [] h e = absurd (omega arith)
@@ -139,7 +139,7 @@ sorts-length : (gs : List Given) → length (sorts_given gs) ≡ length gs
 sorts-length [] = refl
 sorts-length (g ∷ gs) = ap suc (sorts-length gs)
 
-numbers-same : (p : Place) (ss : List Sort) (gs : List Given) (u : Unit {0}) → same_number p ss gs ≡ Ok u → length ss ≡ length gs
+pub numbers-same : (p : Place) (ss : List Sort) (gs : List Given) (u : Unit {0}) → same_number p ss gs ≡ Ok u → length ss ≡ length gs
 numbers-same p ss gs u = go (length ss == length gs) refl
   where
     go : (b : Test) → (length ss == length gs) ≡ b → (if b then Ok tt else Err (Arity p)) ≡ Ok u → length ss ≡ length gs
@@ -161,7 +161,7 @@ as-applied p f sig gs e =
     joined _ (subst (λ (ss : List Sort). agree ss gs ≡ Ok tt) (sym e) (sorts-agree gs))
     (joined _ (same-numbers p sig.args gs (ap length e ∙ sorts-length gs)) refl)
 
-named-as : (x : Text) (o : Option Variable) (s : Sort) → sort_in x o ≡ Ok s → (v : Variable) × (o ≡ Some v) × (v.sort ≡ s)
+pub named-as : (x : Text) (o : Option Variable) (s : Sort) → sort_in x o ≡ Ok s → (v : Variable) × (o ≡ Some v) × (v.sort ≡ s)
 named-as x None s h = absurd (cc)
 named-as x (Some v) s h = (v, refl, ok_is h)
 
@@ -170,7 +170,7 @@ old-as true p s r h = (refl, ok_is h)
 old-as false p s r h = absurd (cc)
 
 mutual
-  has_type : (C : Context) (p : Place) (e : ExprKind) (s : Sort) → sort_of C p e ≡ Ok s → HasType C e s
+  pub has_type : (C : Context) (p : Place) (e : ExprKind) (s : Sort) → sort_of C p e ≡ Ok s → HasType C e s
   has_type C p (Num n) s h = sym (ok_is h)
   has_type C p (Truth b) s h = sym (ok_is h)
   has_type C p (Var x) s h = named-as x (C.variable x) s h

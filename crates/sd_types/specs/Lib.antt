@@ -7,3 +7,4 @@ pub mod Phrases
 pub mod Statements
 pub mod Declarations
 pub mod Typing
+pub mod TypedBodies

@@ -1,8 +1,14 @@
 //! What the rules on types come to.
 ghost use Rattle.sd_types.specs.Typing.{TypesAreExact};
+ghost use Rattle.sd_types.specs.TypedBodies.{BodiesAreTyped};
 
 /// An expression gets a type exactly if its parts have types that fit together, wherever it stands.
 pub fn types_are_exact()
     ensures { TypesAreExact }
-{
-}
+{}
+
+/// In the bodies of a well-typed program each expression has the type that it is used at: conditions are truth values, both sides of an
+/// assignment agree, and so do arguments and receivers with the callee. `break` stands in loops alone.
+pub fn bodies_are_typed()
+    ensures { BodiesAreTyped }
+{}

@@ -1,4 +1,4 @@
-//! Which programs are checked: those of procedures over truth values alone.
+//! The rules on names and types: which programs are well typed, and which are over truth values alone.
 #![tactic(auto)]
 
 mod assigned;

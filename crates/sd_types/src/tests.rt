@@ -123,101 +123,206 @@ fn modifies(alloc: Global, global: Option<&[u8]>) -> Result<Items<Spec>, NoMemor
     Ok(specs)
 }
 
-/// `const c: int; var g: int; procedure p(a: bool) modifies ..; { var LOCAL: bool; .. }` below the given declarations.
-fn program(
-    alloc: Global,
-    mut decls: Items<Decl>,
-    global: Option<&[u8]>,
-    local: &[u8],
-    kind: StmtKind,
-) -> Result<Program, NoMemory> {
-    decls.push(Decl::Const {
+fn constant(alloc: Global) -> Result<Decl, NoMemory> {
+    Ok(Decl::Const {
         unique: false,
         names: one_name(alloc, b"c")?,
         sort: Sort::Int,
-    })?;
+    })
+}
+
+fn global(alloc: Global) -> Result<Decl, NoMemory> {
     let mut globals = Items::new(alloc);
     globals.push(Var {
         name: name(alloc, b"g")?,
         sort: Sort::Int,
     })?;
-    decls.push(Decl::Globals(globals))?;
+    Ok(Decl::Globals(globals))
+}
+
+/// `procedure q();`
+fn without_body(alloc: Global) -> Result<Decl, NoMemory> {
+    let head = Head {
+        name: name(alloc, b"q")?,
+        at: AT,
+        ins: Items::new(alloc),
+        outs: Items::new(alloc),
+    };
+    Ok(Decl::Procedure(Proc {
+        head,
+        specs: Items::new(alloc),
+        body: None,
+    }))
+}
+
+/// `{ var LOCAL: bool; .. }` with one statement.
+fn body(alloc: Global, local: &[u8], kind: StmtKind) -> Result<Body, NoMemory> {
     let mut stmts = Items::new(alloc);
     stmts.push(Stmt {
         at: STATEMENT,
         kind,
     })?;
-    let body = Body {
-        locals: variables(alloc, local)?,
-        stmts,
-    };
-    decls.push(Decl::Procedure(Proc {
-        head: head(alloc, b"p")?,
-        specs: modifies(alloc, global)?,
-        body: Some(body),
-    }))?;
-    Ok(Program { decls })
+    let locals = variables(alloc, local)?;
+    Ok(Body { locals, stmts })
 }
 
-fn refusal(alloc: Global, program: Program) -> Option<TypeError> {
-    match check(alloc, program) {
-        Ok(_) => None,
-        Err((_, error)) => Some(error),
-    }
+/// `procedure p(a: bool) modifies ..; { var LOCAL: bool; .. }`
+fn with_body(
+    alloc: Global,
+    modified: Option<&[u8]>,
+    local: &[u8],
+    kind: StmtKind,
+) -> Result<Decl, NoMemory> {
+    let body = body(alloc, local, kind)?;
+    let specs = modifies(alloc, modified)?;
+    let head = head(alloc, b"p")?;
+    Ok(Decl::Procedure(Proc {
+        head,
+        specs,
+        body: Some(body),
+    }))
+}
+
+/// `const c: int; var g: int; procedure q();` and the procedure.
+fn below(alloc: Global, procedure: Decl) -> Result<Program, NoMemory> {
+    let constant = constant(alloc)?;
+    let global = global(alloc)?;
+    let callee = without_body(alloc)?;
+    let mut decls = Items::new(alloc);
+    decls.push(constant)?;
+    decls.push(global)?;
+    decls.push(callee)?;
+    decls.push(procedure)?;
+    Ok(Program { decls })
 }
 
 /// What is refused in a body of this statement.
 fn refused(
     alloc: Global,
-    global: Option<&[u8]>,
+    modified: Option<&[u8]>,
     local: &[u8],
     kind: StmtKind,
 ) -> Result<Option<TypeError>, NoMemory> {
-    Ok(refusal(
-        alloc,
-        program(alloc, Items::new(alloc), global, local, kind)?,
-    ))
+    let procedure = with_body(alloc, modified, local, kind)?;
+    let program = below(alloc, procedure)?;
+    match check(alloc, program) {
+        Ok(_) => Ok(None),
+        Err((_, error)) => Ok(Some(error)),
+    }
+}
+
+fn is_unknown(answer: &Option<TypeError>, bytes: &[u8]) -> bool {
+    match answer {
+        Some(TypeError::Unknown(name)) => name.has_bytes(bytes),
+        _ => false,
+    }
+}
+
+fn is_twice(answer: &Option<TypeError>, bytes: &[u8]) -> bool {
+    match answer {
+        Some(TypeError::Twice(name)) => name.has_bytes(bytes),
+        _ => false,
+    }
+}
+
+fn is_read_only(answer: &Option<TypeError>, bytes: &[u8]) -> bool {
+    match answer {
+        Some(TypeError::ReadOnly(name)) => name.has_bytes(bytes),
+        _ => false,
+    }
+}
+
+fn is_not_modified(answer: &Option<TypeError>, bytes: &[u8]) -> bool {
+    match answer {
+        Some(TypeError::NotModified(name)) => name.has_bytes(bytes),
+        _ => false,
+    }
+}
+
+fn is_no_body(answer: &Option<TypeError>, bytes: &[u8]) -> bool {
+    match answer {
+        Some(TypeError::NoBody(name)) => name.has_bytes(bytes),
+        _ => false,
+    }
+}
+
+fn is_kind(answer: &Option<TypeError>, at: Place) -> bool {
+    match answer {
+        Some(TypeError::Kind(place)) => place.byte == at.byte,
+        _ => false,
+    }
+}
+
+fn is_arity(answer: &Option<TypeError>, at: Place) -> bool {
+    match answer {
+        Some(TypeError::Arity(place)) => place.byte == at.byte,
+        _ => false,
+    }
+}
+
+fn is_no_loop(answer: &Option<TypeError>, at: Place) -> bool {
+    match answer {
+        Some(TypeError::NoLoop(place)) => place.byte == at.byte,
+        _ => false,
+    }
+}
+
+/// `LEFT := 1;`, or with two right sides.
+fn assigned(
+    alloc: Global,
+    modified: Option<&[u8]>,
+    left: &[u8],
+    rights: u8,
+) -> Result<Option<TypeError>, NoMemory> {
+    let kind = set(alloc, left, rights)?;
+    refused(alloc, modified, b"b", kind)
 }
 
 #[test]
-fn assignments_break_rules_in_order(rt: HostRuntime) -> Result<(), NoMemory> {
+fn globals_are_modified(rt: HostRuntime) -> Result<(), NoMemory> {
     let alloc = rt.alloc();
-    let answer = refused(alloc, Some(b"g"), b"b", set(alloc, b"g", 1)?)?;
+    let answer = assigned(alloc, Some(b"g"), b"g", 1)?;
     assert!(rt; answer.is_none());
-    let answer = refused(alloc, None, b"b", set(alloc, b"x", 2)?)?;
-    assert!(rt; matches!(answer, Some(TypeError::Unknown(x)) if x.has_bytes(b"x")));
-    let answer = refused(alloc, None, b"b", set(alloc, b"g", 1)?)?;
-    assert!(rt; matches!(answer, Some(TypeError::NotModified(x)) if x.has_bytes(b"g")));
-    let answer = refused(alloc, None, b"b", set(alloc, b"c", 1)?)?;
-    assert!(rt; matches!(answer, Some(TypeError::ReadOnly(x)) if x.has_bytes(b"c")));
-    let answer = refused(alloc, None, b"b", set(alloc, b"c", 2)?)?;
-    assert!(rt; matches!(answer, Some(TypeError::Arity(place)) if place == STATEMENT));
-    let answer = refused(alloc, None, b"b", set(alloc, b"a", 2)?)?;
-    assert!(rt; matches!(answer, Some(TypeError::Kind(place)) if place == RIGHT));
-    let answer = refused(alloc, None, b"a", set(alloc, b"x", 1)?)?;
-    assert!(rt; matches!(answer, Some(TypeError::Twice(x)) if x.has_bytes(b"a")));
+    let answer = assigned(alloc, None, b"g", 1)?;
+    assert!(rt; is_not_modified(&answer, b"g"));
     Ok(())
 }
 
 #[test]
-fn other_statements_break_rules(rt: HostRuntime) -> Result<(), NoMemory> {
+fn types_come_before_numbers(rt: HostRuntime) -> Result<(), NoMemory> {
+    let alloc = rt.alloc();
+    let answer = assigned(alloc, None, b"a", 2)?;
+    assert!(rt; is_kind(&answer, RIGHT));
+    let answer = assigned(alloc, None, b"c", 2)?;
+    assert!(rt; is_arity(&answer, STATEMENT));
+    Ok(())
+}
+
+#[test]
+fn constants_are_read_only(rt: HostRuntime) -> Result<(), NoMemory> {
+    let alloc = rt.alloc();
+    let answer = assigned(alloc, None, b"x", 2)?;
+    assert!(rt; is_unknown(&answer, b"x"));
+    let answer = assigned(alloc, None, b"c", 1)?;
+    assert!(rt; is_read_only(&answer, b"c"));
+    Ok(())
+}
+
+#[test]
+fn loops_and_names(rt: HostRuntime) -> Result<(), NoMemory> {
     let alloc = rt.alloc();
     let answer = refused(alloc, None, b"b", StmtKind::Break)?;
-    assert!(rt; matches!(answer, Some(TypeError::NoLoop(place)) if place == STATEMENT));
-    let answer = refused(alloc, None, b"b", call(alloc)?)?;
-    assert!(rt; matches!(answer, Some(TypeError::Unknown(x)) if x.has_bytes(b"q")));
-    let mut decls = Items::new(alloc);
-    decls.push(Decl::Procedure(Proc {
-        head: Head {
-            name: name(alloc, b"q")?,
-            at: AT,
-            ins: Items::new(alloc),
-            outs: Items::new(alloc),
-        },
-        specs: Items::new(alloc),
-        body: None,
-    }))?;
-    let answer = refusal(alloc, program(alloc, decls, None, b"b", call(alloc)?)?);
-    assert!(rt; matches!(answer, Some(TypeError::NoBody(x)) if x.has_bytes(b"q")));
+    assert!(rt; is_no_loop(&answer, STATEMENT));
+    let answer = refused(alloc, None, b"a", StmtKind::Break)?;
+    assert!(rt; is_twice(&answer, b"a"));
+    Ok(())
+}
+
+#[test]
+fn a_callee_has_a_body(rt: HostRuntime) -> Result<(), NoMemory> {
+    let alloc = rt.alloc();
+    let called = call(alloc)?;
+    let answer = refused(alloc, None, b"b", called)?;
+    assert!(rt; is_no_body(&answer, b"q"));
     Ok(())
 }
