@@ -101,12 +101,7 @@ const REPORTS: [(&[u8], &[u8], u8, &[u8]); 9] = [
         3,
         b"error: new unknown b\n",
     ),
-    (
-        b"",
-        b"axiom true;\n",
-        3,
-        b"error: new not yet\n",
-    ),
+    (b"", b"axiom true;\n", 3, b"error: new not yet\n"),
     (
         b"procedure p(a: bool, b: bool) { assert a <==> b; } // both or none\n",
         b"procedure {:kept true} p(a: bool, b: bool) { assert !(a != b); }\n",
@@ -169,11 +164,7 @@ const REFUSALS: [(&[u8], u8, &[u8]); 18] = [
         3,
         b"error: old syntax at 35\n",
     ),
-    (
-        b"procedure p() { x := 1; }",
-        3,
-        b"error: old unknown x\n",
-    ),
+    (b"procedure p() { x := 1; }", 3, b"error: old unknown x\n"),
     (
         b"procedure p() { } procedure p() { }",
         3,

@@ -11,12 +11,7 @@ use sd_parse::ReadError;
 use sd_types::TypeError;
 use std::alloc::Global;
 
-fn push_placed(
-    alloc: Global,
-    line: &mut Vec<u8>,
-    words: &[u8],
-    at: Place,
-) -> Result<(), NoMemory>
+fn push_placed(alloc: Global, line: &mut Vec<u8>, words: &[u8], at: Place) -> Result<(), NoMemory>
     ensures { OnOk result (line.new.items ≡ line.old.items ++ spec.placed words.now at) }
 {
     push(line, words)?;
@@ -43,11 +38,7 @@ fn push_unsupported(
     push_number(alloc, line, b" at ", at.byte)
 }
 
-fn push_lex_error(
-    alloc: Global,
-    line: &mut Vec<u8>,
-    error: &LexError,
-) -> Result<(), NoMemory>
+fn push_lex_error(alloc: Global, line: &mut Vec<u8>, error: &LexError) -> Result<(), NoMemory>
     ensures { OnOk result (line.new.items ≡ line.old.items ++ spec.lex_text error.now) }
 {
     match error {
@@ -60,11 +51,7 @@ fn push_lex_error(
     }
 }
 
-fn push_read_error(
-    alloc: Global,
-    line: &mut Vec<u8>,
-    error: &ReadError,
-) -> Result<(), NoMemory>
+fn push_read_error(alloc: Global, line: &mut Vec<u8>, error: &ReadError) -> Result<(), NoMemory>
     ensures { OnOk result (line.new.items ≡ line.old.items ++ spec.read_text error.now) }
 {
     match error {
@@ -78,11 +65,7 @@ fn push_read_error(
     }
 }
 
-fn push_type_error(
-    alloc: Global,
-    line: &mut Vec<u8>,
-    error: &TypeError,
-) -> Result<(), NoMemory>
+fn push_type_error(alloc: Global, line: &mut Vec<u8>, error: &TypeError) -> Result<(), NoMemory>
     ensures { OnOk result (line.new.items ≡ line.old.items ++ spec.type_text error.now) }
 {
     match error {
@@ -98,11 +81,7 @@ fn push_type_error(
     }
 }
 
-fn push_refusal(
-    alloc: Global,
-    line: &mut Vec<u8>,
-    refusal: &TextRefusal,
-) -> Result<(), NoMemory>
+fn push_refusal(alloc: Global, line: &mut Vec<u8>, refusal: &TextRefusal) -> Result<(), NoMemory>
     ensures { OnOk result (line.new.items ≡ line.old.items ++ spec.refusal_text refusal.now) }
 {
     match refusal {
@@ -113,11 +92,7 @@ fn push_refusal(
 }
 
 /// The line on the text that this word names, `old` or `new`.
-pub fn text_error(
-    alloc: Global,
-    word: &[u8],
-    refusal: &TextRefusal,
-) -> Result<Vec<u8>, NoMemory>
+pub fn text_error(alloc: Global, word: &[u8], refusal: &TextRefusal) -> Result<Vec<u8>, NoMemory>
     ensures { IfOk result (λ line. line.items ≡ spec.text_error word.now refusal.now) }
 {
     let mut line = Vec::new(alloc);
