@@ -1,11 +1,9 @@
 -- What a check answers after a check before it.
-use Rattle.std.proofs.Common.{append_assoc, append-nil, ◌++◌, ◌≡◌, ℕ, suc, ◌+◌, ◌<◌, ◌≤◌, List, [], ◌∷◌, Result, Ok, Err, IfOk, IfErr, IsErrAnd, refl, sym, ap, ◌∙◌, subst, drop, get_or, length, add-one}
-use Rattle.std.specs.Prelude.{◌≢◌}
+use Rattle.std.proofs.Common.{append_assoc, append-nil, ◌++◌, ◌≡◌, ℕ, suc, ◌+◌, ◌<◌, ◌≤◌, List, [], ◌∷◌, Result, Ok, Err, IsErrAnd, refl, sym, ap, ◌∙◌, subst, drop, get_or, length, add-one}
 use Rattle.std.proofs.Math.Seq.{drop-cons}
 use Rattle.std.proofs.Math.ListN.{drop_of_length-le}
 use Rattle.sd_types.specs.declared.refusal.TypeError.{TypeError}
-use Rattle.sd_types.specs.declared.refusal.TypeError.TheVariants.{NoMemory}
-use Rattle.sd_types.specs.Answer.{and_then, both, each, all_of, Answers, Leaves}
+use Rattle.sd_types.specs.Answer.{and_then, both, each, all_of, Answers}
 
 -- a refusal goes on
 pub stops : {A B : Type 0} {d : Result A TypeError} {e : TypeError} (f : A → Result B TypeError) → Answers d (Err e) → Answers (and_then d f) (Err e)

@@ -2,13 +2,13 @@
 use Rattle.std.proofs.Common.{◌≡◌, ℕ, List, [], ◌∷◌, ◌++◌, Option, Some, None, false, refl}
 use Rattle.std.specs.Prelude.{codes}
 use Rattle.sd_base.specs.declared.Place.{Place}
-use Rattle.sd_base.specs.declared.sort.Sort.{Sort, Int, Bool, Named}
+use Rattle.sd_base.specs.declared.sort.Sort.{Int, Bool, Named}
 use Rattle.sd_base.specs.declared.Var.{Var}
 use Rattle.sd_base.specs.Value.{Text}
 use Rattle.sd_base.specs.Sorts.{MapOf}
 use Rattle.sd_ast.specs.declared.tree.Program.{Program}
 use Rattle.sd_ast.specs.declared.tree.Decl.{Decl}
-use Rattle.sd_ast.specs.declared.tree.Decl.TheVariants.{Types, Const, Axiom, Globals, Procedure, Implementation}
+use Rattle.sd_ast.specs.declared.tree.Decl.TheVariants.{Const, Axiom, Globals, Procedure, Implementation}
 use Rattle.sd_ast.specs.declared.tree.Head.{Head}
 use Rattle.sd_ast.specs.declared.tree.Body.{Body}
 use Rattle.sd_ast.specs.declared.tree.Spec.{Spec}

@@ -5,12 +5,12 @@ use Rattle.sd_base.specs.declared.sort.Sort.{Sort}
 use Rattle.sd_base.specs.declared.sort.Place.{Place}
 use Rattle.sd_base.specs.Value.{Text}
 use Rattle.sd_ast.specs.declared.tree.Expr.{Expr}
-use Rattle.sd_ast.specs.declared.tree.ExprKind.{ExprKind, Apply, Row_of-Expr, end_of-Expr, more_of-Expr, items-the_row-Expr, items_hidden-the_row-Expr-0}
+use Rattle.sd_ast.specs.declared.tree.ExprKind.{Apply, Row_of-Expr, end_of-Expr, more_of-Expr, items-the_row-Expr, items_hidden-the_row-Expr-0}
 use Rattle.sd_ast.specs.declared.tree.ExprKind.TheBlock.{hidden-the_row-Expr-0}
 use Rattle.sd_types.specs.declared.refusal.TypeError.{TypeError}
 use Rattle.sd_types.specs.declared.refusal.TypeError.TheVariants.{Kind}
 use Rattle.sd_types.specs.declared.scope.Given.{Given}
-use Rattle.sd_types.specs.Answer.{and_then, all_of, Answers}
+use Rattle.sd_types.specs.Answer.{and_then, Answers}
 use Rattle.sd_types.specs.Scopes.{Context}
 use Rattle.sd_types.specs.Phrases.{agree, at_place, sort_of, sorts_of, given, all_given, applied}
 use Rattle.sd_types.proofs.AnswerLemmas.{drop-end, goes_on}

@@ -1,5 +1,5 @@
 -- Phrases are judged alike over tables in which names stand for the same.
-use Rattle.std.proofs.Common.{◌≡◌, ℕ, suc, ◌+◌, ◌<◌, ◌≤◌, Bool, true, false, cond, List, [], ◌∷◌, ◌++◌, Option, None, Some, Result, refl, sym, ap, ◌∙◌, subst, drop, take, get_or, length, append_assoc, map, arith}
+use Rattle.std.proofs.Common.{◌≡◌, ℕ, suc, ◌+◌, ◌<◌, Bool, true, false, cond, List, [], ◌∷◌, ◌++◌, Option, None, Some, Result, refl, sym, ap, ◌∙◌, subst, drop, take, get_or, length, append_assoc, arith}
 use Rattle.std.specs.Prelude.{◌↔◌, ◌&&◌, IsTrue}
 use Rattle.std.proofs.lemmas.List.{take_more}
 use Rattle.sd_base.specs.Value.{Text, same_text}
@@ -23,7 +23,7 @@ use Rattle.sd_types.specs.Scopes.{context, if_named, or_global, has_old}
 use Rattle.sd_types.specs.Phrases.{is_truth, same_sort}
 use Rattle.sd_types.specs.Statements.{routine, each_stmt}
 use Rattle.sd_types.specs.Declarations.{variables_as, parameters, body_variables, spec_rule, body_stmts_rule, have_sorts}
-use Rattle.sd_types.proofs.AnswerLemmas.{drop-at, drop-end}
+use Rattle.sd_types.proofs.AnswerLemmas.{drop-at}
 use Rattle.sd_types.proofs.SortTests.{same_sort-test}
 
 -- ---- tables

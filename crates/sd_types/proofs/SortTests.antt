@@ -1,12 +1,10 @@
 -- The test of types tells equality.
 use Rattle.std.proofs.Common.{◌≡◌, true, false, Bool as Test, Ok, Err, refl, sym, ap, ◌∙◌}
-use Rattle.std.specs.Prelude.{◌&&◌, ◌↔◌, IsTrue, Result}
+use Rattle.std.specs.Prelude.{◌&&◌, ◌↔◌, IsTrue}
 use Rattle.std.specs.Cmp.Lexicographic.{bytes_decides}
 use Rattle.sd_base.specs.declared.sort.Sort.{Sort, Int, Bool, Named}
 use Rattle.sd_base.specs.declared.sort.Place.{Place}
-use Rattle.sd_base.specs.Value.{same_text}
 use Rattle.sd_base.specs.Sorts.{MapOf}
-use Rattle.sd_types.specs.declared.refusal.TypeError.{TypeError}
 use Rattle.sd_types.specs.declared.refusal.TypeError.TheVariants.{Kind}
 use Rattle.sd_types.specs.Phrases.{same_sort, is_of}
 

@@ -1,13 +1,13 @@
 -- Statements inside statements, which stand in rows.
-use Rattle.std.proofs.Common.{◌≡◌, Bool, true, List, [], ◌∷◌, Result, refl, ap, ◌∙◌}
+use Rattle.std.proofs.Common.{◌≡◌, Bool, true, List, Result, refl, ap, ◌∙◌}
 use Rattle.sd_base.specs.declared.sort.Place.{Place}
 use Rattle.sd_ast.specs.declared.tree.Expr.{Expr}
 use Rattle.sd_ast.specs.declared.tree.Invariant.{Invariant}
 use Rattle.sd_ast.specs.declared.tree.Stmt.{Stmt}
-use Rattle.sd_ast.specs.declared.tree.StmtKind.{StmtKind, If, While, Row_of-Stmt, end_of-Stmt, more_of-Stmt, items-the_row-Stmt, items_hidden-the_row-Stmt-0}
+use Rattle.sd_ast.specs.declared.tree.StmtKind.{If, While, Row_of-Stmt, end_of-Stmt, more_of-Stmt, items-the_row-Stmt, items_hidden-the_row-Stmt-0}
 use Rattle.sd_ast.specs.declared.tree.StmtKind.TheBlock.{hidden-the_row-Stmt-0}
 use Rattle.sd_types.specs.declared.refusal.TypeError.{TypeError}
-use Rattle.sd_types.specs.Answer.{and_then, both, each}
+use Rattle.sd_types.specs.Answer.{both, each}
 use Rattle.sd_types.specs.Phrases.{is_truth}
 use Rattle.sd_types.specs.Statements.{Routine, true_invariant, stmt_rule, row_rule, each_stmt}
 

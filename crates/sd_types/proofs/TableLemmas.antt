@@ -1,6 +1,5 @@
 -- Tables as lists of names with what they stand for.
 use Rattle.std.proofs.Common.{◌≡◌, Bool, true, false, cond, List, [], ◌∷◌, ◌++◌, Option, None, Some, is_some, Ok, refl, sym, ap, subst, ◌∙◌}
-use Rattle.std.specs.Map.{lookup}
 use Rattle.std.specs.Cmp.Lexicographic.{bytes_decides}
 use Rattle.sd_base.specs.Value.{Text, same_text}
 use Rattle.indexmap.specs.IndexMap.{IndexMap, get_by, insert_entry}

@@ -1,22 +1,18 @@
 -- In the bodies of a well-typed program each expression has the type that it is used at.
-use Rattle.std.proofs.Common.{◌≡◌, Bool as Test, true, false, List, [], ◌∷◌, Option, Some, None, Result, Ok, Err, refl, sym, ap, ◌∙◌, subst, length}
+use Rattle.std.proofs.Common.{◌≡◌, Bool as Test, true, false, List, [], ◌∷◌, Option, Some, None, Result, Ok, Err, refl, sym, ap, subst}
 use Rattle.sd_base.specs.declared.sort.Sort.{Sort, Bool}
 use Rattle.sd_base.specs.declared.sort.Place.{Place}
 use Rattle.sd_base.specs.Value.{Text}
-use Rattle.sd_base.specs.Sorts.{MapOf}
 use Rattle.sd_ast.specs.declared.tree.Expr.{Expr}
 use Rattle.sd_ast.specs.declared.tree.Left.{Left}
 use Rattle.sd_ast.specs.declared.tree.Head.{Head}
 use Rattle.sd_ast.specs.declared.tree.Body.{Body}
 use Rattle.sd_ast.specs.declared.tree.Decl.{Decl}
 use Rattle.sd_ast.specs.declared.tree.Decl.TheVariants.{Procedure, Implementation}
-use Rattle.sd_ast.specs.declared.tree.Program.{Program}
 use Rattle.sd_ast.specs.declared.tree.Invariant.{Invariant}
 use Rattle.sd_ast.specs.declared.tree.Stmt.{Stmt}
 use Rattle.sd_ast.specs.declared.tree.StmtKind.{StmtKind, Assert, Assume, Assign, Call, If', While', Break, Return, Row_of-Stmt, end_of-Stmt, more_of-Stmt}
 use Rattle.sd_types.specs.declared.refusal.TypeError.{TypeError}
-use Rattle.sd_types.specs.declared.scope.Variable.{Variable}
-use Rattle.sd_types.specs.declared.scope.Callee.{Callee}
 use Rattle.sd_types.specs.declared.scope.Scope.{Scope}
 use Rattle.sd_types.specs.declared.scope.Given.{Given}
 use Rattle.sd_types.specs.Answer.{and_then, both, each, all_of}
@@ -24,7 +20,7 @@ use Rattle.sd_types.specs.Tables.{named}
 use Rattle.sd_types.specs.Scopes.{Context, declared_as}
 use Rattle.sd_types.specs.Phrases.{is_of, agree, same_number, selected, sort_in, at_place, sort_of, given, all_given, is_truth}
 use Rattle.sd_types.specs.Statements.{Routine, routine, distinct, target, targets, assignable, modified, has_body, indexed, left_sort, left_names, typed_indices, assignment, assign_rule, same_numbers, fits_callee, calling, call_rule, true_invariant, break_rule, stmt_rule, row_rule, each_stmt}
-use Rattle.sd_types.specs.Declarations.{modifies_of, body_variables, nothing, enter_all, known_vars, head_rule, spec_rule, parameters, body_stmts_rule, body_rule, own_body_rule, procedure_rule, same_types, implementation_rule, decl_rule, program_rule, refusal, WellTyped}
+use Rattle.sd_types.specs.Declarations.{modifies_of, body_variables, nothing, enter_all, known_vars, head_rule, spec_rule, parameters, body_stmts_rule, body_rule, own_body_rule, same_types, decl_rule, program_rule, refusal}
 use Rattle.sd_types.specs.Typing.{HasType}
 use Rattle.sd_types.specs.TypedBodies.{AllHave, IsVariableOf, AreVariablesOf, Leads, LeftHasType, Assigns, Calls, AllTruths, IsTypedStmt, AreTypedStmts, AllTypedStmts, IsTypedBody, IsTypedOwnBody, HasTypedBody, HaveTypedBodies, BodiesAreTyped}
 use Rattle.sd_types.proofs.TypingLemmas.{ok_of, ok_is, parts, fits-same, selected-map, sorts_given, agree-sorts, numbers-same, named-as, has_type}

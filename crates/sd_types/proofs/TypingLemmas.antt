@@ -1,7 +1,7 @@
 -- The checks give an expression a type exactly if it has it.
-use Rattle.std.proofs.Common.{◌≡◌, ℕ, suc, ◌+◌, Bool as Test, true, false, List, [], ◌∷◌, Option, Some, None, Result, Ok, Err, refl, sym, ap, ◌∙◌, subst, length, arith, eq-eqb, eqb→eq}
-use Rattle.std.specs.Prelude.{◌↔◌, ◌==◌, if◌then◌else◌}
-use Rattle.sd_base.specs.declared.sort.Sort.{Sort, Int, Bool, Named}
+use Rattle.std.proofs.Common.{◌≡◌, suc, Bool as Test, true, false, List, [], ◌∷◌, Option, Some, None, Result, Ok, Err, refl, sym, ap, ◌∙◌, subst, length, arith, eq-eqb, eqb→eq}
+use Rattle.std.specs.Prelude.{◌==◌, if◌then◌else◌}
+use Rattle.sd_base.specs.declared.sort.Sort.{Sort, Int, Bool}
 use Rattle.sd_base.specs.declared.sort.Place.{Place}
 use Rattle.sd_base.specs.Value.{Text}
 use Rattle.sd_base.specs.Sorts.{MapOf}

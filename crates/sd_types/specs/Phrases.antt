@@ -1,5 +1,5 @@
 -- The types of types and expressions, or the first rule that is broken: from left to right, inner phrases first.
-use Rattle.std.specs.Prelude.{Bool as Test, true, false, ◌&&◌, ◌==◌, List, [], ◌∷◌, map, length, Option, Some, None, Result, Ok, Err, codes, if◌then◌else◌}
+use Rattle.std.specs.Prelude.{Bool as Test, true, false, ◌&&◌, ◌==◌, List, [], ◌∷◌, length, Option, Some, None, Result, Ok, Err, codes, if◌then◌else◌}
 use Rattle.sd_base.specs.declared.sort.Sort.{Sort, Int, Bool, Named}
 use Rattle.sd_base.specs.declared.sort.Place.{Place}
 use Rattle.sd_base.specs.Value.{Text, same_text}
@@ -18,7 +18,7 @@ use Rattle.sd_types.specs.declared.scope.Signature.{Signature}
 use Rattle.sd_types.specs.declared.scope.Given.{Given}
 use Rattle.sd_types.specs.Names.{is_among}
 use Rattle.sd_types.specs.Answer.{and_then, both, all_of}
-use Rattle.sd_types.specs.Scopes.{Context, declared_as}
+use Rattle.sd_types.specs.Scopes.{Context}
 
 -- ---- types
 

@@ -1,5 +1,5 @@
 -- The first rule that a statement breaks.
-use Rattle.std.specs.Prelude.{Bool, true, false, List, [], ◌∷◌, map, Option, Some, None, Result, Ok, Err, is_some, if◌then◌else◌}
+use Rattle.std.specs.Prelude.{Bool, true, false, List, [], ◌∷◌, map, Option, Some, None, Result, Ok, Err, if◌then◌else◌}
 use Rattle.sd_base.specs.declared.sort.Sort.{Sort}
 use Rattle.sd_base.specs.declared.sort.Place.{Place}
 use Rattle.sd_base.specs.Value.{Text}

@@ -1,5 +1,5 @@
 -- Names that are declared one after another.
-use Rattle.std.specs.Prelude.{◌≡◌, List, [], ◌∷◌, ◌++◌, Option, Some, None, Result, Ok, Err, is_some, if◌then◌else◌}
+use Rattle.std.specs.Prelude.{◌≡◌, List, [], ◌∷◌, ◌++◌, Option, Result, Ok, Err, is_some, if◌then◌else◌}
 use Rattle.std.specs.Map.{lookup}
 use Rattle.sd_base.specs.Value.{Text, same_text}
 use Rattle.sd_types.specs.Names.{is_among}

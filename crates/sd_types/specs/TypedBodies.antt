@@ -1,5 +1,5 @@
 -- Statements in which each expression has the type that it is used at.
-use Rattle.std.specs.Prelude.{◌≡◌, Bool as Test, true, false, List, [], ◌∷◌, ◌++◌, Option, Some, None, Ok}
+use Rattle.std.specs.Prelude.{◌≡◌, Bool as Test, true, false, List, [], ◌∷◌, Option, Some, None, Ok}
 use Rattle.sd_base.specs.declared.sort.Sort.{Sort, Bool}
 use Rattle.sd_base.specs.Value.{Text}
 use Rattle.sd_base.specs.Sorts.{MapOf}

@@ -1,5 +1,5 @@
 -- Types of expressions as a relation, without places and without an order of rules.
-use Rattle.std.specs.Prelude.{◌≡◌, ◌↔◌, Bool as Test, true, List, [], ◌∷◌, Some, Ok}
+use Rattle.std.specs.Prelude.{◌≡◌, ◌↔◌, true, List, [], ◌∷◌, Some, Ok}
 use Rattle.sd_base.specs.declared.sort.Sort.{Sort, Int, Bool}
 use Rattle.sd_base.specs.declared.sort.Place.{Place}
 use Rattle.sd_base.specs.Sorts.{MapOf}

@@ -1,4 +1,4 @@
-use Rattle.std.proofs.Common.{◌≡◌, length, drop}
+use Rattle.std.proofs.Common.{◌≡◌, drop}
 use Rattle.sd_types.specs.Declarations.{have_sorts}
 use Rattle.sd_types.proofs.declaration.have_sorts.Given as goal
 
