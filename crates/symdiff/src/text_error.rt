@@ -33,9 +33,12 @@ fn push_unsupported(
 ) -> Result<(), NoMemory>
     ensures { OnOk result (line.new.items ≡ line.old.items ++ spec.lex_text (lex.Unsupported at word.now)) }
 {
-    push(line, b"unsupported ")?;
-    push(line, word.as_bytes())?;
-    push_number(alloc, line, b" at ", at.byte)
+    line.extend_from_slice(b"unsupported ")?;
+    line.extend_from_slice(word.as_bytes())?;
+    line.extend_from_slice(b" at ")?;
+    let digits = at.byte.to_string(alloc)?;
+    line.extend_from_slice(digits.as_bytes())?;
+    Ok(())
 }
 
 fn push_lex_error(alloc: Global, line: &mut Vec<u8>, error: &LexError) -> Result<(), NoMemory>
