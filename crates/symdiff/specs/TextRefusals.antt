@@ -36,10 +36,13 @@ placed words at = words ++ codes " at " ++ decimal at.byte
 abbrev pub naming : List ℕ → Text → List ℕ
 naming words name = words ++ name
 
+abbrev pub unsupported : Place → Text → List ℕ
+unsupported at word = codes "unsupported " ++ word ++ codes " at " ++ decimal at.byte
+
 abbrev pub lex_text : LexError → List ℕ
 lex_text lex.NoMemory = []
 lex_text (lex.Wide at) = placed (codes "wide literal") at
-lex_text (lex.Unsupported at word) = codes "unsupported " ++ word ++ codes " at " ++ decimal at.byte
+lex_text (lex.Unsupported at word) = unsupported at word
 lex_text (lex.BadByte at) = placed (codes "bad byte") at
 lex_text (lex.OpenComment at) = placed (codes "open comment") at
 lex_text (lex.OpenString at) = placed (codes "open string") at

@@ -1,6 +1,5 @@
 //! The line that says why a text isn't taken.
 ghost use Rattle.std.specs.Prelude.{◌≡◌, ◌++◌, IfOk, OnOk};
-ghost use Rattle.sd_lex.specs.declared.LexError.TheVariants as lex;
 ghost use Rattle.symdiff.specs.TextRefusals as spec;
 
 use crate::line::{push, push_number};
@@ -31,13 +30,11 @@ fn push_unsupported(
     at: Place,
     word: &Name,
 ) -> Result<(), NoMemory>
-    ensures { OnOk result (line.new.items ≡ line.old.items ++ spec.lex_text (lex.Unsupported at word.now)) }
+    ensures { OnOk result (line.new.items ≡ line.old.items ++ spec.unsupported at word.now) }
 {
-    line.extend_from_slice(b"unsupported ")?;
-    line.extend_from_slice(word.as_bytes())?;
-    line.extend_from_slice(b" at ")?;
-    let digits = at.byte.to_string(alloc)?;
-    line.extend_from_slice(digits.as_bytes())?;
+    push(line, b"unsupported ")?;
+    push(line, word.as_bytes())?;
+    push_number(alloc, line, b" at ", at.byte)?;
     Ok(())
 }
 
