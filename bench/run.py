@@ -9,7 +9,7 @@ greatest peak memory, and then the ratio of the two times.
 
 Then it makes two texts of one procedure that takes the parity of its parameters, in one order and in the other, lets the program
 write the certificate, and runs `symdiff replay old new certificate` R times: once on a certificate of more than 10000 steps, and
-once on one of twice as many.
+once on one of more than twice as many; the ratio is that of the times a step, twice.
 
 Last it makes a text of 16777216 bytes, the longest that is read, and one of half the size, with types, maps, loops, calls and contracts,
 and runs `symdiff verify old new` R times with it as the old text and none as the new one. The texts are read and checked whole, and
@@ -215,8 +215,8 @@ def main():
         complaints.append("%d procedures take 200 MB or more" % (2 * given.count))
     single, steps = measure_replay(program, REPLAY_PARAMETERS, given.runs, complaints)
     double, more = measure_replay(program, REPLAY_PARAMETERS + 1, given.runs, complaints)
-    ratio = double / single
-    print("ratio of the times of replay at %d and %d steps: %.2f" % (more, steps, ratio))
+    ratio = 2 * (double / more) / (single / steps)
+    print("ratio of the times of replay at twice the steps, from %d and %d: %.2f" % (more, steps, ratio))
     if steps < LEAST_STEPS:
         complaints.append("the certificate has less than %d steps" % LEAST_STEPS)
     if ratio >= GREATEST_RATIO:
