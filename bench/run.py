@@ -87,6 +87,13 @@ def parity(name, parameters):
     return "\n".join(lines + ["  assert odd;", "}", ""])
 
 
+def put_texts(folder, old, new):
+    """Writes the two texts of a pair as `old` and `new` in this folder."""
+    for name, text in (("old", old), ("new", new)):
+        with open(os.path.join(folder, name), "w", encoding="ascii") as file:
+            file.write(text)
+
+
 def run_once(program, folder, words=("verify", "old", "new")):
     """The seconds that a run takes, its peak memory in bytes, its status and what it writes."""
     with open(os.path.join(folder, "report"), "w+b") as out:
@@ -106,9 +113,7 @@ def measure(program, count, runs, complaints):
     old, new, report = texts(count)
     best, peak = None, 0
     with tempfile.TemporaryDirectory() as folder:
-        for name, text in (("old", old), ("new", new)):
-            with open(os.path.join(folder, name), "w", encoding="ascii") as file:
-                file.write(text)
+        put_texts(folder, old, new)
         for _ in range(runs):
             seconds, bytes_used, status, written = run_once(program, folder)
             best = seconds if best is None else min(best, seconds)
@@ -126,9 +131,7 @@ def measure_replay(program, count, runs, complaints):
     report = "safe odd odd\npairs 1 safe 1 equal 0 unknown 0 refused 0 axioms 0 0\n"
     best = None
     with tempfile.TemporaryDirectory() as folder:
-        for name, order in (("old", parameters), ("new", parameters[::-1])):
-            with open(os.path.join(folder, name), "w", encoding="ascii") as file:
-                file.write(parity("odd", order))
+        put_texts(folder, parity("odd", parameters), parity("odd", parameters[::-1]))
         run_once(program, folder, ("verify", "old", "new", "--certificate", "certificate"))
         with open(os.path.join(folder, "certificate"), encoding="ascii") as file:
             steps = sum(line.startswith(("split ", "close ")) for line in file)
@@ -176,9 +179,7 @@ def measure_reading(program, size, runs, complaints):
     """The least time of several readings of a text of so many bytes, and the greatest peak memory."""
     best, peak = None, 0
     with tempfile.TemporaryDirectory() as folder:
-        for name, text in (("old", long_text(size)), ("new", "")):
-            with open(os.path.join(folder, name), "w", encoding="ascii") as file:
-                file.write(text)
+        put_texts(folder, long_text(size), "")
         for _ in range(runs):
             seconds, bytes_used, status, written = run_once(program, folder)
             best = seconds if best is None else min(best, seconds)
