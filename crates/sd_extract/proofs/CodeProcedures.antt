@@ -1,0 +1,14 @@
+-- Procedures as code sees them.
+use Rattle.std.proofs.Common.{◌≡◌, ◌∙◌, ap, ℕ, suc, ◌+◌, List, [], ◌∷◌, ◌++◌, append_assoc, arith}
+use Rattle.sd_base.specs.Value.{Text}
+use Rattle.sd_ast.specs.declared.Program.{Program}
+use Rattle.sd_ast.specs.declared.Stmt.{Stmt}
+use Rattle.sd_meaning.specs.Run.{kinds_of}
+use Rattle.sd_core.specs.declared.CoreProc.{CoreProc}
+use Rattle.sd_extract.specs.Extract.{Source, body_proc, each_loop_in, procs_of}
+
+pub procs_made : (P : Program) (number : Text → ℕ) (S : Source) (p : CoreProc) (first : ℕ) (stmts : List Stmt) (o o' o'' : List CoreProc) → p ≡ body_proc P number S → o' ≡ o ++ p ∷ [] → first ≡ 1 + S.number → stmts ≡ S.routine.body.stmts
+    → o'' ≡ o' ++ each_loop_in P number S first (kinds_of stmts) → o'' ≡ o ++ procs_of P number S
+procs_made P number S p first stmts o o' o'' made pushed is same loops =
+    let one : first ≡ suc S.number = omega (arith, is) in
+    loops ∙ ((λ i. pushed i ++ each_loop_in P number S (one i) (kinds_of (same i))) ∙ (append_assoc o (p ∷ []) _ ∙ ap (λ q. o ++ q ∷ each_loop_in P number S (suc S.number) (kinds_of S.routine.body.stmts)) made))

@@ -1,0 +1,282 @@
+-- The slots and the names of the core procedures.
+use Rattle.std.proofs.Common.{◌≡◌, ℕ, suc, ◌-◌, List, [], ◌∷◌, ◌++◌, map, refl, sym, ◌∙◌, ap, subst}
+use Rattle.std.specs.Prelude.{Bool, true, false, cond, not, ◌&&◌, ◌==◌, codes, if◌then◌else◌}
+use Rattle.std.specs.Fmt.{decimal}
+use Rattle.std.specs.List.{AllByRecursion, IsDistinct, filter}
+use Rattle.std.proofs.Common.{append_assoc}
+use Rattle.std.proofs.lemmas.List.{append-nil, map-append}
+use Rattle.sd_base.specs.declared.Sort.{Sort, Bool as BoolSort}
+use Rattle.sd_base.specs.declared.Var.{Var}
+use Rattle.sd_base.specs.Value.{Text, same_text}
+use Rattle.sd_ast.specs.declared.Program.{Program}
+use Rattle.sd_ast.specs.declared.Expr.{Expr}
+use Rattle.sd_ast.specs.declared.StmtKind.{StmtKind, Assert, Assume, Assign, Call, If', While', Break, Return, Row_of-Stmt, end_of-Stmt, more_of-Stmt}
+use Rattle.sd_meaning.specs.Routine.{Clause, procedure_in}
+use Rattle.sd_core.specs.declared.CoreProgram.{CoreProgram}
+use Rattle.sd_core.specs.Formed.{sorts_of, state_sorts, names_of, is_plain, IsSort}
+use Rattle.sd_extract.specs.Extract.{Counts, plus, counts, counts_all, none, has_returns, Source, state_of, copies_of, kinds, arg_vars, ins_of, args_in, all_args_in, each_args_in, lefts_in, all_lefts_in, each_left_in, hidden, body_proc, loop_proc}
+use Rattle.sd_extract.proofs.FormedSpots.{Holds, holds_within}
+use Rattle.sd_extract.proofs.FormedStatements.{left_sort_if, arg_sorts, all_arg_sorts, each_arg_sorts, left_sorts, all_left_sorts, each_left_sorts}
+use Rattle.sd_extract.proofs.FormedLists.{all_join, all_filter, filter_append}
+
+-- ---- types of hidden locals
+
+sorts_append : (xs ys : List Var) → sorts_of (xs ++ ys) ≡ sorts_of xs ++ sorts_of ys
+sorts_append xs ys = map-append (λ v. v.sort) xs ys
+
+arg_vars-sorts : (call i : ℕ) (vs : List Var) → sorts_of (arg_vars call i vs) ≡ sorts_of vs
+arg_vars-sorts call i [] = refl
+arg_vars-sorts call i (v ∷ vs) = ap (λ (l : List Sort). v.sort ∷ l) (arg_vars-sorts call (suc i) vs)
+
+mutual
+  args-sorts : (P : Program) (at : Counts) (k : StmtKind) → sorts_of (args_in P at k) ≡ arg_sorts P k
+  args-sorts P at (Call xs f es) = arg_vars-sorts (suc at.calls) 1 (ins_of (procedure_in P.decls f))
+  args-sorts P at (If' e shape a shape' b) =
+      sorts_append (all_args_in P at a) (all_args_in P (plus at (counts_all a)) b) ∙ (λ i. all_args-sorts P at a i ++ all_args-sorts P (plus at (counts_all a)) b i)
+  args-sorts P at (While' e invs shape body) = refl
+  args-sorts P at (Assert e) = refl
+  args-sorts P at (Assume e) = refl
+  args-sorts P at (Assign ls es) = refl
+  args-sorts P at Break = refl
+  args-sorts P at Return = refl
+
+  all_args-sorts : (P : Program) (at : Counts) {m : _} (ks : Row_of-Stmt m) → sorts_of (all_args_in P at ks) ≡ all_arg_sorts P ks
+  all_args-sorts P at end_of-Stmt = refl
+  all_args-sorts P at (more_of-Stmt p k ks) =
+      sorts_append (args_in P at k) (all_args_in P (plus at (counts k)) ks) ∙ (λ i. args-sorts P at k i ++ all_args-sorts P (plus at (counts k)) ks i)
+
+each_args-sorts : (P : Program) (at : Counts) (ks : List StmtKind) → sorts_of (each_args_in P at ks) ≡ each_arg_sorts P ks
+each_args-sorts P at [] = refl
+each_args-sorts P at (k ∷ ks) =
+    sorts_append (args_in P at k) (each_args_in P (plus at (counts k)) ks) ∙ (λ i. args-sorts P at k i ++ each_args-sorts P (plus at (counts k)) ks i)
+
+left_var-sorts : (r : Bool) (name : Text) → sorts_of (if r then record { name = name; sort = BoolSort } ∷ [] else []) ≡ left_sort_if r
+left_var-sorts true name = refl
+left_var-sorts false name = refl
+
+mutual
+  lefts-sorts : (at : Counts) (k : StmtKind) → sorts_of (lefts_in at k) ≡ left_sorts k
+  lefts-sorts at (While' e invs shape body) = left_var-sorts (has_returns body) (decimal (suc at.loops) ++ codes "@left")
+  lefts-sorts at (If' e shape a shape' b) =
+      sorts_append (all_lefts_in at a) (all_lefts_in (plus at (counts_all a)) b) ∙ (λ i. all_lefts-sorts at a i ++ all_lefts-sorts (plus at (counts_all a)) b i)
+  lefts-sorts at (Assert e) = refl
+  lefts-sorts at (Assume e) = refl
+  lefts-sorts at (Assign ls es) = refl
+  lefts-sorts at (Call xs f es) = refl
+  lefts-sorts at Break = refl
+  lefts-sorts at Return = refl
+
+  all_lefts-sorts : (at : Counts) {m : _} (ks : Row_of-Stmt m) → sorts_of (all_lefts_in at ks) ≡ all_left_sorts ks
+  all_lefts-sorts at end_of-Stmt = refl
+  all_lefts-sorts at (more_of-Stmt p k ks) =
+      sorts_append (lefts_in at k) (all_lefts_in (plus at (counts k)) ks) ∙ (λ i. lefts-sorts at k i ++ all_lefts-sorts (plus at (counts k)) ks i)
+
+each_lefts-sorts : (at : Counts) (ks : List StmtKind) → sorts_of (each_left_in at ks) ≡ each_left_sorts ks
+each_lefts-sorts at [] = refl
+each_lefts-sorts at (k ∷ ks) =
+    sorts_append (lefts_in at k) (each_left_in (plus at (counts k)) ks) ∙ (λ i. lefts-sorts at k i ++ each_lefts-sorts (plus at (counts k)) ks i)
+
+pub hidden-sorts : (P : Program) (at : Counts) (ks : List StmtKind) → sorts_of (hidden P at ks) ≡ each_arg_sorts P ks ++ each_left_sorts ks
+hidden-sorts P at ks =
+    sorts_append (each_args_in P at ks) (each_left_in at ks) ∙ (λ i. each_args-sorts P at ks i ++ each_lefts-sorts at ks i)
+
+copy-sorts : (vs : List Var) → sorts_of (map (λ v. record { name = v.name ++ codes "@copy"; sort = v.sort }) vs) ≡ sorts_of vs
+copy-sorts [] = refl
+copy-sorts (v ∷ vs) = ap (λ (l : List Sort). v.sort ∷ l) (copy-sorts vs)
+
+pub copied-sorts : (S : Source) → sorts_of (copies_of S) ≡ sorts_of S.copied
+copied-sorts S = copy-sorts S.copied
+
+-- ---- slots
+
+pub holds_all : (slots all : List Sort) → slots ≡ all → Holds slots 0 all
+holds_all slots all e = holds_within slots [] all [] 0 (e ∙ sym (append-nil all)) refl
+
+pub at_slot : (slots : List Sort) (k l : ℕ) (ss : List Sort) → k ≡ l → Holds slots k ss → Holds slots l ss
+at_slot slots k l ss e h = subst (λ (n : ℕ). Holds slots n ss) e h
+
+pub body_slots : (K : CoreProgram) (P : Program) (number : Text → ℕ) (S : Source) → (state_sorts K (body_proc P number S)).slots ≡ sorts_of S.routine.head.ins ++ (sorts_of (state_of S) ++ (sorts_of S.copied ++ (each_arg_sorts P (kinds S) ++ each_left_sorts (kinds S))))
+body_slots K P number S =
+    let ins = sorts_of S.routine.head.ins in
+    let outs = sorts_of S.routine.head.outs in
+    let locals = sorts_of S.routine.body.locals in
+    let hide = hidden P none (kinds S) in
+    let rest = sorts_of S.copied ++ (each_arg_sorts P (kinds S) ++ each_left_sorts (kinds S)) in
+    let inner : sorts_of (copies_of S ++ hide) ≡ rest = sorts_append (copies_of S) hide ∙ (λ i. copied-sorts S i ++ hidden-sorts P none (kinds S) i) in
+    let own : sorts_of (S.routine.body.locals ++ (copies_of S ++ hide)) ≡ locals ++ rest = sorts_append S.routine.body.locals (copies_of S ++ hide) ∙ ap (λ (l : List Sort). locals ++ l) inner in
+    ap (λ (l : List Sort). ins ++ (outs ++ l)) own ∙ ap (λ (l : List Sort). ins ++ l) (sym (append_assoc outs locals rest)) ∙ ap (λ (l : List Sort). ins ++ (l ++ rest)) (sym (sorts_append S.routine.head.outs S.routine.body.locals))
+
+pub loop_ins : (P : Program) (number : Text → ℕ) (S : Source) (k : ℕ) (guard : Expr) (invs : List Clause) (returns : Bool) (turn : List StmtKind) → sorts_of (loop_proc P number S k guard invs returns turn).ins ≡ sorts_of S.routine.head.ins ++ (sorts_of (state_of S) ++ sorts_of S.copied)
+loop_ins P number S k guard invs returns turn =
+    sorts_append S.routine.head.ins (state_of S ++ copies_of S) ∙ ap (λ (l : List Sort). sorts_of S.routine.head.ins ++ l) (sorts_append (state_of S) (copies_of S) ∙ ap (λ (l : List Sort). sorts_of (state_of S) ++ l) (copied-sorts S))
+
+pub loop_outs : (P : Program) (number : Text → ℕ) (S : Source) (k : ℕ) (guard : Expr) (invs : List Clause) (returns : Bool) (turn : List StmtKind) → sorts_of (loop_proc P number S k guard invs returns turn).outs ≡ sorts_of (state_of S) ++ left_sort_if returns
+loop_outs P number S k guard invs returns turn =
+    sorts_append (state_of S) (if returns then record { name = codes "left"; sort = BoolSort } ∷ [] else []) ∙ ap (λ (l : List Sort). sorts_of (state_of S) ++ l) (left_var-sorts returns (codes "left"))
+
+pub loop_slots : (K : CoreProgram) (P : Program) (number : Text → ℕ) (S : Source) (k : ℕ) (guard : Expr) (invs : List Clause) (returns : Bool) (turn : List StmtKind) → (state_sorts K (loop_proc P number S k guard invs returns turn)).slots ≡ sorts_of S.routine.head.ins ++ (sorts_of (state_of S) ++ (sorts_of S.copied ++ (sorts_of (state_of S) ++ (left_sort_if returns ++ (each_arg_sorts P turn ++ each_left_sorts turn)))))
+loop_slots K P number S k guard invs returns turn =
+    let ins = sorts_of S.routine.head.ins in
+    let state = sorts_of (state_of S) in
+    let copied = sorts_of S.copied in
+    let left = left_sort_if returns in
+    let hide = each_arg_sorts P turn ++ each_left_sorts turn in
+    let own = state ++ (left ++ hide) in
+    let first = loop_ins P number S k guard invs returns turn in
+    let second = loop_outs P number S k guard invs returns turn in
+    let third = hidden-sorts P (record none { loops = k - S.number }) turn in
+    (λ i. first i ++ (second i ++ third i)) ∙ ap (λ (l : List Sort). (ins ++ (state ++ copied)) ++ l) (append_assoc state left hide) ∙ append_assoc ins (state ++ copied) own ∙ ap (λ (l : List Sort). ins ++ l) (append_assoc state copied own)
+
+-- ---- types are fit
+
+pub sorts_join : (xs ys : List Var) → AllByRecursion IsSort (sorts_of xs) → AllByRecursion IsSort (sorts_of ys) → AllByRecursion IsSort (sorts_of (xs ++ ys))
+sorts_join [] ys h k = k
+sorts_join (x ∷ xs) ys h k = (h.0, sorts_join xs ys h.1 k)
+
+pub left_fit : (r : Bool) → AllByRecursion IsSort (left_sort_if r)
+left_fit true = (tt, tt)
+left_fit false = tt
+
+module _ (P : Program) (known : (f : Text) → AllByRecursion IsSort (sorts_of (ins_of (procedure_in P.decls f)))) where
+  mutual
+    args_fit : (k : StmtKind) → AllByRecursion IsSort (arg_sorts P k)
+    args_fit (Call xs f es) = known f
+    args_fit (If' e shape a shape' b) =
+        all_join IsSort (all_arg_sorts P a) (all_arg_sorts P b) (all_args_fit a) (all_args_fit b)
+    args_fit (While' e invs shape body) = tt
+    args_fit (Assert e) = tt
+    args_fit (Assume e) = tt
+    args_fit (Assign ls es) = tt
+    args_fit Break = tt
+    args_fit Return = tt
+
+    all_args_fit : {m : _} (ks : Row_of-Stmt m) → AllByRecursion IsSort (all_arg_sorts P ks)
+    all_args_fit end_of-Stmt = tt
+    all_args_fit (more_of-Stmt p k ks) = all_join IsSort (arg_sorts P k) (all_arg_sorts P ks) (args_fit k) (all_args_fit ks)
+
+  each_args_fit : (ks : List StmtKind) → AllByRecursion IsSort (each_arg_sorts P ks)
+  each_args_fit [] = tt
+  each_args_fit (k ∷ ks) = all_join IsSort (arg_sorts P k) (each_arg_sorts P ks) (args_fit k) (each_args_fit ks)
+
+  mutual
+    lefts_fit : (k : StmtKind) → AllByRecursion IsSort (left_sorts k)
+    lefts_fit (While' e invs shape body) = left_fit (has_returns body)
+    lefts_fit (If' e shape a shape' b) = all_join IsSort (all_left_sorts a) (all_left_sorts b) (all_lefts_fit a) (all_lefts_fit b)
+    lefts_fit (Call xs f es) = tt
+    lefts_fit (Assert e) = tt
+    lefts_fit (Assume e) = tt
+    lefts_fit (Assign ls es) = tt
+    lefts_fit Break = tt
+    lefts_fit Return = tt
+
+    all_lefts_fit : {m : _} (ks : Row_of-Stmt m) → AllByRecursion IsSort (all_left_sorts ks)
+    all_lefts_fit end_of-Stmt = tt
+    all_lefts_fit (more_of-Stmt p k ks) = all_join IsSort (left_sorts k) (all_left_sorts ks) (lefts_fit k) (all_lefts_fit ks)
+
+  each_lefts_fit : (ks : List StmtKind) → AllByRecursion IsSort (each_left_sorts ks)
+  each_lefts_fit [] = tt
+  each_lefts_fit (k ∷ ks) = all_join IsSort (left_sorts k) (each_left_sorts ks) (lefts_fit k) (each_lefts_fit ks)
+
+  pub hidden_fit : (at : Counts) (ks : List StmtKind) → AllByRecursion IsSort (sorts_of (hidden P at ks))
+  hidden_fit at ks =
+      subst (AllByRecursion IsSort) (sym (hidden-sorts P at ks)) (all_join IsSort (each_arg_sorts P ks) (each_left_sorts ks) (each_args_fit ks) (each_lefts_fit ks))
+
+-- ---- names of hidden locals
+
+not_plain : (xs ys : List ℕ) → is_plain (xs ++ (64 ∷ ys)) ≡ false
+not_plain [] ys = refl
+not_plain (c ∷ xs) ys = go (not (c == 64)) (not_plain xs ys)
+  where
+    go : (b : Bool) → is_plain (xs ++ (64 ∷ ys)) ≡ false → (b && is_plain (xs ++ (64 ∷ ys))) ≡ false
+    go true h = h
+    go false h = refl
+
+abbrev AreHidden : List Var → Type 0
+AreHidden = AllByRecursion (λ v. is_plain v.name ≡ false)
+
+copies_hidden : (vs : List Var) → AreHidden (map (λ v. record { name = v.name ++ codes "@copy"; sort = v.sort }) vs)
+copies_hidden [] = tt
+copies_hidden (v ∷ vs) = (not_plain v.name (codes "copy"), copies_hidden vs)
+
+arg_vars_hidden : (call i : ℕ) (vs : List Var) → AreHidden (arg_vars call i vs)
+arg_vars_hidden call i [] = tt
+arg_vars_hidden call i (v ∷ vs) = (not_plain (decimal call) (codes "arg@" ++ decimal i), arg_vars_hidden call (suc i) vs)
+
+abbrev join_hidden : (xs ys : List Var) → AreHidden xs → AreHidden ys → AreHidden (xs ++ ys)
+join_hidden = all_join (λ v. is_plain v.name ≡ false)
+
+mutual
+  args_hidden : (P : Program) (at : Counts) (k : StmtKind) → AreHidden (args_in P at k)
+  args_hidden P at (Call xs f es) = arg_vars_hidden (suc at.calls) 1 (ins_of (procedure_in P.decls f))
+  args_hidden P at (If' e shape a shape' b) =
+      join_hidden (all_args_in P at a) (all_args_in P (plus at (counts_all a)) b) (all_args_hidden P at a) (all_args_hidden P (plus at (counts_all a)) b)
+  args_hidden P at (While' e invs shape body) = tt
+  args_hidden P at (Assert e) = tt
+  args_hidden P at (Assume e) = tt
+  args_hidden P at (Assign ls es) = tt
+  args_hidden P at Break = tt
+  args_hidden P at Return = tt
+
+  all_args_hidden : (P : Program) (at : Counts) {m : _} (ks : Row_of-Stmt m) → AreHidden (all_args_in P at ks)
+  all_args_hidden P at end_of-Stmt = tt
+  all_args_hidden P at (more_of-Stmt p k ks) =
+      join_hidden (args_in P at k) (all_args_in P (plus at (counts k)) ks) (args_hidden P at k) (all_args_hidden P (plus at (counts k)) ks)
+
+each_args_hidden : (P : Program) (at : Counts) (ks : List StmtKind) → AreHidden (each_args_in P at ks)
+each_args_hidden P at [] = tt
+each_args_hidden P at (k ∷ ks) =
+    join_hidden (args_in P at k) (each_args_in P (plus at (counts k)) ks) (args_hidden P at k) (each_args_hidden P (plus at (counts k)) ks)
+
+left_var_hidden : (r : Bool) (n : ℕ) → AreHidden (if r then record { name = decimal n ++ codes "@left"; sort = BoolSort } ∷ [] else [])
+left_var_hidden true n = (not_plain (decimal n) (codes "left"), tt)
+left_var_hidden false n = tt
+
+mutual
+  lefts_hidden : (at : Counts) (k : StmtKind) → AreHidden (lefts_in at k)
+  lefts_hidden at (While' e invs shape body) = left_var_hidden (has_returns body) (suc at.loops)
+  lefts_hidden at (If' e shape a shape' b) =
+      join_hidden (all_lefts_in at a) (all_lefts_in (plus at (counts_all a)) b) (all_lefts_hidden at a) (all_lefts_hidden (plus at (counts_all a)) b)
+  lefts_hidden at (Call xs f es) = tt
+  lefts_hidden at (Assert e) = tt
+  lefts_hidden at (Assume e) = tt
+  lefts_hidden at (Assign ls es) = tt
+  lefts_hidden at Break = tt
+  lefts_hidden at Return = tt
+
+  all_lefts_hidden : (at : Counts) {m : _} (ks : Row_of-Stmt m) → AreHidden (all_lefts_in at ks)
+  all_lefts_hidden at end_of-Stmt = tt
+  all_lefts_hidden at (more_of-Stmt p k ks) =
+      join_hidden (lefts_in at k) (all_lefts_in (plus at (counts k)) ks) (lefts_hidden at k) (all_lefts_hidden (plus at (counts k)) ks)
+
+each_lefts_hidden : (at : Counts) (ks : List StmtKind) → AreHidden (each_left_in at ks)
+each_lefts_hidden at [] = tt
+each_lefts_hidden at (k ∷ ks) =
+    join_hidden (lefts_in at k) (each_left_in (plus at (counts k)) ks) (lefts_hidden at k) (each_lefts_hidden (plus at (counts k)) ks)
+
+none_plain : (vs : List Var) → AreHidden vs → filter is_plain (names_of vs) ≡ []
+none_plain [] h = refl
+none_plain (v ∷ vs) h = ap (λ (b : Bool). cond b (v.name ∷ filter is_plain (names_of vs)) (filter is_plain (names_of vs))) h.0 ∙ none_plain vs h.1
+
+distinct_filter : (test : Text → Bool) (xs : List Text) → IsDistinct same_text xs → IsDistinct same_text (filter test xs)
+unfolding IsDistinct
+distinct_filter test [] h = tt
+distinct_filter test (x ∷ xs) h = go (test x) (distinct_filter test xs h.1)
+  where
+    go : (b : Bool) → IsDistinct same_text (filter test xs) → IsDistinct same_text (cond b (x ∷ filter test xs) (filter test xs))
+    go true k = (all_filter (λ y. same_text x y ≡ false) test xs h.0, k)
+    go false k = k
+
+names_append : (xs ys : List Var) → names_of (xs ++ ys) ≡ names_of xs ++ names_of ys
+names_append xs ys = map-append (λ v. v.name) xs ys
+
+-- with hidden locals behind them, the names of a text are still different
+pub root_names : (P : Program) (S : Source) → IsDistinct same_text (names_of S.routine.head.ins ++ (names_of S.routine.head.outs ++ names_of S.routine.body.locals)) → IsDistinct same_text (filter is_plain (names_of (S.routine.head.ins ++ (S.routine.head.outs ++ (S.routine.body.locals ++ (copies_of S ++ hidden P none (kinds S)))))))
+root_names P S h =
+    let ins = S.routine.head.ins in let outs = S.routine.head.outs in let locals = S.routine.body.locals in
+    let hide = copies_of S ++ hidden P none (kinds S) in
+    let own = names_of ins ++ (names_of outs ++ names_of locals) in
+    let are_hidden = join_hidden (copies_of S) (hidden P none (kinds S)) (copies_hidden S.copied) (join_hidden (each_args_in P none (kinds S)) (each_left_in none (kinds S)) (each_args_hidden P none (kinds S)) (each_lefts_hidden none (kinds S))) in
+    let inner : names_of (outs ++ (locals ++ hide)) ≡ (names_of outs ++ names_of locals) ++ names_of hide = names_append outs (locals ++ hide) ∙ ap (λ (l : List Text). names_of outs ++ l) (names_append locals hide) ∙ sym (append_assoc (names_of outs) (names_of locals) (names_of hide)) in
+    let all : names_of (ins ++ (outs ++ (locals ++ hide))) ≡ own ++ names_of hide = names_append ins (outs ++ (locals ++ hide)) ∙ ap (λ (l : List Text). names_of ins ++ l) inner ∙ sym (append_assoc (names_of ins) (names_of outs ++ names_of locals) (names_of hide)) in
+    let kept : filter is_plain (names_of (ins ++ (outs ++ (locals ++ hide)))) ≡ filter is_plain own = ap (filter is_plain) all ∙ filter_append is_plain own (names_of hide) ∙ ap (λ (l : List Text). filter is_plain own ++ l) (none_plain hide are_hidden) ∙ append-nil (filter is_plain own) in
+    subst (IsDistinct same_text) (sym kept) (distinct_filter is_plain own h)

@@ -1,0 +1,312 @@
+-- The globals that a procedure modifies, by their numbers: each once, each there, and those that its callees modify.
+use Rattle.std.proofs.Common.{◌≡◌, ℕ, zero, suc, ◌+◌, ◌<◌, List, [], ◌∷◌, ◌++◌, map, length, Option, Some, None, refl, sym, ◌∙◌, ap, subst, arith, eqb→eq}
+use Rattle.std.specs.Prelude.{Bool, true, false, ◌||◌, ◌==◌, slice_get, Contains, codes, option_map, if◌then◌else◌}
+use Rattle.std.specs.List.{AllByRecursion, IsDistinct, filter_map, cons_option}
+use Rattle.std.specs.Cmp.Lexicographic.{bytes_decides}
+use Rattle.sd_base.specs.declared.Var.{Var}
+use Rattle.sd_base.specs.Value.{Text, same_text}
+use Rattle.sd_ast.specs.declared.Spec.{Spec}
+use Rattle.sd_ast.specs.declared.Spec.TheVariants.{Modifies, Requires, Ensures}
+use Rattle.sd_types.specs.Names.{is_among}
+use Rattle.sd_types.specs.Declarations.{modifies_of}
+use Rattle.sd_core.specs.declared.Spot.{Spot}
+use Rattle.sd_core.specs.declared.Spot.TheVariants.{Global}
+use Rattle.sd_core.specs.Formed.{sorts_of, copy_of}
+use Rattle.sd_core.specs.Formed.{copies_of as copies_in}
+use Rattle.sd_ast.specs.Tree.{names_of}
+use Rattle.sd_extract.specs.Names.{place_in}
+use Rattle.sd_extract.specs.Extract.{globals_from, index_in, var_in, new_names, modified_names}
+use Rattle.sd_extract.specs.Extract.{is_among as is_in}
+use Rattle.sd_extract.proofs.FormedChecks.{same_itself}
+use Rattle.sd_extract.proofs.FormedSpots.{contains_later}
+use Rattle.sd_extract.proofs.FormedPlaces.{Matches}
+use Rattle.sd_extract.proofs.FormedLists.{some_is, none_is, all_join, all_left, all_right, all_map, or_left, or_right, or_false}
+
+-- ---- a variable and its place
+
+abbrev pub IndexVar : List Var → Text → Option ℕ → Option Var → Type 0
+IndexVar vs x None None = Unit {0}
+IndexVar vs x (Some i) (Some v) = (slice_get vs i ≡ Some v) × (i < length vs) × (x ≡ v.name)
+IndexVar vs x _ _ = ⊥
+
+index_next : (w : Var) (vs : List Var) (x : Text) (i : Option ℕ) (v : Option Var) → IndexVar vs x i v → IndexVar (w ∷ vs) x (option_map (λ n. suc n) i) v
+index_next w vs x None None h = tt
+index_next w vs x None (Some v) h = absurd h
+index_next w vs x (Some i) None h = absurd h
+index_next w vs x (Some i) (Some v) h = let l = h.1 in (h.0, omega (arith, l), h.2)
+
+pub index_var : (vs : List Var) (x : Text) → IndexVar vs x (index_in vs x) (var_in vs x)
+index_var [] x = tt
+index_var (w ∷ vs) x = go (same_text x w.name) refl (index_next w vs x (index_in vs x) (var_in vs x) (index_var vs x))
+  where
+    go : (b : Bool) → same_text x w.name ≡ b → IndexVar (w ∷ vs) x (option_map (λ n. suc n) (index_in vs x)) (var_in vs x) → IndexVar (w ∷ vs) x (if b then Some 0 else option_map (λ n. suc n) (index_in vs x)) (if b then Some w else var_in vs x)
+    go true e h = (refl, omega arith, (bytes_decides x w.name).0 e)
+    go false e h = h
+
+-- ---- lists of modified globals
+
+sort_of_var : (vs : List Var) (i : ℕ) (v : Var) → slice_get vs i ≡ Some v → slice_get (sorts_of vs) i ≡ Some v.sort
+sort_of_var [] i v h = absurd (none_is v h)
+sort_of_var (w ∷ vs) zero v h = ap (λ (u : Var). Some u.sort) (some_is w v h)
+sort_of_var (w ∷ vs) (suc i) v h = sort_of_var vs i v h
+
+pub numbers_match : (vs : List Var) (names : List Text) → Matches (sorts_of vs) (filter_map (index_in vs) names) (sorts_of (filter_map (var_in vs) names))
+numbers_match vs [] = tt
+numbers_match vs (x ∷ names) = go (index_in vs x) (var_in vs x) (index_var vs x) (numbers_match vs names)
+  where
+    go : (i : Option ℕ) (v : Option Var) → IndexVar vs x i v → Matches (sorts_of vs) (filter_map (index_in vs) names) (sorts_of (filter_map (var_in vs) names)) → Matches (sorts_of vs) (cons_option i (filter_map (index_in vs) names)) (sorts_of (cons_option v (filter_map (var_in vs) names)))
+    go None None h k = k
+    go None (Some v) h k = absurd h
+    go (Some i) None h k = absurd h
+    go (Some i) (Some v) h k = (sort_of_var vs i v h.0, k)
+
+pub numbers_below : (vs : List Var) (names : List Text) → AllByRecursion (λ i. i < length vs) (filter_map (index_in vs) names)
+numbers_below vs [] = tt
+numbers_below vs (x ∷ names) = go (index_in vs x) (var_in vs x) (index_var vs x) (numbers_below vs names)
+  where
+    go : (i : Option ℕ) (v : Option Var) → IndexVar vs x i v → AllByRecursion (λ i. i < length vs) (filter_map (index_in vs) names) → AllByRecursion (λ i. i < length vs) (cons_option i (filter_map (index_in vs) names))
+    go None v h k = k
+    go (Some i) None h k = absurd h
+    go (Some i) (Some v) h k = (h.1, k)
+
+abbrev copy : Var → Var
+copy v = record { name = v.name ++ codes "@copy"; sort = v.sort }
+
+pub copied_numbers : (vs : List Var) (names : List Text) → copies_in vs (filter_map (index_in vs) names) ≡ map (λ v. record { name = v.name ++ codes "@copy"; sort = v.sort }) (filter_map (var_in vs) names)
+copied_numbers vs [] = refl
+copied_numbers vs (x ∷ names) = go (index_in vs x) (var_in vs x) (index_var vs x) (copied_numbers vs names)
+  where
+    go : (i : Option ℕ) (v : Option Var) → IndexVar vs x i v → copies_in vs (filter_map (index_in vs) names) ≡ map copy (filter_map (var_in vs) names) → copies_in vs (cons_option i (filter_map (index_in vs) names)) ≡ map copy (cons_option v (filter_map (var_in vs) names))
+    go None None h k = k
+    go None (Some v) h k = absurd h
+    go (Some i) None h k = absurd h
+    go (Some i) (Some v) h k = (λ j. copy_of (h.0 j) ++ k j)
+
+-- two names with one number are one name
+index_once : (vs : List Var) (x y : Text) (i j : ℕ) → index_in vs x ≡ Some i → index_in vs y ≡ Some j → i ≡ j → x ≡ y
+index_once vs x y i j e f same = go (index_in vs x) (var_in vs x) (index_in vs y) (var_in vs y) (index_var vs x) (index_var vs y) e f
+  where
+    go : (a : Option ℕ) (b : Option Var) (c : Option ℕ) (d : Option Var) → IndexVar vs x a b → IndexVar vs y c d → a ≡ Some i → c ≡ Some j → x ≡ y
+    go None b c d h k m n = absurd (none_is i m)
+    go (Some a) None c d h k m n = absurd h
+    go (Some a) (Some b) None d h k m n = absurd (none_is j n)
+    go (Some a) (Some b) (Some c) None h k m n = absurd k
+    go (Some a) (Some b) (Some c) (Some d) h k m n =
+        let numbers : a ≡ c = some_is a i m ∙ same ∙ sym (some_is c j n) in
+        let found : Some b ≡ Some d = sym h.0 ∙ ap (slice_get vs) numbers ∙ k.0 in
+        h.2 ∙ ap (λ (v : Var). v.name) (some_is b d found) ∙ sym k.2
+
+eqb_false : (i j : ℕ) → (i ≡ j → ⊥) → (i == j) ≡ false
+eqb_false i j n = go (i == j) refl
+  where
+    go : (b : Bool) → (i == j) ≡ b → b ≡ false
+    go true e = absurd (n (eqb→eq i j (rw e tt)))
+    go false e = refl
+
+not_first : (vs : List Var) (x : Text) (i : ℕ) (names : List Text) → index_in vs x ≡ Some i → AllByRecursion (λ y. same_text x y ≡ false) names → AllByRecursion (λ j. (i == j) ≡ false) (filter_map (index_in vs) names)
+not_first vs x i [] e h = tt
+not_first vs x i (y ∷ names) e h = go (index_in vs y) refl (not_first vs x i names e h.1)
+  where
+    different : (j : ℕ) → index_in vs y ≡ Some j → i ≡ j → ⊥
+    different j f same =
+        let g : same_text x y ≡ true = (bytes_decides x y).1 (index_once vs x y i j e f same) in let k = h.0 in absurd (cc)
+
+    go : (o : Option ℕ) → index_in vs y ≡ o → AllByRecursion (λ j. (i == j) ≡ false) (filter_map (index_in vs) names) → AllByRecursion (λ j. (i == j) ≡ false) (cons_option o (filter_map (index_in vs) names))
+    go None f k = k
+    go (Some j) f k = (eqb_false i j (different j f), k)
+
+pub numbers_once : (vs : List Var) (names : List Text) → IsDistinct same_text names → IsDistinct ◌==◌ (filter_map (index_in vs) names)
+unfolding IsDistinct
+numbers_once vs [] h = tt
+numbers_once vs (x ∷ names) h = go (index_in vs x) refl (numbers_once vs names h.1)
+  where
+    go : (o : Option ℕ) → index_in vs x ≡ o → IsDistinct ◌==◌ (filter_map (index_in vs) names) → IsDistinct ◌==◌ (cons_option o (filter_map (index_in vs) names))
+    go None e k = k
+    go (Some i) e k = (not_first vs x i names e h.0, k)
+
+-- ---- names that are mentioned
+
+in_among : (x : Text) (ys : List Text) → is_in x ys ≡ is_among ys x
+in_among x [] = refl
+in_among x (y ∷ ys) = ap (λ (b : Bool). same_text x y || b) (in_among x ys)
+
+in_append : (x : Text) (ys zs : List Text) → is_in x (ys ++ zs) ≡ (is_in x ys || is_in x zs)
+in_append x [] zs = refl
+in_append x (y ∷ ys) zs = go (same_text x y) (in_append x ys zs)
+  where
+    go : (b : Bool) → is_in x (ys ++ zs) ≡ (is_in x ys || is_in x zs) → (b || is_in x (ys ++ zs)) ≡ ((b || is_in x ys) || is_in x zs)
+    go true e = refl
+    go false e = e
+
+other_way : (x y : Text) → same_text x y ≡ false → same_text y x ≡ false
+other_way x y e = go (same_text y x) refl
+  where
+    go : (b : Bool) → same_text y x ≡ b → b ≡ false
+    go true f = let g : same_text x y ≡ true = (bytes_decides x y).1 (sym ((bytes_decides y x).0 f)) in absurd (cc)
+    go false f = refl
+
+record NewNames (xs seen : List Text) : Type 0 where
+  once : IsDistinct same_text (new_names xs seen)
+  unseen : AllByRecursion (λ y. is_in y seen ≡ false) (new_names xs seen)
+  mentioned : AllByRecursion (λ y. is_in y xs ≡ true) (new_names xs seen)
+
+not_in_longer : (x y : Text) (seen : List Text) → is_in y (seen ++ (x ∷ [])) ≡ false → (is_in y seen ≡ false) × (same_text x y ≡ false)
+not_in_longer x y seen h =
+    let k = or_false (is_in y seen) (is_in y (x ∷ [])) (sym (in_append y seen (x ∷ [])) ∙ h) in
+    (k.0, other_way y x (or_false (same_text y x) false k.1).0)
+
+names_new : (xs seen : List Text) → NewNames xs seen
+unfolding IsDistinct
+names_new [] seen = record { once = tt; unseen = tt; mentioned = tt }
+names_new (x ∷ xs) seen = go (is_in x seen) refl (names_new xs seen) (names_new xs (seen ++ (x ∷ [])))
+  where
+    go : (b : Bool) → is_in x seen ≡ b → NewNames xs seen → NewNames xs (seen ++ (x ∷ [])) → NewNames (x ∷ xs) seen
+    go true e h k =
+        let same : new_names xs seen ≡ new_names (x ∷ xs) seen = ap (λ (b : Bool). if b then new_names xs seen else x ∷ new_names xs (seen ++ (x ∷ []))) (sym e) in
+        record {
+          once = subst (IsDistinct same_text) same h.once;
+          unseen = subst (AllByRecursion (λ y. is_in y seen ≡ false)) same h.unseen;
+          mentioned = subst (AllByRecursion (λ y. is_in y (x ∷ xs) ≡ true)) same (all_map (λ y. is_in y xs ≡ true) (λ y. is_in y (x ∷ xs) ≡ true) (new_names xs seen) (λ y i. or_right (same_text y x) (is_in y xs) i) h.mentioned);
+        }
+    go false e h k =
+        let rest = new_names xs (seen ++ (x ∷ [])) in
+        let same : x ∷ rest ≡ new_names (x ∷ xs) seen = ap (λ (b : Bool). if b then new_names xs seen else x ∷ rest) (sym e) in
+        let away = all_map (λ y. is_in y (seen ++ (x ∷ [])) ≡ false) (λ y. (is_in y seen ≡ false) × (same_text x y ≡ false)) rest (λ y i. not_in_longer x y seen i) k.unseen in
+        let first : is_in x (x ∷ xs) ≡ true = ap (λ (b : Bool). b || is_in x xs) (same_itself x) in
+        record {
+          once = subst (IsDistinct same_text) same (all_map (λ y. (is_in y seen ≡ false) × (same_text x y ≡ false)) (λ y. same_text x y ≡ false) rest (λ y i. i.1) away, k.once);
+          unseen = subst (AllByRecursion (λ y. is_in y seen ≡ false)) same (e, all_map (λ y. (is_in y seen ≡ false) × (same_text x y ≡ false)) (λ y. is_in y seen ≡ false) rest (λ y i. i.0) away);
+          mentioned = subst (AllByRecursion (λ y. is_in y (x ∷ xs) ≡ true)) same (first, all_map (λ y. is_in y xs ≡ true) (λ y. is_in y (x ∷ xs) ≡ true) rest (λ y i. or_right (same_text y x) (is_in y xs) i) k.mentioned);
+        }
+
+record ModifiedNames (specs : List Spec) (seen : List Text) : Type 0 where
+  once : IsDistinct same_text (modified_names specs seen)
+  unseen : AllByRecursion (λ y. is_in y seen ≡ false) (modified_names specs seen)
+
+-- a name that is mentioned, and one that isn't
+differs : (a b : Text) (xs : List Text) → is_in a xs ≡ true → is_in b xs ≡ false → same_text a b ≡ false
+differs a b xs h k = go (same_text a b) refl
+  where
+    go : (c : Bool) → same_text a b ≡ c → c ≡ false
+    go true e =
+        let same : a ≡ b = (bytes_decides a b).0 e in
+        let g : is_in b xs ≡ true = subst (λ (z : Text). is_in z xs ≡ true) same h in
+        absurd (cc)
+    go false e = refl
+
+distinct_join : (xs ys zs : List Text) → IsDistinct same_text ys → IsDistinct same_text zs → AllByRecursion (λ y. is_in y xs ≡ true) ys → AllByRecursion (λ z. is_in z xs ≡ false) zs → IsDistinct same_text (ys ++ zs)
+unfolding IsDistinct
+distinct_join xs [] zs h k a b = k
+distinct_join xs (y ∷ ys) zs h k a b =
+    (all_join (λ z. same_text y z ≡ false) ys zs h.0 (all_map (λ z. is_in z xs ≡ false) (λ z. same_text y z ≡ false) zs (λ z i. differs y z xs a.0 i) b), distinct_join xs ys zs h.1 k a.1 b)
+
+names_modified : (specs : List Spec) (seen : List Text) → ModifiedNames specs seen
+unfolding IsDistinct
+names_modified [] seen = record { once = tt; unseen = tt }
+names_modified (Modifies xs ∷ specs) seen =
+    let h = names_new xs seen in
+    let k = names_modified specs (seen ++ xs) in
+    let rest = modified_names specs (seen ++ xs) in
+    let away = all_map (λ y. is_in y (seen ++ xs) ≡ false) (λ y. (is_in y seen ≡ false) × (is_in y xs ≡ false)) rest (λ y i. or_false (is_in y seen) (is_in y xs) (sym (in_append y seen xs) ∙ i)) k.unseen in
+    record {
+      once = distinct_join xs (new_names xs seen) rest h.once k.once h.mentioned (all_map (λ y. (is_in y seen ≡ false) × (is_in y xs ≡ false)) (λ y. is_in y xs ≡ false) rest (λ y i. i.1) away);
+      unseen = all_join (λ y. is_in y seen ≡ false) (new_names xs seen) rest h.unseen (all_map (λ y. (is_in y seen ≡ false) × (is_in y xs ≡ false)) (λ y. is_in y seen ≡ false) rest (λ y i. i.0) away);
+    }
+names_modified (Requires free e ∷ specs) seen =
+    let k = names_modified specs seen in record { once = k.once; unseen = k.unseen }
+names_modified (Ensures free e ∷ specs) seen =
+    let k = names_modified specs seen in record { once = k.once; unseen = k.unseen }
+
+pub modified_once : (specs : List Spec) → IsDistinct same_text (modified_names specs [])
+modified_once specs = (names_modified specs []).once
+
+-- what is said of all that is mentioned
+all_new : (Q : Text → Type 0) (xs seen : List Text) → AllByRecursion Q xs → AllByRecursion Q (new_names xs seen)
+all_new Q [] seen h = tt
+all_new Q (x ∷ xs) seen h = go (is_in x seen) (all_new Q xs seen h.1) (all_new Q xs (seen ++ (x ∷ [])) h.1)
+  where
+    go : (b : Bool) → AllByRecursion Q (new_names xs seen) → AllByRecursion Q (new_names xs (seen ++ (x ∷ []))) → AllByRecursion Q (if b then new_names xs seen else x ∷ new_names xs (seen ++ (x ∷ [])))
+    go true k l = k
+    go false k l = (h.0, l)
+
+pub all_modified : (Q : Text → Type 0) (specs : List Spec) (seen : List Text) → AllByRecursion Q (modifies_of specs) → AllByRecursion Q (modified_names specs seen)
+all_modified Q [] seen h = tt
+all_modified Q (Modifies xs ∷ specs) seen h =
+    all_join Q (new_names xs seen) (modified_names specs (seen ++ xs)) (all_new Q xs seen (all_left Q xs (modifies_of specs) h)) (all_modified Q specs (seen ++ xs) (all_right Q xs (modifies_of specs) h))
+all_modified Q (Requires free e ∷ specs) seen h = all_modified Q specs seen h
+all_modified Q (Ensures free e ∷ specs) seen h = all_modified Q specs seen h
+
+-- what is mentioned is there
+new_has : (x : Text) (xs seen : List Text) → is_in x xs ≡ true → is_in x seen ≡ false → is_in x (new_names xs seen) ≡ true
+new_has x [] seen h k = h
+new_has x (y ∷ xs) seen h k = go (is_in y seen) (same_text x y) refl refl h (λ i. new_has x xs seen i k) (new_has x xs (seen ++ (y ∷ [])))
+  where
+    go : (b c : Bool) → is_in y seen ≡ b → same_text x y ≡ c → (c || is_in x xs) ≡ true → (is_in x xs ≡ true → is_in x (new_names xs seen) ≡ true) → (is_in x xs ≡ true → is_in x (seen ++ (y ∷ [])) ≡ false → is_in x (new_names xs (seen ++ (y ∷ []))) ≡ true) → is_in x (if b then new_names xs seen else y ∷ new_names xs (seen ++ (y ∷ []))) ≡ true
+    go true true e f i r s =
+        let g : is_in x seen ≡ true = subst (λ (z : Text). is_in z seen ≡ true) (sym ((bytes_decides x y).0 f)) e in absurd (cc)
+    go true false e f i r s = r i
+    go false true e f i r s = ap (λ (c : Bool). c || is_in x (new_names xs (seen ++ (y ∷ [])))) f
+    go false false e f i r s =
+        or_right (same_text x y) (is_in x (new_names xs (seen ++ (y ∷ [])))) (s i (in_append x seen (y ∷ []) ∙ (λ j. k j || (f j || false))))
+
+pub modified_has : (x : Text) (specs : List Spec) (seen : List Text) → is_in x (modifies_of specs) ≡ true → is_in x seen ≡ false → is_in x (modified_names specs seen) ≡ true
+modified_has x [] seen h k = h
+modified_has x (Modifies xs ∷ specs) seen h k =
+    go (is_in x xs) refl (sym (in_append x xs (modifies_of specs)) ∙ h) (modified_has x specs (seen ++ xs))
+  where
+    rest : List Text
+    rest = modified_names specs (seen ++ xs)
+
+    go : (b : Bool) → is_in x xs ≡ b → (is_in x xs || is_in x (modifies_of specs)) ≡ true → (is_in x (modifies_of specs) ≡ true → is_in x (seen ++ xs) ≡ false → is_in x (modified_names specs (seen ++ xs)) ≡ true) → is_in x (new_names xs seen ++ modified_names specs (seen ++ xs)) ≡ true
+    go true e i r =
+        in_append x (new_names xs seen) (modified_names specs (seen ++ xs)) ∙ or_left (is_in x (new_names xs seen)) (is_in x (modified_names specs (seen ++ xs))) (new_has x xs seen e k)
+    go false e i r =
+        in_append x (new_names xs seen) (modified_names specs (seen ++ xs)) ∙ or_right (is_in x (new_names xs seen)) (is_in x (modified_names specs (seen ++ xs))) (r (ap (λ (b : Bool). b || is_in x (modifies_of specs)) (sym e) ∙ i) (in_append x seen xs ∙ (λ j. k j || e j)))
+modified_has x (Requires free e ∷ specs) seen h k = modified_has x specs seen h k
+modified_has x (Ensures free e ∷ specs) seen h k = modified_has x specs seen h k
+
+-- a mentioned global's number is among the numbers
+number_there : (vs : List Var) (x : Text) (i : ℕ) (names : List Text) → index_in vs x ≡ Some i → is_in x names ≡ true → Contains (filter_map (index_in vs) names) i
+number_there vs x i [] e h = absurd (cc)
+number_there vs x i (y ∷ names) e h = go (same_text x y) refl (index_in vs y) refl h (number_there vs x i names e)
+  where
+    go : (b : Bool) → same_text x y ≡ b → (o : Option ℕ) → index_in vs y ≡ o → (b || is_in x names) ≡ true → (is_in x names ≡ true → Contains (filter_map (index_in vs) names) i) → Contains (cons_option o (filter_map (index_in vs) names)) i
+    go true t o f k rec =
+        let same : index_in vs y ≡ Some i = ap (index_in vs) (sym ((bytes_decides x y).0 t)) ∙ e in
+        subst (λ (o : Option ℕ). Contains (cons_option o (filter_map (index_in vs) names)) i) (sym same ∙ f) (0, omega arith, refl)
+    go false t None f k rec = rec k
+    go false t (Some j) f k rec = contains_later j (filter_map (index_in vs) names) i (rec k)
+
+pub modifies_there : (vs : List Var) (specs : List Spec) (x : Text) (i : ℕ) → index_in vs x ≡ Some i → is_among (modifies_of specs) x ≡ true → Contains (filter_map (index_in vs) (modified_names specs [])) i
+modifies_there vs specs x i e h =
+    number_there vs x i (modified_names specs []) e (modified_has x specs [] (in_among x (modifies_of specs) ∙ h) refl)
+
+-- what is said of each mentioned global is said of its number
+pub numbers_have : (vs : List Var) (Q : ℕ → Type 0) (names : List Text) → AllByRecursion (λ x. (i : ℕ) → index_in vs x ≡ Some i → Q i) names → AllByRecursion Q (filter_map (index_in vs) names)
+numbers_have vs Q [] h = tt
+numbers_have vs Q (x ∷ names) h = go (index_in vs x) refl (numbers_have vs Q names h.1)
+  where
+    go : (o : Option ℕ) → index_in vs x ≡ o → AllByRecursion Q (filter_map (index_in vs) names) → AllByRecursion Q (cons_option o (filter_map (index_in vs) names))
+    go None e k = k
+    go (Some i) e k = (h.0 i e, k)
+
+-- ---- the spot of a global
+
+global_spot_from : (vs : List Var) (k : ℕ) (x : Text) → place_in (names_of vs) (globals_from k vs) x ≡ option_map (λ j. Global (k + j)) (index_in vs x)
+global_spot_from [] k x = refl
+global_spot_from (v ∷ vs) k x = go (same_text x v.name) (global_spot_from vs (suc k) x)
+  where
+    shift : (o : Option ℕ) → option_map (λ j. Global (suc k + j)) o ≡ option_map (λ j. Global (k + j)) (option_map (λ n. suc n) o)
+    shift None = refl
+    shift (Some j) = let e : suc k + j ≡ k + suc j = omega arith in ap (λ n. Some (Global n)) e
+
+    go : (b : Bool) → place_in (names_of vs) (globals_from (suc k) vs) x ≡ option_map (λ j. Global (suc k + j)) (index_in vs x) → (if b then Some (Global k) else place_in (names_of vs) (globals_from (suc k) vs) x) ≡ option_map (λ j. Global (k + j)) (if b then Some 0 else option_map (λ n. suc n) (index_in vs x))
+    go true e = let f : k ≡ k + 0 = omega arith in ap (λ n. Some (Global n)) f
+    go false e = e ∙ shift (index_in vs x)
+
+pub global_spot : (vs : List Var) (x : Text) (q : Spot) → place_in (names_of vs) (globals_from 0 vs) x ≡ Some q → (i : ℕ) × (index_in vs x ≡ Some i) × (q ≡ Global i)
+global_spot vs x q h = go (index_in vs x) (sym (global_spot_from vs 0 x) ∙ h)
+  where
+    go : (o : Option ℕ) → option_map (λ j. Global (0 + j)) o ≡ Some q → (i : ℕ) × (o ≡ Some i) × (q ≡ Global i)
+    go None e = absurd (none_is q e)
+    go (Some i) e = let f : 0 + i ≡ i = omega arith in (i, refl, sym (some_is (Global (0 + i)) q e) ∙ ap (λ (n : ℕ). Global n) f)

@@ -1,0 +1,74 @@
+-- What extraction keeps of a well-typed program.
+use Rattle.std.proofs.Common.{◌≡◌, List, [], ◌∷◌, map, Option, None, Some, option_map, refl, sym, ap, ◌∙◌}
+use Rattle.std.proofs.lemmas.List.{length-map}
+use Rattle.sd_base.specs.Value.{Text}
+use Rattle.sd_base.specs.Meaning.{interpretation, truth_of}
+use Rattle.sd_ast.specs.declared.Expr.{Expr}
+use Rattle.sd_ast.specs.declared.Program.{Program}
+use Rattle.sd_ast.specs.declared.Proc.{Proc}
+use Rattle.sd_ast.specs.declared.Impl.{Impl}
+use Rattle.sd_ast.specs.declared.Body.{Body}
+use Rattle.sd_meaning.specs.Evaluate.{value}
+use Rattle.sd_meaning.specs.Routine.{Routine, procedure_in, implementation_in, with_body, routine_named}
+use Rattle.sd_meaning.specs.Inputs.{globals_in, nowhere}
+use Rattle.sd_core.specs.Run.{is_true, nowhere as no_store}
+use Rattle.sd_extract.specs.Extract.{Source, source_of, body_proc}
+use Rattle.sd_extract.specs.Programs.{core_axiom, no_names, axioms_in}
+use Rattle.sd_extract.specs.Law.{ExtractedRuns}
+use Rattle.sd_extract.specs.Laws.{number_of, RunsAreKept, ProceduresAreKept, AxiomsAreKept}
+use Rattle.sd_extract.proofs.Expressions.{value_kept}
+use Rattle.sd_extract.proofs.Exact.{exact}
+use Rattle.sd_extract.proofs.Programs.{program_runs, body_at}
+use Rattle.sd_extract.proofs.Declared.{procedure_stands, implementation_stands}
+use Rattle.sd_extract.proofs.Assigned.{some_is}
+use Rattle.sd_extract.proofs.TypedIsFine.{typed_is_fine}
+
+-- ---- runs
+
+pub extracted_runs : ExtractedRuns
+extracted_runs P fine M n f d S e is ins globals a b = exact _ _ _ _ _ (program_runs P fine M n f d S e is ins globals a b)
+
+-- a procedure with a body as the source of core procedures
+abbrev source : Program → Text → Routine → Source
+source P f r = source_of (globals_in P.decls) (number_of P f) r
+
+pub runs_kept : RunsAreKept
+runs_kept P w M n f d r e g ins globals a b =
+    extracted_runs P (typed_is_fine P w) M n f d (source P f r) e (ap (option_map (source_of (globals_in P.decls) (number_of P f))) g) ins globals a
+    (b ∙ sym (length-map (globals_in P.decls) (λ x. x.name)))
+
+-- ---- procedures
+
+pub name_kept : (P : Program) (f : Text) (r : Routine) → routine_named P f ≡ Some r → r.head.name ≡ f
+name_kept P f r = go (procedure_in P.decls f) (implementation_in P.decls f) refl refl
+  where
+    go : (o : Option Proc) (i : Option Impl) → procedure_in P.decls f ≡ o → implementation_in P.decls f ≡ i → with_body o i ≡ Some r → r.head.name ≡ f
+    go None i e g h = absurd (cc)
+    go (Some p) (Some i) e g h = ap (λ (x : Routine). x.head.name) (sym (some_is h)) ∙ sym (implementation_stands P.decls f i g).1
+    go (Some p) None e g h = own p.body h
+      where
+        own : (b : Option Body) → option_map (λ b. record { declared = p; head = p.head; body = b }) b ≡ Some r → r.head.name ≡ f
+        own None h = absurd (cc)
+        own (Some b) h = ap (λ (x : Routine). x.head.name) (sym (some_is h)) ∙ sym (procedure_stands P.decls f p e).1
+
+pub procedures_kept : ProceduresAreKept
+procedures_kept P f r w g = (
+  body_proc P (number_of P) (source P f r),
+  body_at P (typed_is_fine P w) f (source P f r) (ap (option_map (source_of (globals_in P.decls) (number_of P f))) g),
+  name_kept P f r g,
+  refl,
+  refl,
+  refl,
+)
+
+-- ---- axioms
+
+pub axioms_kept : AxiomsAreKept
+axioms_kept P M = go (axioms_in P.decls)
+  where
+    go : (es : List Expr) → map (is_true (interpretation M)) (map core_axiom es) ≡ map (λ e. truth_of (value (interpretation M) nowhere e.kind)) es
+    go [] = refl
+    go (e ∷ es) =
+        let here = ap truth_of (sym (value_kept (interpretation M) no_store no_names nowhere (record { locals = refl; globals = refl; entry = refl }) e.kind)) in
+        let rest = go es in
+        λ i. here i ∷ rest i

@@ -1,0 +1,168 @@
+-- The core procedures that belong to no loop are those of the text.
+use Rattle.std.proofs.Common.{◌≡◌, Bool, true, false, cond, ℕ, zero, suc, ◌+◌, List, [], ◌∷◌, ◌++◌, Option, Some, None, is_some, Ok, refl, sym, ◌∙◌, ap, length, ◌⊎◌, ⊎_elim, inl, inr, arith}
+use Rattle.std.specs.Prelude.{slice_get, if◌then◌else◌}
+use Rattle.std.specs.Cmp.Lexicographic.{bytes_decides}
+use Rattle.sd_base.specs.Value.{Text, same_text}
+use Rattle.sd_ast.specs.declared.Decl.{Decl}
+use Rattle.sd_ast.specs.declared.Decl.TheVariants.{Types, Const, Function, Axiom, Globals, Procedure, Implementation}
+use Rattle.sd_ast.specs.declared.Program.{Program}
+use Rattle.sd_ast.specs.declared.Proc.{Proc}
+use Rattle.sd_ast.specs.declared.StmtKind.{StmtKind, Assert, Assume, Assign, Call, If', While', Break, Return, Row_of-Stmt, end_of-Stmt, more_of-Stmt}
+use Rattle.sd_meaning.specs.Routine.{Routine, procedure_in, routine_named}
+use Rattle.sd_meaning.specs.Inputs.{globals_in}
+use Rattle.sd_types.specs.declared.scope.Callee.{Callee}
+use Rattle.sd_types.specs.declared.scope.Scope.{Scope}
+use Rattle.sd_types.specs.Tables.{named}
+use Rattle.sd_types.specs.Declarations.{callee_of, nothing, enter, enter_all}
+use Rattle.sd_types.proofs.TypingLemmas.{parts}
+use Rattle.sd_core.specs.declared.CoreProc.{CoreProc}
+use Rattle.sd_extract.specs.Extract.{counts, counts_all, Source, kinds, loops_in, all_loops_in, each_loop_in, source_of, size_of, number_from, routine_procs, procs_from}
+use Rattle.sd_extract.specs.Laws.{number_of, RootsAreProcedures}
+use Rattle.sd_extract.proofs.Assigned.{some_is}
+use Rattle.sd_extract.proofs.Declared.{procedure_enters, no_more, first_of, named-append}
+use Rattle.sd_extract.proofs.LawLemmas.{name_kept}
+use Rattle.sd_extract.proofs.Programs.{routine_length}
+use Rattle.sd_extract.proofs.TypedIsFine.{typed_scope}
+
+-- ---- loops have a parent
+
+abbrev AreLoops : List CoreProc → Type 0
+AreLoops [] = Unit {0}
+AreLoops (p ∷ ps) = (is_some p.parent ≡ true) × AreLoops ps
+
+loops_append : (ps qs : List CoreProc) → AreLoops ps → AreLoops qs → AreLoops (ps ++ qs)
+loops_append [] qs a b = b
+loops_append (p ∷ ps) qs a b = (a.0, loops_append ps qs a.1 b)
+
+loop_at : (ps : List CoreProc) (i : ℕ) (p : CoreProc) → AreLoops ps → slice_get ps i ≡ Some p → is_some p.parent ≡ true
+loop_at [] i p a e = absurd (cc)
+loop_at (q ∷ ps) zero p a e = ap (λ (x : CoreProc). is_some x.parent) (sym (some_is e)) ∙ a.0
+loop_at (q ∷ ps) (suc i) p a e = loop_at ps i p a.1 e
+
+module _ (P : Program) (number : Text → ℕ) (S : Source) where
+  mutual
+    are_loops : (n : ℕ) (s : StmtKind) → AreLoops (loops_in P number S n s)
+    are_loops n (While' e invs shape body) = (refl, all_are_loops (suc n) body)
+    are_loops n (If' e shape x shape' y) =
+        let m = n + (counts_all x).loops in
+        loops_append (all_loops_in P number S n x) (all_loops_in P number S m y) (all_are_loops n x) (all_are_loops m y)
+    are_loops n (Assert e) = tt
+    are_loops n (Assume e) = tt
+    are_loops n (Assign ls es) = tt
+    are_loops n (Call xs f es) = tt
+    are_loops n Break = tt
+    are_loops n Return = tt
+
+    all_are_loops : (n : ℕ) {m : _} (ss : Row_of-Stmt m) → AreLoops (all_loops_in P number S n ss)
+    all_are_loops n end_of-Stmt = tt
+    all_are_loops n (more_of-Stmt p s ss) =
+        let m = n + (counts s).loops in
+        loops_append (loops_in P number S n s) (all_loops_in P number S m ss) (are_loops n s) (all_are_loops m ss)
+
+  each_is_loop : (n : ℕ) (ss : List StmtKind) → AreLoops (each_loop_in P number S n ss)
+  each_is_loop n [] = tt
+  each_is_loop n (s ∷ ss) =
+      let m = n + (counts s).loops in
+      loops_append (loops_in P number S n s) (each_loop_in P number S m ss) (are_loops n s) (each_is_loop m ss)
+
+-- ---- where a procedure without a parent stands
+
+-- what stands in two lists stands in the first or in the second
+either_list : {A : Type 0} (xs ys : List A) (i : ℕ) (x : A) → slice_get (xs ++ ys) i ≡ Some x → (slice_get xs i ≡ Some x) ⊎ ((k : ℕ) × (i ≡ length xs + k) × (slice_get ys k ≡ Some x))
+either_list [] ys i x e = let here : i ≡ 0 + i = omega arith in inr (i, here, e)
+either_list (y ∷ xs) ys zero x e = inl e
+either_list {A} (y ∷ xs) ys (suc i) x e =
+    ⊎_elim (λ (a : slice_get xs i ≡ Some x). inl a)
+    (λ (b : (k : ℕ) × (i ≡ length xs + k) × (slice_get ys k ≡ Some x)). let e = b.1 in
+    let here : suc i ≡ suc (length xs) + b.0 = omega (arith, e) in inr (b.0, here, b.2))
+    (either_list xs ys i x e)
+
+-- Entry i of the core procedures of these declarations, before which n stand, is that of a procedure among them.
+abbrev IsRootOf : Program → ℕ → List Decl → ℕ → CoreProc → Type 0
+IsRootOf P n ds i p =
+    (q : Proc) × (procedure_in ds p.name ≡ Some q) × ((r : Routine) × (routine_named P p.name ≡ Some r)) × (n + i ≡ number_from P n ds p.name)
+
+-- a procedure that was entered is found
+found_entered : (H K : Scope) (q : Proc) → enter H (Procedure q) ≡ Ok K → is_some (named K.procedures q.head.name) ≡ true
+found_entered H K q h =
+    let e = procedure_enters H K q h in
+    ap (λ (l : List (Text × Callee)). is_some (named l q.head.name)) e.procedures ∙ ap is_some (named-append H.procedures ((q.head.name, callee_of q) ∷ []) q.head.name) ∙ go (named H.procedures q.head.name)
+  where
+    last : (b : Bool) → b ≡ true → is_some (cond b (Some (callee_of q)) None) ≡ true
+    last true t = refl
+    last false t = absurd (cc)
+
+    go : (o : Option Callee) → is_some (first_of o (named ((q.head.name, callee_of q) ∷ []) q.head.name)) ≡ true
+    go (Some c) = refl
+    go None = last (same_text q.head.name q.head.name) ((bytes_decides q.head.name q.head.name).1 refl)
+
+module _ (P : Program) where
+  -- among the core procedures of one procedure
+  first_is : (n : ℕ) (f : Text) (o : Option Routine) (i : ℕ) (p : CoreProc) → routine_named P f ≡ o → slice_get (routine_procs P n o) i ≡ Some p → p.parent ≡ None → (p.name ≡ f) × (i ≡ 0) × ((r : Routine) × (o ≡ Some r))
+  first_is n f None i p e g root = absurd (cc)
+  first_is n f (Some r) zero p e g root = (ap (λ (x : CoreProc). x.name) (sym (some_is g)) ∙ name_kept P f r e, refl, (r, refl))
+  first_is n f (Some r) (suc i) p e g root =
+      let S = source_of (globals_in P.decls) n r in
+      let number = number_from P 0 P.decls in
+      let loop = loop_at (each_loop_in P number S (suc n) (kinds S)) i p (each_is_loop P number S (suc n) (kinds S)) g in
+      let none = ap is_some root in
+      absurd (cc)
+
+  module _ (q : Proc) (ds : List Decl) (n i : ℕ) (p : CoreProc) where
+    abbrev next : ℕ
+    next = n + size_of (routine_named P q.head.name)
+
+    is_first : (p.name ≡ q.head.name) × (i ≡ 0) × ((r : Routine) × (routine_named P q.head.name ≡ Some r)) → IsRootOf P n (Procedure q ∷ ds) i p
+    is_first h = go (same_text p.name q.head.name) refl
+      where
+        go : (b : Bool) → same_text p.name q.head.name ≡ b → IsRootOf P n (Procedure q ∷ ds) i p
+        go true t =
+            let z = h.1 in
+            let here : n + i ≡ n = omega (arith, z) in
+            (q, ap (λ (c : Bool). if c then Some q else procedure_in ds p.name) t, (h.2.0, ap (routine_named P) h.0 ∙ h.2.1), here ∙ sym (ap (λ (c : Bool). if c then n else number_from P next ds p.name) t))
+        go false t = absurd (let s = (bytes_decides p.name q.head.name).1 h.0 in cc)
+
+    is_later : procedure_in ds q.head.name ≡ None → (k : ℕ) → i ≡ length (routine_procs P n (routine_named P q.head.name)) + k → IsRootOf P next ds k p → IsRootOf P n (Procedure q ∷ ds) i p
+    is_later once k long h = go (same_text p.name q.head.name) refl
+      where
+        go : (b : Bool) → same_text p.name q.head.name ≡ b → IsRootOf P n (Procedure q ∷ ds) i p
+        go true t =
+            let again = ap (procedure_in ds) ((bytes_decides p.name q.head.name).0 t) in
+            let declared = h.1 in
+            absurd (cc)
+        go false t =
+            let size = routine_length P n (routine_named P q.head.name) in
+            let before : n + i ≡ next + k = omega (arith, long, size) in
+            (h.0, ap (λ (c : Bool). if c then Some q else procedure_in ds p.name) t ∙ h.1, h.2, before ∙ h.3 ∙ sym (ap (λ (c : Bool). if c then n else number_from P next ds p.name) t))
+
+  roots : (H G : Scope) (ds : List Decl) (n i : ℕ) (p : CoreProc) → enter_all H ds ≡ Ok G → slice_get (procs_from P n ds) i ≡ Some p → p.parent ≡ None → IsRootOf P n ds i p
+  roots H G [] n i p h g root = absurd (cc)
+  roots H G (Procedure q ∷ ds) n i p h g root =
+      let k = parts (enter H (Procedure q)) (λ K. enter_all K ds) G h in
+      let here = routine_procs P n (routine_named P q.head.name) in
+      let after = n + size_of (routine_named P q.head.name) in
+      let once : procedure_in ds q.head.name ≡ None = no_more k.0 G ds q.head.name k.2 (found_entered H k.0 q k.1) in
+      ⊎_elim (λ (a : slice_get here i ≡ Some p). is_first q ds n i p (first_is n q.head.name (routine_named P q.head.name) i p refl a root))
+      (λ (b : (k : ℕ) × (i ≡ length here + k) × (slice_get (procs_from P after ds) k ≡ Some p)).
+      is_later q ds n i p once b.0 b.1 (roots k.0 G ds after b.0 p k.2 b.2 root))
+      (either_list here (procs_from P after ds) i p g)
+  roots H G (Types xs ∷ ds) n i p h g root =
+      let k = parts (enter H (Types xs)) (λ K. enter_all K ds) G h in roots k.0 G ds n i p k.2 g root
+  roots H G (Const u xs s ∷ ds) n i p h g root =
+      let k = parts (enter H (Const u xs s)) (λ K. enter_all K ds) G h in roots k.0 G ds n i p k.2 g root
+  roots H G (Function f xs s ∷ ds) n i p h g root =
+      let k = parts (enter H (Function f xs s)) (λ K. enter_all K ds) G h in roots k.0 G ds n i p k.2 g root
+  roots H G (Axiom a ∷ ds) n i p h g root =
+      let k = parts (enter H (Axiom a)) (λ K. enter_all K ds) G h in roots k.0 G ds n i p k.2 g root
+  roots H G (Globals vs ∷ ds) n i p h g root =
+      let k = parts (enter H (Globals vs)) (λ K. enter_all K ds) G h in roots k.0 G ds n i p k.2 g root
+  roots H G (Implementation j ∷ ds) n i p h g root =
+      let k = parts (enter H (Implementation j)) (λ K. enter_all K ds) G h in roots k.0 G ds n i p k.2 g root
+
+pub roots_are_procedures : RootsAreProcedures
+roots_are_procedures P i p w g root =
+    let G = typed_scope P w in
+    let r = roots P nothing G.0 P.decls 0 i p G.1 g root in
+    let place : 0 + i ≡ number_of P p.name = r.3 in
+    let here : 0 + i ≡ i = omega arith in
+    (r.2.0, r.2.1, sym here ∙ place)

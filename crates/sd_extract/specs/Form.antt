@@ -1,0 +1,78 @@
+-- The programs that are compared today: over truth values, without calls and loops.
+use Rattle.std.specs.Prelude.{◌≡◌, List, Option, Some, None}
+use Rattle.std.specs.List.{AllByRecursion}
+use Rattle.sd_base.specs.declared.Sort.{Bool as BoolSort}
+use Rattle.sd_base.specs.declared.Var.{Var}
+use Rattle.sd_ast.specs.declared.Expr.{Expr}
+use Rattle.sd_ast.specs.declared.ExprKind.{ExprKind, Num, Apply', Row_of-Expr, end_of-Expr, more_of-Expr}
+use Rattle.sd_ast.specs.declared.StmtKind.{StmtKind, Assert, Assume, Assign, If', Break, Return, Row_of-Stmt, end_of-Stmt, more_of-Stmt}
+use Rattle.sd_ast.specs.declared.Spec.{Spec}
+use Rattle.sd_ast.specs.declared.Spec.TheVariants.{Modifies, Requires, Ensures}
+use Rattle.sd_ast.specs.declared.Head.{Head}
+use Rattle.sd_ast.specs.declared.Body.{Body}
+use Rattle.sd_ast.specs.declared.Decl.{Decl}
+use Rattle.sd_ast.specs.declared.Decl.TheVariants.{Globals, Procedure, Implementation}
+use Rattle.sd_ast.specs.declared.Program.{Program}
+use Rattle.sd_ast.specs.Tree.{OldOf, UnaryOf, BinaryOf, SelectOf, StoreOf}
+
+abbrev pub AreTruths : List Var → Type 0
+AreTruths = AllByRecursion (λ x. x.sort ≡ BoolSort)
+
+-- no number stands in the expression
+abbrev mutual
+  pub HasNoNumber : ExprKind → Type 0
+  HasNoNumber (Num n) = ⊥
+  HasNoNumber (Apply' f shape args) = HaveNoNumber args
+  HasNoNumber (OldOf p e) = HasNoNumber e
+  HasNoNumber (UnaryOf op p a) = HasNoNumber a
+  HasNoNumber (BinaryOf op p a q b) = HasNoNumber a × HasNoNumber b
+  HasNoNumber (SelectOf p m q i) = HasNoNumber m × HasNoNumber i
+  HasNoNumber (StoreOf p m q i r v) = HasNoNumber m × HasNoNumber i × HasNoNumber v
+  HasNoNumber _ = Unit {0}
+
+  pub HaveNoNumber : {m : _} → Row_of-Expr m → Type 0
+  HaveNoNumber end_of-Expr = Unit {0}
+  HaveNoNumber (more_of-Expr p e es) = HasNoNumber e × HaveNoNumber es
+
+abbrev pub NoneHasNumber : List Expr → Type 0
+NoneHasNumber = AllByRecursion (λ e. HasNoNumber e.kind)
+
+-- no call, no loop and no number stands in the statement
+abbrev mutual
+  pub IsStraight : StmtKind → Type 0
+  IsStraight (Assert e) = HasNoNumber e.kind
+  IsStraight (Assume e) = HasNoNumber e.kind
+  IsStraight (Assign ls es) = AllByRecursion (λ l. NoneHasNumber l.indices) ls × NoneHasNumber es
+  IsStraight (If' e shape a shape' b) = HasNoNumber e.kind × AreStraight a × AreStraight b
+  IsStraight Break = Unit {0}
+  IsStraight Return = Unit {0}
+  IsStraight _ = ⊥
+
+  pub AreStraight : {m : _} → Row_of-Stmt m → Type 0
+  AreStraight end_of-Stmt = Unit {0}
+  AreStraight (more_of-Stmt p k ks) = IsStraight k × AreStraight ks
+
+abbrev pub IsStraightSpec : Spec → Type 0
+IsStraightSpec (Modifies names) = Unit {0}
+IsStraightSpec (Requires free e) = HasNoNumber e.kind
+IsStraightSpec (Ensures free e) = HasNoNumber e.kind
+
+abbrev pub IsStraightHead : Head → Type 0
+IsStraightHead h = AreTruths h.ins × AreTruths h.outs
+
+abbrev pub IsStraightBody : Body → Type 0
+IsStraightBody b = AreTruths b.locals × AllByRecursion (λ s. IsStraight s.kind) b.stmts
+
+abbrev pub MaybeStraightBody : Option Body → Type 0
+MaybeStraightBody None = Unit {0}
+MaybeStraightBody (Some b) = IsStraightBody b
+
+-- globals, procedures and implementations alone
+abbrev pub IsStraightDecl : Decl → Type 0
+IsStraightDecl (Globals vars) = AreTruths vars
+IsStraightDecl (Procedure p) = IsStraightHead p.head × AllByRecursion IsStraightSpec p.specs × MaybeStraightBody p.body
+IsStraightDecl (Implementation i) = IsStraightHead i.head × IsStraightBody i.body
+IsStraightDecl _ = ⊥
+
+abbrev pub IsStraightProgram : Program → Type 0
+IsStraightProgram P = AllByRecursion IsStraightDecl P.decls

@@ -1,0 +1,111 @@
+//! Calls, whose `requires` are checked on their arguments.
+ghost use Rattle.std.specs.Prelude.{◌≡◌, ◌++◌, length, map, IfOk, OnOk};
+ghost use Rattle.std.specs.Option.{option_copied};
+ghost use Rattle.sd_meaning.specs.Routine.{requires_of, procedure_in};
+ghost use Rattle.sd_core.specs.Run.{slots_from};
+ghost use Rattle.sd_extract.specs.Extract as spec;
+ghost use Rattle.sd_extract.specs.Scopes.{names_in, taken, call_with};
+ghost use Rattle.sd_extract.specs.Counted.{counts_in};
+ghost use Rattle.sd_extract.specs.Numbered.{program_of, number_of};
+
+use crate::callees::Callees;
+use crate::clause::push_requires;
+use crate::counts::{Counts, count_call, length_of, plus};
+use crate::expression::expressions;
+use crate::frame::{push_reads, push_slots, put};
+use crate::scope::Scope;
+use crate::table::{NameTable, push_names};
+use sd_ast::{Expr, Proc};
+use sd_base::{Name, NoMemory};
+use sd_core::{CoreStmt, Spot};
+use sqlite_items::Items;
+use std::alloc::Global;
+
+/// The `requires` of a procedure, on parameters that these spots hold. All are assumed, or those that are free.
+pub(crate) fn push_requires_on(
+    alloc: Global,
+    scope: &Scope,
+    callee: &Proc,
+    spots: &[Spot],
+    assumed: bool,
+    out: &mut Items<CoreStmt>,
+) -> Result<(), NoMemory>
+    ensures { OnOk result (out.new ≡ out.old ++ map (taken (spec.on_args (names_in scope.now) callee.now spots.now) assumed) (requires_of callee.now.specs)) }
+{
+    let mut names = Items::new(alloc);
+    push_names(alloc, &mut names, callee.head.ins.as_slice())?;
+    let table = NameTable::new(alloc, names)?;
+    let inner = Scope {
+        locals: &table,
+        places: spots,
+        globals: scope.globals,
+        current: scope.current,
+        first: scope.current,
+    };
+    push_requires(alloc, &inner, assumed, callee.specs.as_slice(), out)
+}
+
+/// The spots that receive the results of a call.
+fn receivers(alloc: Global, scope: &Scope, names: &[Name]) -> Result<Items<Spot>, NoMemory>
+    ensures { IfOk result (λ spots. spots ≡ map (spec.spot_of (names_in scope.now)) names.now) }
+{
+    let mut spots = Items::new(alloc);
+    for name in names {
+        spots.push(scope.target(name))?;
+    }
+    Ok(spots)
+}
+
+/// A call of a procedure with this number, whose arguments go to slots from the first one on.
+fn push_call(
+    alloc: Global,
+    scope: &Scope,
+    callee: &Proc,
+    number: u32,
+    first: u32,
+    names: &[Name],
+    args: &[Expr],
+    out: &mut Items<CoreStmt>,
+) -> Result<(), NoMemory>
+    ensures { OnOk result (out.new ≡ out.old ++ call_with (names_in scope.now) number (slots_from first args.now) names.now args.now callee.now) }
+{
+    let mut spots = Items::new(alloc);
+    push_slots(first, args.len(), &mut spots)?;
+    let copied = Items::from_slice(alloc, spots.as_slice())?;
+    put(copied, expressions(alloc, scope, args)?, out)?;
+    push_requires_on(alloc, scope, callee, spots.as_slice(), false, out)?;
+    let outs = receivers(alloc, scope, names)?;
+    let mut ins = Items::new(alloc);
+    push_reads(spots.as_slice(), &mut ins)?;
+    out.push(CoreStmt::Call(outs, number, ins))?;
+    Ok(())
+}
+
+/// A call, whose arguments go to the next hidden locals. What comes after the call counts from the result on.
+pub(crate) fn call(
+    alloc: Global,
+    callees: &Callees,
+    scope: &Scope,
+    at: Counts,
+    names: &[Name],
+    callee: &Name,
+    args: &[Expr],
+    out: &mut Items<CoreStmt>,
+) -> Result<Counts, NoMemory>
+    ensures out { OnOk result (out.new ≡ out.old ++ spec.call_of (names_in scope.now) (number_of callees.now) (slots_from at.args args.now) names.now callee.now args.now (procedure_in (program_of callees.now).decls callee.now)) }
+    ensures next { IfOk result (λ next. counts_in next ≡ spec.plus (counts_in at) (record { calls = 1; args = length args.now; lefts = 0; loops = 0 })) }
+{
+    if let Some(procedure) = callees.named(callee) {
+        push_call(
+            alloc,
+            scope,
+            procedure,
+            callees.number(callee),
+            at.args,
+            names,
+            args,
+            out,
+        )?;
+    }
+    plus(at, count_call(length_of(args)?))
+}
