@@ -32,3 +32,6 @@ mod table;
 
 pub use extraction::extract;
 pub use form::is_straight_program;
+
+#[cfg(test)]
+mod tests;

@@ -1,41 +1,33 @@
--- What the table of places tells of the procedures.
-use Rattle.std.proofs.Common.{◌≡◌, ◌∙◌, sym, ap, refl, ℕ, suc, ◌+◌, ◌-◌, ◌<◌, ◌≤◌, Bool, true, false, cond, List, [], ◌∷◌, length, get_or, drop, arith, nat_lt}
+-- What the table of places tells of the named things.
+use Rattle.std.proofs.Common.{◌≡◌, ◌∙◌, sym, ap, refl, ℕ, suc, ◌+◌, ◌-◌, ◌<◌, ◌≤◌, Bool, true, false, cond, List, [], ◌∷◌, length, get_or, drop, arith, nat_lt, map}
 use Rattle.std.proofs.lemmas.Bool.Decides.{nat_tests}
 use Rattle.std.proofs.Math.Seq.{drop-cons}
 use Rattle.std.specs.Prelude.{Option, Some, None, if◌then◌else◌}
 use Rattle.std.specs.Cmp.Lexicographic.{nat_list_eq_equiv}
 use Rattle.sd_base.specs.Value.{Text, same_text}
-use Rattle.sd_ast.specs.declared.Decl.{Decl}
-use Rattle.sd_ast.specs.declared.Decl.TheVariants.{Procedure}
-use Rattle.sd_ast.specs.declared.Proc.{Proc}
-use Rattle.sd_meaning.specs.Routine.{procedure_in}
-use Rattle.sd_match.specs.Places.{procedure_of, is_procedure_named, place_from}
-
-in_cons : (d : Decl) (ds : List Decl) (f : Text) → procedure_in (d ∷ ds) f ≡ (if is_procedure_named f d then procedure_of d else procedure_in ds f)
-in_cons (Procedure p) ds f = refl
-in_cons _ ds f = refl
-
-pub record Stands (n : ℕ) (ds : List Decl) (f : Text) (i : ℕ) (d : Decl) : Type 0 where
-  pub from : n ≤ i
-  pub within : i < n + length ds
-  pub is : procedure_of (get_or ds (i - n) d) ≡ procedure_in ds f
+use Rattle.sd_match.specs.Places.{place_from, first_named}
 
 some_is : (a b : ℕ) → ◌≡◌ {A = Option ℕ} (Some a) (Some b) → a ≡ b
 some_is a b e = cc
 
--- the procedure at the place is the one of the name
-pub place_stands : (n : ℕ) (ds : List Decl) (f : Text) (i : ℕ) (d : Decl) → place_from n ds f ≡ Some i → Stands n ds f i d
-place_stands n [] f i d e = absurd (cc)
-place_stands n (e ∷ ds) f i d found = go (is_procedure_named f e) refl found (λ h. place_stands (suc n) ds f i d h)
+pub record Stands {A : Type 0} (name : A → Text) (n : ℕ) (xs : List A) (f : Text) (i : ℕ) (d : A) : Type 0 where
+  pub from : n ≤ i
+  pub within : i < n + length xs
+  pub is : Some (get_or xs (i - n) d) ≡ first_named name xs f
+
+-- what stands at the place is the one of the name
+pub place_stands : {A : Type 0} (name : A → Text) (n : ℕ) (xs : List A) (f : Text) (i : ℕ) (d : A) → place_from n (map name xs) f ≡ Some i → Stands name n xs f i d
+place_stands name n [] f i d e = absurd (cc)
+place_stands {A} name n (x ∷ xs) f i d found = go (same_text f (name x)) refl found (λ h. place_stands name (suc n) xs f i d h)
   where
-    go : (b : Bool) → is_procedure_named f e ≡ b → (if b then Some n else place_from (suc n) ds f) ≡ Some i → (place_from (suc n) ds f ≡ Some i → Stands (suc n) ds f i d) → Stands n (e ∷ ds) f i d
+    go : (b : Bool) → same_text f (name x) ≡ b → (if b then Some n else place_from (suc n) (map name xs) f) ≡ Some i → (place_from (suc n) (map name xs) f ≡ Some i → Stands name (suc n) xs f i d) → Stands name n (x ∷ xs) f i d
     go true is here rest =
         let same : n ≡ i = some_is n i here in
         let none : i - n ≡ 0 = omega arith in
         record {
           from = omega arith;
           within = omega arith;
-          is = ap (λ k. procedure_of (get_or (e ∷ ds) k d)) none ∙ sym (in_cons e ds f ∙ ap (λ b. if b then procedure_of e else procedure_in ds f) is);
+          is = ap (λ k. Some (get_or (x ∷ xs) k d)) none ∙ sym (ap (λ b. if b then Some x else first_named name xs f) is);
         }
     go false is there rest =
         let s = rest there in
@@ -43,39 +35,38 @@ place_stands n (e ∷ ds) f i d found = go (is_procedure_named f e) refl found (
         record {
           from = omega (arith, s.from);
           within = omega (arith, s.within);
-          is = ap (λ k. procedure_of (get_or (e ∷ ds) k d)) one ∙ (s.is ∙ sym (in_cons e ds f ∙ ap (λ b. if b then procedure_of e else procedure_in ds f) is));
+          is = ap (λ k. Some (get_or (x ∷ xs) k d)) one ∙ (s.is ∙ sym (ap (λ b. if b then Some x else first_named name xs f) is));
         }
 
--- without a place there is no such procedure
-pub place_none : (n : ℕ) (ds : List Decl) (f : Text) → place_from n ds f ≡ None → procedure_in ds f ≡ None
-place_none n [] f e = refl
-place_none n (e ∷ ds) f none = go (is_procedure_named f e) refl none (λ h. place_none (suc n) ds f h)
+-- without a place there is no such thing
+pub place_none : {A : Type 0} (name : A → Text) (n : ℕ) (xs : List A) (f : Text) → place_from n (map name xs) f ≡ None → first_named name xs f ≡ None
+place_none name n [] f e = refl
+place_none name n (x ∷ xs) f none = go (same_text f (name x)) refl none (λ h. place_none name (suc n) xs f h)
   where
-    go : (b : Bool) → is_procedure_named f e ≡ b → (if b then Some n else place_from (suc n) ds f) ≡ None → (place_from (suc n) ds f ≡ None → procedure_in ds f ≡ None) → procedure_in (e ∷ ds) f ≡ None
+    go : (b : Bool) → same_text f (name x) ≡ b → (if b then Some n else place_from (suc n) (map name xs) f) ≡ None → (place_from (suc n) (map name xs) f ≡ None → first_named name xs f ≡ None) → first_named name (x ∷ xs) f ≡ None
     go true is h rest = absurd (let bad : ◌≡◌ {A = Option ℕ} (Some n) None = h in cc)
-    go false is h rest = in_cons e ds f ∙ (ap (λ b. if b then procedure_of e else procedure_in ds f) is ∙ rest h)
-
--- one declaration more at the front
-pub place_more : (place : ℕ) (ds : List Decl) (f : Text) (d : Decl) (next : ℕ) → next ≡ suc place → place < length ds → d ≡ get_or ds place d
-    → place_from place (drop place ds) f ≡ (if is_procedure_named f d then Some place else place_from next (drop next ds) f)
-place_more place ds f d next is within at =
-    ap (λ xs. place_from place xs f) (drop-cons ds place d within ∙ ap (λ x. x ∷ drop (suc place) ds) (sym at))
-    ∙ ap (λ n. if is_procedure_named f d then Some place else place_from n (drop n ds) f) (sym is)
+    go false is h rest = ap (λ b. if b then Some x else first_named name xs f) is ∙ rest h
 
 pub flip : (a b : Text) → same_text a b ≡ same_text b a
 flip a b = nat_list_eq_equiv.symm a b
 
--- what a declaration entered under its name does to the table at each name
-pub entered : (p : Proc) (place : ℕ) (name f : Text) (was now : Option ℕ) → name ≡ p.head.name → now ≡ cond (same_text name f) (Some place) was → now ≡ (if is_procedure_named f (Procedure p) then Some place else was)
-entered p place name f was now is updated = updated ∙ ap (λ b. cond b (Some place) was) (ap (λ n. same_text n f) is ∙ flip p.head.name f)
+-- one thing more at the front
+pub place_more : {A : Type 0} (name : A → Text) (place : ℕ) (xs : List A) (f : Text) (x : A) (next : ℕ) (was now : Option ℕ) → next ≡ suc place → place < length xs → x ≡ get_or xs place x
+    → now ≡ cond (same_text (name x) f) (Some place) was → was ≡ place_from next (map name (drop next xs)) f → now ≡ place_from place (map name (drop place xs)) f
+place_more name place xs f x next was now is within at updated before =
+    updated ∙ ap (λ b. cond b (Some place) was) (flip (name x) f) ∙ ap (λ o. if same_text f (name x) then Some place else o) (before ∙ ap (λ n. place_from n (map name (drop n xs)) f) is)
+    ∙ sym (ap (λ ys. place_from place (map name ys) f) (drop-cons xs place x within ∙ ap (λ y. y ∷ drop (suc place) xs) (sym at)))
 
--- a place is within the declarations
-pub place_within : (n : ℕ) (ds : List Decl) (f : Text) (i : ℕ) → place_from n ds f ≡ Some i → i < n + length ds
-place_within n [] f i e = absurd (cc)
-place_within n (e ∷ ds) f i found = (place_stands n (e ∷ ds) f i e found).within
+pub found_is : {A : Type 0} (name : A → Text) (xs : List A) (f : Text) (i : ℕ) (d : A) → place_from 0 (map name xs) f ≡ Some i → d ≡ get_or xs i d → Some d ≡ first_named name xs f
+found_is name xs f i d found at = let none : i - 0 ≡ i = omega arith in ap Some at ∙ (ap (λ k. Some (get_or xs k d)) (sym none) ∙ (place_stands name 0 xs f i d found).is)
 
-pub place_not_past : (ds : List Decl) (f : Text) (i : ℕ) → place_from 0 ds f ≡ Some i → false ≡ nat_lt i (length ds) → ⊥
-place_not_past ds f i found past = let h : i < 0 + length ds = place_within 0 ds f i found in let k : i < length ds = omega arith in grind (arith, nat_tests)
+pub place_within : {A : Type 0} (name : A → Text) (xs : List A) (f : Text) (i : ℕ) → place_from 0 (map name xs) f ≡ Some i → i < length xs
+place_within name [] f i found = absurd (let bad : ◌≡◌ {A = Option ℕ} None (Some i) = found in cc)
+place_within name (x ∷ xs) f i found = let h : i < 0 + length (x ∷ xs) = (place_stands name 0 (x ∷ xs) f i x found).within in omega arith
 
-pub found_is : (ds : List Decl) (f : Text) (i : ℕ) (d : Decl) → place_from 0 ds f ≡ Some i → d ≡ get_or ds i d → procedure_of d ≡ procedure_in ds f
-found_is ds f i d found at = let none : i - 0 ≡ i = omega arith in ap procedure_of at ∙ (ap (λ k. procedure_of (get_or ds k d)) (sym none) ∙ (place_stands 0 ds f i d found).is)
+pub found_at : {A : Type 0} (name : A → Text) (xs : List A) (f : Text) (i : ℕ) (d : A) → place_from 0 (map name xs) f ≡ Some i → Some (get_or xs i d) ≡ first_named name xs f
+found_at name xs f i d found = let none : i - 0 ≡ i = omega arith in ap (λ k. Some (get_or xs k d)) (sym none) ∙ (place_stands name 0 xs f i d found).is
+
+-- a place is within the list
+pub place_not_past : {A : Type 0} (name : A → Text) (xs : List A) (f : Text) (i : ℕ) → place_from 0 (map name xs) f ≡ Some i → false ≡ nat_lt i (length xs) → ⊥
+place_not_past name xs f i found past = let k : i < length xs = place_within name xs f i found in grind (arith, nat_tests)

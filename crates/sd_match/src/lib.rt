@@ -1,6 +1,8 @@
-//! Which procedures of two programs belong together.
+//! Which procedures and globals of two programs belong together.
 #![tactic(auto)]
 
 mod procedures;
+mod shared;
 
-pub use procedures::{Procedures, procedure_of};
+pub use procedures::Procedures;
+pub use shared::shared_globals;

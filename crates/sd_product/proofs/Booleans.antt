@@ -1,25 +1,28 @@
 -- The facts of a query are well-sorted, and about truth values alone.
-use Rattle.std.proofs.Common.{◌≡◌, ℕ, zero, suc, List, [], ◌∷◌, ◌++◌, length, refl, sym, subst, ◌∙◌}
+use Rattle.std.proofs.Common.{◌≡◌, ℕ, suc, ◌+◌, List, [], ◌∷◌, ◌++◌, length, get_or, refl, sym, subst, ◌∙◌}
 use Rattle.std.specs.Prelude.{Bool, true, false, Option, Some, None, if◌then◌else◌}
 use Rattle.std.specs.List.{AllByRecursion}
 use Rattle.sd_base.specs.declared.Sort.{Sort, Bool as BoolSort}
 use Rattle.sd_base.specs.declared.Var.{Var}
-use Rattle.sd_ast.specs.declared.Proc.{Proc}
-use Rattle.sd_ast.specs.Boolean.{AreBooleanVars, IsBooleanProc}
+use Rattle.sd_core.specs.declared.Shared.{Shared}
+use Rattle.sd_core.specs.Formed.{sorts_of}
+use Rattle.sd_core.specs.Failure.{shared_of}
+use Rattle.sd_core.specs.Straight.{AreTruths}
 use Rattle.sd_term.specs.declared.node.Head.{Head}
 use Rattle.sd_term.specs.declared.node.Head.TheVariants.{Sym, Start}
 use Rattle.sd_term.specs.Heads.{True, False, Not, And, Or, Ite}
 use Rattle.sd_term.specs.Tree.{Tree, leaf, call, head_of, parts_of, tree}
-use Rattle.sd_term.specs.Sorts.{sort_of, same_sort, is_truth_valued, AllWellSorted}
+use Rattle.sd_term.specs.Sorts.{sort_of, same_sort, is_truth_valued, IsWellSorted, AllWellSorted}
 use Rattle.sd_term.specs.Build.{part_or, not_by, not_of, constant_of, and_by, and_of, or_by, or_of, ite_by, ite_of, eq_of}
-use Rattle.sd_term.proofs.BuildSorts.{eq-well}
-use Rattle.sd_kernel.specs.OpenCube.{IsBooleanHead, PartsBoolean, IsBoolean, AllBoolean}
-use Rattle.sd_vcgen.specs.Body.{constant, starting, flag_of}
-use Rattle.sd_vcgen.proofs.Keep.{Closed, AllHold}
-use Rattle.sd_vcgen.proofs.Sorted.{flag_of-keeps, IsSortedTruth, sorted_truths, starting-sorted}
+use Rattle.sd_term.proofs.BuildSorts.{not-sort, and-sort, or-sort, ite-sort, not-well, and-well, or-well, eq-well, ite-well}
+use Rattle.sd_kernel.specs.OpenCube.{PartsBoolean, IsBoolean, AllBoolean}
+use Rattle.sd_vcgen.specs.Body.{State, constant, nothing}
 use Rattle.sd_product.specs.declared.pair.Candidate.{Candidate}
 use Rattle.sd_product.specs.declared.pair.Candidate.TheVariants.{NoCondition, EqualInputs}
-use Rattle.sd_product.specs.Query.{symbols, old_inputs, new_inputs, equalities, conditions, claim, query_of}
+use Rattle.sd_product.specs.Query.{Side, symbols, ins_from, globals_from, count_of, body_from, equalities, shared_equalities, conditions_on, conditions, claim, denial, query_of}
+use Rattle.sd_product.specs.Laws.{IsSide}
+use Rattle.sd_product.proofs.Keep.{Closed, Holds, all-append, get-keeps, state_truths, body-keeps}
+use Rattle.sd_product.proofs.Sides.{side_straight, side_formed}
 
 -- ---- building over truth values
 
@@ -102,38 +105,69 @@ eq-boolean a b wa wb = (((tt, wa), wb), tt)
 booleans : Closed IsBoolean
 booleans = record { constants = constant-boolean; nots = not-boolean; ands = and-boolean; ors = or-boolean; eqs = eq-boolean; ites = ite-boolean }
 
-starting-boolean : (vars : List Var) → AreBooleanVars vars → AllHold IsBoolean (starting vars)
-starting-boolean [] h = tt
-starting-boolean (x ∷ xs) h = ((tt, subst (λ (s : Sort). IsBooleanHead (Start s) []) (sym h.0) tt), starting-boolean xs h.1)
+abbrev IsSortedTruth : Tree → Type 0
+IsSortedTruth t = IsWellSorted t × (sort_of t ≡ BoolSort)
+
+constant-sorted : (b : Bool) → IsSortedTruth (constant b)
+constant-sorted true = ((tt, refl), refl)
+constant-sorted false = ((tt, refl), refl)
+
+sorted_truths : Closed IsSortedTruth
+sorted_truths = record {
+  constants = constant-sorted;
+  nots = λ a h. (not-well a h.0 h.1, not-sort a);
+  ands = λ a b h k. (and-well a b h.0 k.0 h.1 k.1, and-sort a b);
+  ors = λ a b h k. (or-well a b h.0 k.0 h.1 k.1, or-sort a b);
+  eqs = λ a b h k. (eq-well a b h.0 k.0 (h.1 ∙ sym k.1), refl);
+  ites = λ c a b h k l. (ite-well c a b h.0 k.0 l.0 h.1 (k.1 ∙ sym l.1), ite-sort c a b ∙ k.1);
+}
 
 -- ---- queries
 
-module _ (K : Tree → Type 0) (c : Closed K) (syms : (k : ℕ) → K (leaf (Sym k BoolSort))) (starts : (vars : List Var) → AreBooleanVars vars → AllHold K (starting vars)) where
-  pub symbols-keep : (k n : ℕ) → AllByRecursion K (symbols k n)
-  symbols-keep k zero = tt
-  symbols-keep k (suc n) = (syms k, symbols-keep (suc k) n)
+module _ (K : Tree → Type 0) (c : Closed K) (syms : (k : ℕ) → K (leaf (Sym k BoolSort))) (start : K (leaf (Start BoolSort))) where
+  symbols-keep : (k : ℕ) (xs : List Var) → AreTruths xs → AllByRecursion K (symbols k (sorts_of xs))
+  symbols-keep k [] h = tt
+  symbols-keep k (x ∷ xs) h = (subst (λ (s : Sort). K (leaf (Sym k s))) (sym h.0) (syms k), symbols-keep (suc k) xs h.1)
+
+  ins-keep : (k : ℕ) (a : Side) → IsSide a → AllByRecursion K (ins_from k a)
+  ins-keep k a h = symbols-keep k a.proc.ins (side_straight a h).ins
+
+  globals-keep : (k : ℕ) (a : Side) → IsSide a → AllByRecursion K (globals_from k a)
+  globals-keep k a h = symbols-keep (k + length a.proc.ins) a.program.globals h.taken.straight.globals
+
+  side-keeps : (k : ℕ) (a : Side) → IsSide a → Holds K (body_from k a)
+  side-keeps k a h =
+      let truths = state_truths a.program a.proc h.taken.straight.globals (side_straight a h) in
+      body-keeps K c a.program a.proc h.taken.straight.functions truths start (ins_from k a) (globals_from k a) (side_straight a h) (side_formed a h) (ins-keep k a h) (globals-keep k a h)
 
   equalities-keep : (xs ys : List Tree) → AllByRecursion K xs → AllByRecursion K ys → AllByRecursion K (equalities xs ys)
   equalities-keep [] ys h k = tt
   equalities-keep (x ∷ xs) [] h k = tt
   equalities-keep (x ∷ xs) (y ∷ ys) h k = (c.eqs x y h.0 k.0, equalities-keep xs ys h.1 k.1)
 
-  conditions-keep : (d : Candidate) (xs ys : List Tree) → AllByRecursion K xs → AllByRecursion K ys → AllByRecursion K (conditions d xs ys)
-  conditions-keep NoCondition xs ys h k = tt
-  conditions-keep EqualInputs xs ys h k = equalities-keep xs ys h k
+  shared-keep : (olds news : List Tree) (shared : List Shared) → AllByRecursion K olds → AllByRecursion K news → AllByRecursion K (shared_equalities olds news shared)
+  shared-keep olds news [] h k = tt
+  shared-keep olds news (s ∷ ss) h k =
+      (c.eqs (get_or olds s.old nothing) (get_or news s.new nothing) (get-keeps K c olds s.old h) (get-keeps K c news s.new k), shared-keep olds news ss h k)
 
-  all-last : (ts : List Tree) (t : Tree) → AllByRecursion K ts → K t → AllByRecursion K (ts ++ t ∷ [])
-  all-last [] t a w = (w, tt)
-  all-last (u ∷ ts) t a w = (a.0, all-last ts t a.1 w)
+  conditions-keep : (d : Candidate) (ins ins' globals globals' : List Tree) (shared : List Shared) → AllByRecursion K ins → AllByRecursion K ins' → AllByRecursion K globals → AllByRecursion K globals' → AllByRecursion K (conditions_on d ins ins' globals globals' shared)
+  conditions-keep NoCondition ins ins' globals globals' shared h h' k k' = tt
+  conditions-keep EqualInputs ins ins' globals globals' shared h h' k k' =
+      all-append K (equalities ins ins') (shared_equalities globals globals' shared) (equalities-keep ins ins' h h') (shared-keep globals globals' shared k k')
 
-  query-keeps : (d : Candidate) (p q : Proc) → IsBooleanProc p → IsBooleanProc q → AllByRecursion K (query_of d p q)
-  query-keeps d p q hp hq =
-      let xs = symbols-keep 0 (length p.head.ins) in
-      let ys = symbols-keep (length p.head.ins) (length q.head.ins) in
-      let old = flag_of-keeps K c starts (old_inputs p) xs p hp in
-      let new = flag_of-keeps K c starts (new_inputs p q) ys q hq in
-      let claimed = c.ors (not_of (flag_of (new_inputs p q) q)) (flag_of (old_inputs p) p) (c.nots (flag_of (new_inputs p q) q) new) old in
-      all-last (conditions d (old_inputs p) (new_inputs p q)) _ (conditions-keep d (old_inputs p) (new_inputs p q) xs ys) (c.nots (claim (flag_of (old_inputs p) p) (flag_of (new_inputs p q) q)) claimed)
+  denial-keeps : (old new : State) → Holds K old → Holds K new → AllByRecursion K (denial old new)
+  denial-keeps old new h k =
+      let claimed = c.ors (not_of new.flag) old.flag (c.nots new.flag k.flag) h.flag in
+      let last = c.nots (claim old.flag new.flag) claimed in
+      all-append K old.assumes _ h.assumes (all-append K new.assumes (_ ∷ []) k.assumes (last, tt))
+
+  query-keeps : (d : Candidate) (a b : Side) → IsSide a → IsSide b → AllByRecursion K (query_of d a b)
+  query-keeps d a b h k =
+      let m = count_of a in
+      let first = conditions-keep d (ins_from 0 a) (ins_from m b) (globals_from 0 a) (globals_from m b) (shared_of a.program.globals b.program.globals)
+      (ins-keep 0 a h) (ins-keep m b k) (globals-keep 0 a h) (globals-keep m b k) in
+      all-append K (conditions d a b) (denial (body_from 0 a) (body_from m b)) first
+      (denial-keeps (body_from 0 a) (body_from m b) (side-keeps 0 a h) (side-keeps m b k))
 
 all-boolean : (ts : List Tree) → AllByRecursion IsBoolean ts → AllBoolean ts
 all-boolean [] h = tt
@@ -143,15 +177,8 @@ all-sorted : (ts : List Tree) → AllByRecursion IsSortedTruth ts → AllWellSor
 all-sorted [] h = tt
 all-sorted (t ∷ ts) h = (h.0.0, all-sorted ts h.1)
 
-pub query-boolean : (d : Candidate) (p q : Proc) → IsBooleanProc p → IsBooleanProc q → AllBoolean (query_of d p q)
-query-boolean d p q hp hq =
-    all-boolean (query_of d p q) (query-keeps IsBoolean booleans (λ k. (tt, tt)) starting-boolean d p q hp hq)
+pub query-boolean : (c : Candidate) (a b : Side) → IsSide a → IsSide b → AllBoolean (query_of c a b)
+query-boolean c a b h k = all-boolean (query_of c a b) (query-keeps IsBoolean booleans (λ n. (tt, tt)) (tt, tt) c a b h k)
 
-pub query-sorted : (d : Candidate) (p q : Proc) → IsBooleanProc p → IsBooleanProc q → AllWellSorted (query_of d p q)
-query-sorted d p q hp hq =
-    all-sorted (query_of d p q) (query-keeps IsSortedTruth sorted_truths (λ k. ((tt, refl), refl)) starting-sorted d p q hp hq)
-
--- the symbols of inputs are truth-valued
-pub symbols-truths : (k n : ℕ) → AllByRecursion (λ t. sort_of t ≡ BoolSort) (symbols k n)
-symbols-truths k zero = tt
-symbols-truths k (suc n) = (refl, symbols-truths (suc k) n)
+pub query-sorted : (c : Candidate) (a b : Side) → IsSide a → IsSide b → AllWellSorted (query_of c a b)
+query-sorted c a b h k = all-sorted (query_of c a b) (query-keeps IsSortedTruth sorted_truths (λ n. ((tt, refl), refl)) ((tt, refl), refl) c a b h k)

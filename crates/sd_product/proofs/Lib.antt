@@ -1,6 +1,7 @@
-pub mod Booleans
-pub mod Programs
-pub mod Failures
-pub mod Pairs
 pub mod Numbers
-pub mod Example
+pub mod Sides
+pub mod Keep
+pub mod Booleans
+pub mod Failures
+pub mod SortLists
+pub mod Pairs

@@ -1,26 +1,18 @@
 -- Lists of numbers over a bank that grows.
-use Rattle.std.proofs.Common.{◌≡◌, ℕ, zero, suc, ◌+◌, ◌<◌, List, [], ◌∷◌, ◌++◌, length, take, get_or, All, refl, sym, ap, ◌∙◌, subst, arith}
+use Rattle.std.proofs.Common.{◌≡◌, ℕ, zero, suc, ◌+◌, ◌<◌, ◌≤◌, List, [], ◌∷◌, ◌++◌, length, take, get_or, All, refl, sym, ap, ◌∙◌, subst, arith}
 use Rattle.std.specs.Prelude.{map}
-use Rattle.sd_base.specs.declared.Sort.{Bool as BoolSort}
-use Rattle.sd_ast.specs.declared.Proc.{Proc}
+use Rattle.sd_base.specs.declared.Sort.{Sort}
+use Rattle.sd_base.specs.declared.Var.{Var}
+use Rattle.sd_core.specs.declared.Shared.{Shared}
+use Rattle.sd_core.specs.Formed.{sorts_of}
 use Rattle.sd_term.specs.declared.node.Head.TheVariants.{Sym}
 use Rattle.sd_term.specs.Tree.{Tree, leaf}
 use Rattle.sd_term.specs.Bank.{tree_at}
-use Rattle.sd_term.specs.Build.{Extends, not_of, or_of, eq_of}
-use Rattle.sd_vcgen.specs.Body.{flag_of}
-use Rattle.sd_vcgen.specs.Numbers.{Denotes}
-use Rattle.sd_vcgen.proofs.Numbers.{below_later}
-use Rattle.sd_product.specs.declared.pair.Candidate.{Candidate}
-use Rattle.sd_product.specs.Numbers.{DenoteAll}
-use Rattle.sd_product.specs.Query.{symbols, old_inputs, new_inputs, equalities, conditions, claim, query_of}
-
-pub all_later : (a b : List Tree) (ids : List ℕ) → Extends a b → All (λ id. id < length a) ids → All (λ id. id < length b) ids
-all_later a b ids h all = λ k d lt. below_later a b _ h (all k d lt)
-
-pub map_later : (a b : List Tree) (ids : List ℕ) → Extends a b → All (λ id. id < length a) ids → map (tree_at b) ids ≡ map (tree_at a) ids
-map_later a b [] h all = refl
-map_later a b (i ∷ ids) h all =
-    λ j. h.kept i (all 0 0 (omega arith)) j ∷ map_later a b ids h (λ k d lt. all (suc k) d (omega (arith, lt))) j
+use Rattle.sd_term.specs.Build.{Extends, eq_of}
+use Rattle.sd_vcgen.specs.Body.{nothing}
+use Rattle.sd_vcgen.specs.Numbers.{Denotes, DenoteAll}
+use Rattle.sd_vcgen.proofs.Numbers.{denote_all_later}
+use Rattle.sd_product.specs.Query.{symbols, equalities, shared_equalities}
 
 all_snoc : (P : ℕ → Type 0) (ids : List ℕ) (id : ℕ) → All P ids → P id → All P (ids ++ id ∷ [])
 all_snoc P [] id all p zero d lt = p
@@ -32,42 +24,62 @@ map_snoc : (f : ℕ → Tree) (ids : List ℕ) (id : ℕ) → map f (ids ++ id �
 map_snoc f [] id = refl
 map_snoc f (i ∷ ids) id = ap (λ (l : List Tree). f i ∷ l) (map_snoc f ids id)
 
-pub denote_later : (a b : List Tree) (ids : List ℕ) (ts : List Tree) → Extends a b → DenoteAll a ids ts → DenoteAll b ids ts
-denote_later a b ids ts h d = record { within = all_later a b ids h d.within; trees = map_later a b ids h d.within ∙ d.trees }
-
 -- one more
 pub pushed : (a b : List Tree) (ids more : List ℕ) (ts : List Tree) (id : ℕ) (t : Tree) → Extends a b → DenoteAll a ids ts → id < length b → tree_at b id ≡ t → more ≡ ids ++ id ∷ [] → DenoteAll b more (ts ++ t ∷ [])
 pushed a b ids more ts id t h d lt is e =
-    let l = denote_later a b ids ts h d in
+    let l = denote_all_later a b ids ts h d in
     let all : DenoteAll b (ids ++ id ∷ []) (ts ++ t ∷ []) = record {
       within = all_snoc (λ i. i < length b) ids id l.within lt;
       trees = map_snoc (tree_at b) ids id ∙ (λ i. l.trees i ++ is i ∷ []);
     } in
     subst (λ (is : List ℕ). DenoteAll b is (ts ++ t ∷ [])) (sym e) all
 
-map_length : (f : ℕ → Tree) (ids : List ℕ) → length (map f ids) ≡ length ids
-map_length f [] = refl
-map_length f (i ∷ ids) = ap suc (map_length f ids)
+all_append : (P : ℕ → Type 0) (xs ys : List ℕ) → All P xs → All P ys → All P (xs ++ ys)
+all_append P [] ys h k i d lt = k i d lt
+all_append P (x ∷ xs) ys h k zero d lt = h 0 d (omega arith)
+all_append P (x ∷ xs) ys h k (suc i) d lt = all_append P xs ys (λ j e l. h (suc j) e (omega (arith, l))) k i d (omega (arith, lt))
 
-symbols_length : (k n : ℕ) → length (symbols k n) ≡ n
-symbols_length k zero = refl
-symbols_length k (suc n) = ap suc (symbols_length (suc k) n)
+map_append : (f : ℕ → Tree) (xs ys : List ℕ) → map f (xs ++ ys) ≡ map f xs ++ map f ys
+map_append f [] ys = refl
+map_append f (x ∷ xs) ys = ap (λ (l : List Tree). f x ∷ l) (map_append f xs ys)
+
+-- some more
+pub appended : (bank : List Tree) (xs ys all : List ℕ) (ts us : List Tree) → DenoteAll bank xs ts → DenoteAll bank ys us → all ≡ xs ++ ys → DenoteAll bank all (ts ++ us)
+appended bank xs ys all ts us d e is =
+    subst (λ (zs : List ℕ). DenoteAll bank zs (ts ++ us)) (sym is) (record {
+      within = all_append (λ i. i < length bank) xs ys d.within e.within;
+      trees = map_append (tree_at bank) xs ys ∙ (λ i. d.trees i ++ e.trees i);
+    })
+
+pub item_within : (bank : List Tree) (ids : List ℕ) (i x : ℕ) → All (λ id. id < length bank) ids → i < length ids → x ≡ get_or ids i x → x < length bank
+item_within bank ids i x all lt e = subst (λ (k : ℕ). k < length bank) (sym e) (all i x lt)
 
 -- ---- symbols
 
-pub symbols_count : (bank : List Tree) (ids : List ℕ) (k n : ℕ) → DenoteAll bank ids (symbols k n) → length ids ≡ n
-symbols_count bank ids k n d = sym (map_length (tree_at bank) ids) ∙ ap length d.trees ∙ symbols_length k n
+symbols_suc : (k : ℕ) (vars : List Var) (i : ℕ) (x : Var) → i < length vars → x ≡ get_or vars i x → symbols k (sorts_of (take (suc i) vars)) ≡ symbols k (sorts_of (take i vars)) ++ leaf (Sym (k + i) x.sort) ∷ []
+symbols_suc k [] i x lt e = absurd (omega (arith, lt))
+symbols_suc k (v ∷ vars) zero x lt e =
+    let n : k ≡ k + 0 = omega arith in λ j. leaf (Sym (n j) (sym e j).sort) ∷ []
+symbols_suc k (v ∷ vars) (suc i) x lt e =
+    let n : suc k + i ≡ k + suc i = omega arith in
+    ap (λ (l : List Tree). leaf (Sym k v.sort) ∷ l) (symbols_suc (suc k) vars i x (omega (arith, lt)) e ∙ ap (λ (m : ℕ). symbols (suc k) (sorts_of (take i vars)) ++ leaf (Sym m x.sort) ∷ []) n)
 
-symbols_suc : (k n : ℕ) → symbols k (suc n) ≡ symbols k n ++ leaf (Sym (k + n) BoolSort) ∷ []
-symbols_suc k zero =
-    let e : k ≡ k + 0 = omega arith in ap (λ (m : ℕ). leaf (Sym m BoolSort) ∷ []) e
-symbols_suc k (suc n) =
-    let e : suc k + n ≡ k + suc n = omega arith in
-    ap (λ (l : List Tree). leaf (Sym k BoolSort) ∷ l) (symbols_suc (suc k) n ∙ ap (λ (m : ℕ). symbols (suc k) n ++ leaf (Sym m BoolSort) ∷ []) e)
+pub symbols_more : (k : ℕ) (vars : List Var) (i : ℕ) (x : Var) (s : Sort) → s ≡ x.sort → i < length vars → x ≡ get_or vars i x → symbols k (sorts_of (take i vars)) ++ leaf (Sym (k + i) s) ∷ [] ≡ symbols k (sorts_of (take (i + 1) vars))
+symbols_more k vars i x s is lt e =
+    let n : suc i ≡ i + 1 = omega arith in
+    ap (λ (r : Sort). symbols k (sorts_of (take i vars)) ++ leaf (Sym (k + i) r) ∷ []) is ∙ sym (symbols_suc k vars i x lt e) ∙ ap (λ (m : ℕ). symbols k (sorts_of (take m vars))) n
 
-pub symbols_more : (k n : ℕ) → symbols k n ++ leaf (Sym (k + n) BoolSort) ∷ [] ≡ symbols k (n + 1)
-symbols_more k n =
-    let e : suc n ≡ n + 1 = omega arith in sym (symbols_suc k n) ∙ ap (symbols k) e
+symbols_length : (k : ℕ) (ss : List Sort) → length (symbols k ss) ≡ length ss
+symbols_length k [] = refl
+symbols_length k (s ∷ ss) = ap suc (symbols_length (suc k) ss)
+
+map_length : {A B : Type 0} (f : A → B) (xs : List A) → length (map f xs) ≡ length xs
+map_length f [] = refl
+map_length f (x ∷ xs) = ap suc (map_length f xs)
+
+-- as many numbers as variables
+pub symbols_count : (bank : List Tree) (ids : List ℕ) (k : ℕ) (ss : List Sort) → DenoteAll bank ids (symbols k ss) → length ids ≡ length ss
+symbols_count bank ids k ss d = sym (map_length (tree_at bank) ids) ∙ ap length d.trees ∙ symbols_length k ss
 
 -- ---- equalities
 
@@ -85,33 +97,23 @@ equalities_more f xs ys i x y e lt ex ey =
     let n : suc i ≡ i + 1 = omega arith in
     sym (equalities_suc f xs ys i x y e lt ex ey) ∙ ap (λ (k : ℕ). equalities (map f (take k xs)) (map f (take k ys))) n
 
-pub item_within : (bank : List Tree) (ids : List ℕ) (i x : ℕ) → All (λ id. id < length bank) ids → i < length ids → x ≡ get_or ids i x → x < length bank
-item_within bank ids i x all lt e = subst (λ (k : ℕ). k < length bank) (sym e) (all i x lt)
+shared_suc : (olds news : List Tree) (shared : List Shared) (i : ℕ) (x : Shared) → i < length shared → x ≡ get_or shared i x
+    → shared_equalities olds news (take (suc i) shared) ≡ shared_equalities olds news (take i shared) ++ eq_of (get_or olds x.old nothing) (get_or news x.new nothing) ∷ []
+shared_suc olds news [] i x lt e = absurd (omega (arith, lt))
+shared_suc olds news (s ∷ shared) zero x lt e = λ j. eq_of (get_or olds (sym e j).old nothing) (get_or news (sym e j).new nothing) ∷ []
+shared_suc olds news (s ∷ shared) (suc i) x lt e =
+    ap (λ (l : List Tree). eq_of (get_or olds s.old nothing) (get_or news s.new nothing) ∷ l) (shared_suc olds news shared i x (omega (arith, lt)) e)
+
+pub shared_more : (olds news : List Tree) (shared : List Shared) (i : ℕ) (x : Shared) → i < length shared → x ≡ get_or shared i x
+    → shared_equalities olds news (take i shared) ++ eq_of (get_or olds x.old nothing) (get_or news x.new nothing) ∷ [] ≡ shared_equalities olds news (take (i + 1) shared)
+shared_more olds news shared i x lt e =
+    let n : suc i ≡ i + 1 = omega arith in
+    sym (shared_suc olds news shared i x lt e) ∙ ap (λ (k : ℕ). shared_equalities olds news (take k shared)) n
 
 -- ---- the facts
 
-pub denial_is : (a b c d e : List Tree) (xs ys : List ℕ) (p q : Proc) (old new claimed denial : ℕ) → Extends a b → Extends b c → All (λ id. id < length a) ys → Denotes b old (flag_of (map (tree_at a) xs) p) → Denotes c new (flag_of (map (tree_at b) ys) q)
-    → tree_at d claimed ≡ or_of (not_of (tree_at c new)) (tree_at c old) → tree_at e denial ≡ not_of (tree_at d claimed)
-    → tree_at e denial ≡ not_of (claim (flag_of (map (tree_at a) xs) p) (flag_of (map (tree_at a) ys) q))
-denial_is a b c d e xs ys p q old new claimed denial ab bc all o n cl de =
-    let o' : tree_at c old ≡ flag_of (map (tree_at a) xs) p = bc.kept old o.within ∙ o.tree in
-    let n' : tree_at c new ≡ flag_of (map (tree_at a) ys) q = n.tree ∙ ap (λ (ts : List Tree). flag_of ts q) (map_later a b ys ab all) in
-    de ∙ ap not_of (cl ∙ (λ i. or_of (not_of (n' i)) (o' i)))
-
-pub facts_are : (b c d : List Tree) (xs ys facts more : List ℕ) (denial : ℕ) (k : Candidate) (p q : Proc) → DenoteAll b xs (old_inputs p) → DenoteAll b ys (new_inputs p q) → Extends b c → Extends c d
-    → DenoteAll c facts (conditions k (map (tree_at b) xs) (map (tree_at b) ys)) → Denotes d denial (not_of (claim (flag_of (map (tree_at c) xs) p) (flag_of (map (tree_at c) ys) q))) → more ≡ facts ++ denial ∷ [] → DenoteAll d more (query_of k p q)
-facts_are b c d xs ys facts more denial k p q dx dy bc cd df dd e =
-    let x' = denote_later b c xs (old_inputs p) bc dx in
-    let y' = denote_later b c ys (new_inputs p q) bc dy in
-    let is : conditions k (map (tree_at b) xs) (map (tree_at b) ys) ++ not_of (claim (flag_of (map (tree_at c) xs) p) (flag_of (map (tree_at c) ys) q)) ∷ [] ≡ query_of k p q =
-    λ i. conditions k (dx.trees i) (dy.trees i) ++ not_of (claim (flag_of (x'.trees i) p) (flag_of (y'.trees i) q)) ∷ [] in
-    subst (DenoteAll d more) is (pushed c d facts more _ denial _ cd df dd.within dd.tree e)
-
-pub old_are : (bank : List Tree) (ids slice : List ℕ) (n : ℕ) (p : Proc) → slice ≡ ids → n ≡ length p.head.ins → DenoteAll bank ids (symbols 0 n) → DenoteAll bank slice (old_inputs p)
-old_are bank ids slice n p s e d =
-    subst (λ (k : ℕ). DenoteAll bank slice (symbols 0 k)) e (subst (λ (l : List ℕ). DenoteAll bank l (symbols 0 n)) (sym s) d)
-
-pub new_are : (bank : List Tree) (ids slice : List ℕ) (n : ℕ) (p q : Proc) → slice ≡ ids → n ≡ length p.head.ins → length p.head.ins ≡ length q.head.ins → DenoteAll bank ids (symbols n n) → DenoteAll bank slice (new_inputs p q)
-new_are bank ids slice n p q s e same d =
-    subst (λ (k : ℕ). DenoteAll bank slice (symbols (length p.head.ins) k)) (e ∙ same)
-    (subst (λ (k : ℕ). DenoteAll bank slice (symbols k n)) e (subst (λ (l : List ℕ). DenoteAll bank l (symbols n n)) (sym s) d))
+-- conditions, assumptions of both sides and the denial, one list after another
+pub regroup : {A : Type 0} (cs xs ys : List A) (d : A) → ((cs ++ xs) ++ ys) ++ d ∷ [] ≡ cs ++ (xs ++ (ys ++ d ∷ []))
+regroup [] [] ys d = refl
+regroup {A} [] (x ∷ xs) ys d = ap (λ (l : List A). x ∷ l) (regroup [] xs ys d)
+regroup {A} (c ∷ cs) xs ys d = ap (λ (l : List A). c ∷ l) (regroup cs xs ys d)

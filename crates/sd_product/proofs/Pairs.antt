@@ -1,16 +1,10 @@
--- The pairs of two programs, one declaration after another.
-use Rattle.std.proofs.Common.{◌≡◌, ◌∙◌, sym, ap, refl, subst, ℕ, suc, zero, ◌+◌, ◌<◌, Bool, true, false, List, [], ◌∷◌, ◌++◌, length, take, get_or, arith}
-use Rattle.std.specs.Prelude.{Option, None, Some, if◌then◌else◌}
+-- The pairs of two programs, one procedure after another.
+use Rattle.std.proofs.Common.{◌≡◌, ◌∙◌, sym, ap, refl, ℕ, suc, zero, ◌+◌, ◌<◌, List, [], ◌∷◌, ◌++◌, length, take, get_or, arith}
+use Rattle.std.specs.Prelude.{Option, None, Some, slice_get}
 use Rattle.std.specs.Option.{option_to_list}
 use Rattle.std.specs.List.{filter_map}
 use Rattle.std.proofs.lemmas.List.{take_more}
 use Rattle.std.proofs.lemmas.List.Elements.{filter_map-append}
-use Rattle.sd_base.specs.Value.{Text, same_text}
-use Rattle.sd_ast.specs.declared.Decl.{Decl}
-use Rattle.sd_ast.specs.declared.Decl.TheVariants.{Procedure, Types, Const, Function, Axiom, Globals, Implementation}
-use Rattle.sd_ast.specs.declared.Proc.{Proc}
-use Rattle.sd_ast.specs.Boolean.{IsBooleanProc, IsBooleanDecl, AreBooleanDecls}
-use Rattle.sd_meaning.specs.Routine.{procedure_in}
 
 filter_map_one : {X Y : Type 0} (f : X → Option Y) (x : X) (o : Option Y) → f x ≡ o → filter_map f (x ∷ []) ≡ option_to_list o
 filter_map_one f x None e = rw e refl
@@ -25,28 +19,14 @@ pub filter_map_step : {X Y : Type 0} (f : X → Option Y) (xs : List X) (i : ℕ
 filter_map_step f xs i x o was now h at is before added =
     added ∙ (ap (λ w. w ++ option_to_list o) before ∙ (ap (λ p. filter_map f (take i xs) ++ option_to_list p) (is ∙ ap f at) ∙ sym (filter_map_more f xs i x h)))
 
-boolean_among : (ds : List Decl) (i : ℕ) (d : Decl) → i < length ds → AreBooleanDecls ds → IsBooleanDecl (get_or ds i d)
-boolean_among [] i d h a = absurd (omega arith)
-boolean_among (e ∷ ds) zero d h a = a.0
-boolean_among (e ∷ ds) (suc i) d h a = boolean_among ds i d (omega arith) a.1
+-- what stands at a place within the list
+pub slice_at : {A : Type 0} (xs : List A) (i : ℕ) (x : A) → i < length xs → x ≡ get_or xs i x → slice_get xs i ≡ Some x
+slice_at [] i x h e = absurd (omega (arith, h))
+slice_at (y ∷ ys) zero x h e = ap Some (sym e)
+slice_at (y ∷ ys) (suc i) x h e = slice_at ys i x (omega (arith, h)) e
 
-pub boolean_at : (ds : List Decl) (i : ℕ) (d : Decl) → i < length ds → d ≡ get_or ds i d → AreBooleanDecls ds → IsBooleanDecl d
-boolean_at ds i d h at a = subst (λ (e : Decl). IsBooleanDecl e) (sym at) (boolean_among ds i d h a)
-
-some_is : (p q : Proc) → ◌≡◌ {A = Option Proc} (Some p) (Some q) → p ≡ q
-some_is p q e = cc
-
--- a procedure that is found by its name is one of the program
-pub boolean_found : (ds : List Decl) (f : Text) (p : Proc) → AreBooleanDecls ds → procedure_in ds f ≡ Some p → IsBooleanProc p
-boolean_found [] f p a e = absurd (let bad : ◌≡◌ {A = Option Proc} None (Some p) = e in cc)
-boolean_found (Procedure q ∷ ds) f p a e = go (same_text f q.head.name) e (λ h. boolean_found ds f p a.1 h)
-  where
-    go : (b : Bool) → (if b then Some q else procedure_in ds f) ≡ Some p → (procedure_in ds f ≡ Some p → IsBooleanProc p) → IsBooleanProc p
-    go true h rest = subst (λ (x : Proc). IsBooleanProc x) (some_is q p h) a.0
-    go false h rest = rest h
-boolean_found (Types ns ∷ ds) f p a e = absurd a.0
-boolean_found (Const u ns s ∷ ds) f p a e = absurd a.0
-boolean_found (Function n args r ∷ ds) f p a e = absurd a.0
-boolean_found (Axiom x ∷ ds) f p a e = absurd a.0
-boolean_found (Globals vs ∷ ds) f p a e = absurd a.0
-boolean_found (Implementation i ∷ ds) f p a e = absurd a.0
+-- within the list the default doesn't count
+pub any_default : {A : Type 0} (xs : List A) (i : ℕ) (d e : A) → i < length xs → get_or xs i d ≡ get_or xs i e
+any_default [] i d e h = absurd (omega (arith, h))
+any_default (x ∷ xs) zero d e h = refl
+any_default (x ∷ xs) (suc i) d e h = any_default xs i d e (omega (arith, h))

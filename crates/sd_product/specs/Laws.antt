@@ -1,43 +1,48 @@
 -- What the queries of a pair of procedures are good for.
-use Rattle.std.specs.Prelude.{◌≡◌, ℕ, length, Some, slice_get}
-use Rattle.sd_base.specs.Value.{Text}
-use Rattle.sd_ast.specs.declared.Decl.TheVariants.{Procedure}
-use Rattle.sd_ast.specs.declared.Program.{Program}
-use Rattle.sd_ast.specs.declared.Proc.{Proc}
-use Rattle.sd_ast.specs.Boolean.{IsBooleanProgram}
-use Rattle.sd_meaning.specs.Routine.{procedure_in}
-use Rattle.sd_meaning.specs.NewFailure.{NewFailure}
+use Rattle.std.specs.Prelude.{◌≡◌, ℕ, Some, slice_get}
+use Rattle.sd_core.specs.declared.CoreProc.{CoreProc}
+use Rattle.sd_core.specs.declared.CoreProgram.{CoreProgram}
+use Rattle.sd_core.specs.Formed.{WellFormed, sorts_of}
+use Rattle.sd_core.specs.Straight.{IsStraightCore}
+use Rattle.sd_core.specs.Failure.{NewFailureOf}
 use Rattle.sd_term.specs.declared.Cube.{Cube}
 use Rattle.sd_term.specs.Truth.{Valuation, MakesTrue, IsUnsatisfiable}
 use Rattle.sd_kernel.specs.OpenCube.{IsOpenCube}
 use Rattle.sd_product.specs.declared.pair.Candidate.{Candidate}
 use Rattle.sd_product.specs.declared.pair.Candidate.TheVariants.{EqualInputs}
-use Rattle.sd_product.specs.Query.{query_of}
+use Rattle.sd_product.specs.Query.{Side, query_of}
+use Rattle.sd_product.specs.Straight.{side}
 
--- procedures of boolean programs, with as many parameters
-pub record IsPair (P Q : Program) (f g : Text) (p q : Proc) : Type 0 where
-  pub old_boolean : IsBooleanProgram P
-  pub new_boolean : IsBooleanProgram Q
-  pub old_found : procedure_in P.decls f ≡ Some p
-  pub new_found : procedure_in Q.decls g ≡ Some q
-  pub same_count : length p.head.ins ≡ length q.head.ins
+-- a program over truth values, without calls
+pub record IsTaken (P : CoreProgram) : Type 0 where
+  pub formed : WellFormed P
+  pub straight : IsStraightCore P
 
--- Procedures at some places of the two programs are such a pair, under their names.
-abbrev pub PlacesArePairs : Type 0
-PlacesArePairs =
-    (P Q : Program) → IsBooleanProgram P → IsBooleanProgram Q → (i j : ℕ) (p q : Proc) → slice_get P.decls i ≡ Some (Procedure p) → slice_get Q.decls j ≡ Some (Procedure q) → length p.head.ins ≡ length q.head.ins → IsPair P Q p.head.name q.head.name p q
+-- a procedure of such a program
+pub record IsSide (a : Side) : Type 0 where
+  pub taken : IsTaken a.program
+  pub at : ℕ
+  pub found : slice_get a.program.procs at ≡ Some a.proc
+
+-- procedures at these places, with in-parameters of the same types
+pub record IsPair (P Q : CoreProgram) (i j : ℕ) (p q : CoreProc) : Type 0 where
+  pub old_taken : IsTaken P
+  pub new_taken : IsTaken Q
+  pub old_found : slice_get P.procs i ≡ Some p
+  pub new_found : slice_get Q.procs j ≡ Some q
+  pub same_ins : sorts_of p.ins ≡ sorts_of q.ins
 
 -- Where no valuation makes the facts true, the new procedure has no failure that the old one lacks.
 abbrev pub UnsatisfiableIsSafe : Type 0
 UnsatisfiableIsSafe =
-    (P Q : Program) (f g : Text) (p q : Proc) (c : Candidate) → IsPair P Q f g p q → IsUnsatisfiable (query_of c p q) → NewFailure P Q f g → ⊥
+    (P Q : CoreProgram) (i j : ℕ) (p q : CoreProc) (c : Candidate) → IsPair P Q i j p q → IsUnsatisfiable (query_of c (side P p) (side Q q)) → NewFailureOf P Q i j → ⊥
 
 -- A valuation that makes the facts true, with equal inputs, is such a failure.
 abbrev pub ValuationsAreFailures : Type 0
 ValuationsAreFailures =
-    (P Q : Program) (f g : Text) (p q : Proc) (v : Valuation) → IsPair P Q f g p q → MakesTrue v (query_of EqualInputs p q) → NewFailure P Q f g
+    (P Q : CoreProgram) (i j : ℕ) (p q : CoreProc) (v : Valuation) → IsPair P Q i j p q → MakesTrue v (query_of EqualInputs (side P p) (side Q q)) → NewFailureOf P Q i j
 
 -- So is an open cube of the facts.
 abbrev pub OpenCubesAreFailures : Type 0
 OpenCubesAreFailures =
-    (P Q : Program) (f g : Text) (p q : Proc) (cube : Cube) → IsPair P Q f g p q → IsOpenCube (query_of EqualInputs p q) cube → NewFailure P Q f g
+    (P Q : CoreProgram) (i j : ℕ) (p q : CoreProc) (cube : Cube) → IsPair P Q i j p q → IsOpenCube (query_of EqualInputs (side P p) (side Q q)) cube → NewFailureOf P Q i j

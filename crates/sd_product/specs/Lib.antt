@@ -1,5 +1,5 @@
 pub mod Query
 pub mod Laws
-pub mod Numbers
 pub mod Straight
 pub mod Inductive
+pub mod Numbers

@@ -1,9 +1,6 @@
--- Which trees a list of numbers stands for.
-use Rattle.std.specs.Prelude.{◌≡◌, ℕ, ◌<◌, List, All, map, length}
-use Rattle.sd_term.specs.Tree.{Tree}
-use Rattle.sd_term.specs.Bank.{tree_at}
+-- What the code's arguments stand for.
+use Rattle.sd_product.specs.declared.pair.Side.{Side}
+use Rattle.sd_product.specs.Query as query
 
--- the numbers are of the bank, and stand for these trees
-pub record DenoteAll (bank : List Tree) (ids : List ℕ) (ts : List Tree) : Type 0 where
-  pub within : All (λ id. id < length bank) ids
-  pub trees : map (tree_at bank) ids ≡ ts
+abbrev pub side_of : Side → query.Side
+side_of a = record { program = a.program.now; proc = a.proc.now }

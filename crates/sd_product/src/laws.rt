@@ -1,10 +1,5 @@
 //! What the queries of a pair of procedures are good for.
-ghost use Rattle.sd_product.specs.Laws.{PlacesArePairs, UnsatisfiableIsSafe, ValuationsAreFailures, OpenCubesAreFailures};
-
-/// Procedures of two programs with as many parameters are a pair, under their names.
-pub fn places_are_pairs()
-    ensures { PlacesArePairs }
-{}
+ghost use Rattle.sd_product.specs.Laws.{UnsatisfiableIsSafe, ValuationsAreFailures, OpenCubesAreFailures};
 
 /// Where no valuation makes the facts of a candidate's query true, the new procedure has no failure that the old one lacks.
 pub fn no_new_failure()

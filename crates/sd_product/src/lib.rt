@@ -4,8 +4,6 @@
 pub mod laws;
 mod pair;
 mod straight;
-#[cfg(test)]
-mod tests;
 
-pub use pair::{Candidate, pair_query};
+pub use pair::{Candidate, Side, pair_query};
 pub use straight::{Straight, straight_pairs};

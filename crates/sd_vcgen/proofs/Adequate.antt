@@ -1,418 +1,379 @@
--- A body on terms follows the body on values.
-use Rattle.std.proofs.Common.{◌≡◌, zero, suc, List, [], ◌∷◌, refl, sym, ap, subst, ◌∙◌, arith}
-use Rattle.std.specs.Prelude.{Bool, true, false, not, ◌&&◌, ◌||◌, cond, map, Option, Some, unwrap_or, if◌then◌else◌, Contains}
-use Rattle.std.specs.Cmp.Lexicographic.{bytes_decides}
-use Rattle.sd_base.specs.declared.Sort.{Bool as BoolSort}
-use Rattle.sd_base.specs.Value.{Text, same_text, Value, Truth, same_value}
-use Rattle.sd_base.specs.Meaning.{Interpretation, truth_of, index_of}
-use Rattle.sd_ast.specs.declared.BinOp.TheVariants as op
-use Rattle.sd_ast.specs.declared.UnOp.TheVariants as op1
-use Rattle.sd_ast.specs.declared.ExprKind.{ExprKind, Truth as Literal, Var as Variable}
-use Rattle.sd_ast.specs.declared.StmtKind.{StmtKind, Assert, Assign, If', Return, Row_of-Stmt, end_of-Stmt, more_of-Stmt}
-use Rattle.sd_ast.specs.declared.Left.{Left}
-use Rattle.sd_ast.specs.declared.Expr.{Expr}
-use Rattle.sd_ast.specs.declared.Stmt.{Stmt}
-use Rattle.sd_ast.specs.declared.Program.{Program}
-use Rattle.sd_ast.specs.Tree.{UnaryOf, BinaryOf}
-use Rattle.sd_ast.specs.Boolean.{IsBooleanExpr, IsBooleanAssign, IsBooleanStmt, AreBooleanStmts, AllBooleanStmts}
-use Rattle.sd_meaning.specs.Evaluate.{Store, held, variable}
-use Rattle.sd_meaning.specs.Evaluate as meaning
-use Rattle.sd_meaning.specs.Run.{Flow, Next, Breaks, Returns, Failed, Blocked, Unfinished, and_then, each, kinds_of, is_in, values_of, written, Level}
-use Rattle.sd_meaning.specs.Run as run
-use Rattle.sd_term.specs.Tree.{Tree}
+-- A run of a body is what its terms tell.
+use Rattle.std.proofs.Common.{◌≡◌, List, [], ◌∷◌, ◌++◌, refl, sym, ap, ◌∙◌}
+use Rattle.std.specs.Prelude.{Some, Bool, true, false, not, ◌&&◌, ◌||◌, cond, map, if◌then◌else◌}
+use Rattle.std.proofs.lemmas.List.{map-append}
+use Rattle.sd_base.specs.declared.Sort.{Sort, Bool as BoolSort}
+use Rattle.sd_base.specs.declared.Var.{Var}
+use Rattle.sd_base.specs.Value.{Value}
+use Rattle.sd_base.specs.Meaning.{Interpretation, truth_of}
+use Rattle.sd_core.specs.declared.Spot.{Spot}
+use Rattle.sd_core.specs.declared.CoreExpr.{CoreExpr}
+use Rattle.sd_core.specs.declared.CoreStmt.{CoreStmt, Assign, If', Call, Assume, Fail, Return, Row_of-CoreStmt, end_of-CoreStmt, more_of-CoreStmt}
+use Rattle.sd_core.specs.declared.CoreProc.{CoreProc}
+use Rattle.sd_core.specs.declared.CoreProgram.{CoreProgram}
+use Rattle.sd_core.specs.declared.Function.{Function}
+use Rattle.sd_core.specs.Store.{Store, read, write, write_all, map_store}
+use Rattle.sd_core.specs.Run.{Calls, End, Ended, Blocked, Step, Goes, Stops, Blocks, Lacks, value_in, then_run, run_row, run_all, run_proc, enter, end_of, out_spots}
+use Rattle.sd_core.specs.Run as core
+use Rattle.sd_core.specs.Formed.{sort_at, state_sorts, HasType, AreSpotsOf, IsFormed, AreFormed, AllFormed}
+use Rattle.sd_term.specs.declared.node.Head.TheVariants as head
+use Rattle.sd_term.specs.Tree.{Tree, leaf}
 use Rattle.sd_term.specs.Sorts.{sort_of}
+use Rattle.sd_term.specs.Build.{not_of, and_of, or_of, ite_of}
 use Rattle.sd_term.specs.Truth.{Valuation, value}
-use Rattle.sd_term.specs.Build.{not_of, and_of, or_of, eq_of, ite_of}
-use Rattle.sd_term.proofs.BuildValues.{not-value, and-value, or-value, eq-value, ite-chosen}
-use Rattle.sd_term.proofs.BuildSorts.{not-sort, and-sort, or-sort, ite-sort}
-use Rattle.sd_vcgen.specs.Body.{Terms, State, constant, term_named, term_of, guard_of, assigned, set, fail, leave, assert, assign, step, steps, all_steps}
-use Rattle.sd_vcgen.proofs.Keep.{Closed, Holds, named-keeps, term-keeps, step-keeps, steps-keep}
-
-abbrev pub names_in : Terms → List Text
-names_in = map (λ w. w.0)
-
--- ---- all terms of a body are truth-valued
-
-abbrev pub IsTruth : Tree → Type 0
-IsTruth t = sort_of t ≡ BoolSort
-
-constant-sort : (b : Bool) → sort_of (constant b) ≡ BoolSort
-constant-sort true = refl
-constant-sort false = refl
-
-pub truths : Closed IsTruth
-truths = record {
-  constants = constant-sort;
-  nots = λ a h. not-sort a;
-  ands = λ a b h k. and-sort a b;
-  ors = λ a b h k. or-sort a b;
-  eqs = λ a b h k. refl;
-  ites = λ c a b h k l. ite-sort c a b ∙ k;
-}
+use Rattle.sd_term.proofs.BuildSorts.{ite-sort}
+use Rattle.sd_term.proofs.BuildValues.{not-value, and-value, or-value, ite-chosen}
+use Rattle.sd_vcgen.specs.Body.{State, nothing, constant, term_in, guard_of, assign, step, steps, all_steps, begun, body_of, outs_of}
+use Rattle.sd_vcgen.specs.Law.{IsStraight, AreStraight, AllStraight, Reads, truth, all_true, told, BodiesAreRuns}
+use Rattle.sd_vcgen.proofs.Stores.{read_map, write_map, write_read}
+use Rattle.sd_vcgen.proofs.Typed.{spot-sort, write-sorts, assign-sorts, all-sorts}
+use Rattle.sd_vcgen.proofs.Values.{term-value, all-values}
+use Rattle.sd_vcgen.proofs.Sorted.{begun-sorts}
 
 -- ---- truth values
 
-or_off : (a b : Bool) → b ≡ false → (a || b) ≡ a
-or_off true b h = refl
-or_off false b h = h
+not_truth : (v : Valuation) (t : Tree) → truth v (not_of t) ≡ not (truth v t)
+not_truth v t = ap truth_of (not-value v t)
 
-or_on : (a b : Bool) → b ≡ true → (a || b) ≡ true
-or_on true b h = refl
-or_on false b h = h
+and_truth : (v : Valuation) (s t : Tree) → truth v (and_of s t) ≡ (truth v s && truth v t)
+and_truth v s t = ap truth_of (and-value v s t)
 
-and_off : (p c g : Bool) → (p && g) ≡ false → ((p && c) && g) ≡ false
+or_truth : (v : Valuation) (s t : Tree) → truth v (or_of s t) ≡ (truth v s || truth v t)
+or_truth v s t = ap truth_of (or-value v s t)
+
+and_off : (p c g : Bool) → (p && not g) ≡ false → ((p && c) && not g) ≡ false
 and_off true true g h = h
 and_off true false g h = refl
 and_off false c g h = refl
 
-and_false : (p : Bool) → (p && false) ≡ false
-and_false true = refl
-and_false false = refl
+and_gone : (p : Bool) → (p && not true) ≡ false
+and_gone true = refl
+and_gone false = refl
 
--- ---- stores
+off_path : (p c g : Bool) → c ≡ false → ((p && c) && not g) ≡ false
+off_path true true g e = cc
+off_path true false g e = refl
+off_path false c g e = refl
 
-assigned-names : (ws : Terms) (x : Text) (t : Tree) → names_in (assigned ws x t) ≡ names_in ws
-assigned-names [] x t = refl
-assigned-names (w ∷ ws) x t = go (same_text x w.0) (assigned-names ws x t)
+or_off : (f g : Bool) → g ≡ false → (f || g) ≡ f
+or_off true g e = refl
+or_off false g e = e
+
+or_on : (f g : Bool) → g ≡ true → (f || g) ≡ true
+or_on true g e = refl
+or_on false g e = e
+
+both_on : (a b : Bool) → a ≡ true → b ≡ true → (a && b) ≡ true
+both_on a b e f = λ i. e i && f i
+
+both_off : (a b : Bool) → b ≡ false → (a && b) ≡ false
+both_off true b e = e
+both_off false b e = refl
+
+first_off : (a b : Bool) → a ≡ false → (a && b) ≡ false
+first_off a b e = ap (λ c. c && b) e
+
+-- ---- assumptions
+
+all_push : (v : Valuation) (ts : List Tree) (t : Tree) → all_true v (ts ++ t ∷ []) ≡ (all_true v ts && truth v t)
+all_push v [] t = and_true (truth v t)
   where
-    go : (b : Bool) → names_in (assigned ws x t) ≡ names_in ws → names_in (if b then (w.0, t) ∷ ws else w ∷ assigned ws x t) ≡ w.0 ∷ names_in ws
-    go true e = refl
-    go false e = ap (λ l. w.0 ∷ l) e
-
-held-is_in : (vs : Store) (x : Text) (y : Value) → held vs x ≡ Some y → is_in vs x ≡ true
-held-is_in [] x y h = cc
-held-is_in (u ∷ vs) x y h = go (same_text x u.0) h (held-is_in vs x y)
+    and_true : (b : Bool) → (b && true) ≡ b
+    and_true true = refl
+    and_true false = refl
+all_push v (u ∷ ts) t = ap (λ b. truth v u && b) (all_push v ts t) ∙ assoc (truth v u) (all_true v ts) (truth v t)
   where
-    go : (b : Bool) → (if b then Some u.1 else held vs x) ≡ Some y → (held vs x ≡ Some y → is_in vs x ≡ true) → (if b then true else is_in vs x) ≡ true
-    go true k r = refl
-    go false k r = r k
+    assoc : (a b c : Bool) → (a && (b && c)) ≡ ((a && b) && c)
+    assoc true b c = refl
+    assoc false b c = refl
 
-module _ (v : Valuation) where
-  abbrev pub truth : Tree → Bool
-  truth t = truth_of (value v t)
+-- ---- assignments
 
-  abbrev pub valued : Terms → Store
-  valued = map (λ w. (w.0, value v w.1))
+module _ (v : Valuation) (S : Store Sort) (g : Tree) where
+  spot_new : (t : Tree) (tst : Store Tree) (p : Spot) (s : Sort) → map_store sort_of tst ≡ S → sort_at S p ≡ Some s → sort_of t ≡ s → value v (ite_of g t (read nothing tst p)) ≡ cond (truth v g) (value v t) (read core.nothing (map_store (value v) tst) p)
+  spot_new t tst p s e h f =
+      ite-chosen v g t (read nothing tst p) (f ∙ sym (spot-sort S tst p s e h))
+      ∙ ap (λ (x : Value). cond (truth v g) (value v t) x) (read_map (value v) nothing tst p)
 
-  constant-value : (b : Bool) → value v (constant b) ≡ Truth b
-  constant-value true = refl
-  constant-value false = refl
+  assign_on : truth v g ≡ true → (ps : List Spot) (ts : List Tree) (ss : List Sort) → AreSpotsOf S ps ss → map sort_of ts ≡ ss → (tst : Store Tree) (st : Store Value) → map_store sort_of tst ≡ S → map_store (value v) tst ≡ st → map_store (value v) (assign g tst ps ts) ≡ write_all st ps (map (value v) ts)
+  assign_on up [] ts ss h f tst st e k = k
+  assign_on up (p ∷ ps) [] ss h f tst st e k = k
+  assign_on up (p ∷ ps) (t ∷ ts) [] h f tst st e k = cc
+  assign_on up (p ∷ ps) (t ∷ ts) (s ∷ ss) h f tst st e k =
+      let here : sort_of t ≡ s = cc in
+      let rest : map sort_of ts ≡ ss = cc in
+      let old = read nothing tst p in
+      let new : value v (ite_of g t old) ≡ value v t = spot_new t tst p s e h.0 here ∙ ap (λ (b : Bool). cond b (value v t) (read core.nothing (map_store (value v) tst) p)) up in
+      let stored : map_store (value v) (write tst p (ite_of g t old)) ≡ write st p (value v t) = write_map (value v) tst p (ite_of g t old) ∙ (λ i. write (k i) p (new i)) in
+      assign_on up ps ts ss h.1 rest (write tst p (ite_of g t old)) (write st p (value v t)) (write-sorts S tst p (ite_of g t old) s e h.0 (ite-sort g t old ∙ here)) stored
 
-  held-named : (ws : Terms) (x : Text) → Contains (names_in ws) x → held (valued ws) x ≡ Some (value v (term_named ws x))
-  held-named [] x h = absurd (omega (arith, h.1))
-  held-named (w ∷ ws) x h = go (same_text x w.0) refl h (held-named ws x)
-    where
-      go : (b : Bool) → same_text x w.0 ≡ b → Contains (w.0 ∷ names_in ws) x → (Contains (names_in ws) x → held (valued ws) x ≡ Some (value v (term_named ws x)))
-          → (if b then Some (value v w.1) else held (valued ws) x) ≡ Some (value v (if b then w.1 else term_named ws x))
-      go true e k r = refl
-      go false e (zero, lt, at) r = let clash : same_text x w.0 ≡ true = (bytes_decides x w.0).1 (sym at) in absurd (cc)
-      go false e (suc k, lt, at) r = r (k, omega (arith, lt), at)
+  assign_off : truth v g ≡ false → (ps : List Spot) (ts : List Tree) (ss : List Sort) → AreSpotsOf S ps ss → map sort_of ts ≡ ss → (tst : Store Tree) (st : Store Value) → map_store sort_of tst ≡ S → map_store (value v) tst ≡ st → map_store (value v) (assign g tst ps ts) ≡ st
+  assign_off down [] ts ss h f tst st e k = k
+  assign_off down (p ∷ ps) [] ss h f tst st e k = k
+  assign_off down (p ∷ ps) (t ∷ ts) [] h f tst st e k = cc
+  assign_off down (p ∷ ps) (t ∷ ts) (s ∷ ss) h f tst st e k =
+      let here : sort_of t ≡ s = cc in
+      let rest : map sort_of ts ≡ ss = cc in
+      let old = read nothing tst p in
+      let new : value v (ite_of g t old) ≡ read core.nothing st p =
+      spot_new t tst p s e h.0 here ∙ ap (λ (b : Bool). cond b (value v t) (read core.nothing (map_store (value v) tst) p)) down ∙ ap (λ (x : Store Value). read core.nothing x p) k in
+      let stored : map_store (value v) (write tst p (ite_of g t old)) ≡ st = write_map (value v) tst p (ite_of g t old) ∙ (λ i. write (k i) p (new i)) ∙ write_read core.nothing st p in
+      assign_off down ps ts ss h.1 rest (write tst p (ite_of g t old)) st (write-sorts S tst p (ite_of g t old) s e h.0 (ite-sort g t old ∙ here)) stored
 
-  variable-is : (I : Interpretation) (s : meaning.State) (ws : Terms) (x : Text) → valued ws ≡ s.locals → Contains (names_in ws) x → variable I s x ≡ value v (term_named ws x)
-  variable-is I s ws x e h =
-      ap (λ (o : Option Value). unwrap_or o (unwrap_or (held s.globals x) (I.constant x))) (ap (λ (l : Store). held l x) (sym e) ∙ held-named ws x h)
+-- ---- a state of terms and a state of the run
 
-  -- the equality of two terms has the value of that of their expressions
-  same-terms : (ws : Terms) (a b : ExprKind) (x y : Value) → value v (term_of ws a) ≡ x → value v (term_of ws b) ≡ y → value v (eq_of (term_of ws a) (term_of ws b)) ≡ Truth (same_value x y)
-  same-terms ws a b x y e f = eq-value v (term_of ws a) (term_of ws b) ∙ (λ i. Truth (same_value (e i) (f i)))
+record Agrees (v : Valuation) (S : Store Sort) (s : State) (st : Store Value) (flag gone : Bool) : Type 0 where
+  sorts : map_store sort_of s.store ≡ S
+  store : map_store (value v) s.store ≡ st
+  flag_is : truth v s.flag ≡ flag
+  gone_is : truth v s.gone ≡ gone
+  assumes : all_true v s.assumes ≡ true
 
-  -- an expression's term has the expression's value
-  pub term-value : (names : List Text) (I : Interpretation) (s : meaning.State) (ws : Terms) → names_in ws ≡ names → valued ws ≡ s.locals → (e : ExprKind) → IsBooleanExpr names e → value v (term_of ws e) ≡ meaning.value I s e
-  term-value names I s ws n l (Literal b) h = constant-value b
-  term-value names I s ws n l (Variable x) h = sym (variable-is I s ws x l (subst (λ (xs : List Text). Contains xs x) (sym n) h))
-  term-value names I s ws n l (UnaryOf op1.Not p a) h =
-      not-value v (term_of ws a) ∙ ap (λ (x : Value). Truth (not (truth_of x))) (term-value names I s ws n l a h)
-  term-value names I s ws n l (BinaryOf op.And p a q b) h =
-      let x = term-value names I s ws n l a h.0 in
-      let y = term-value names I s ws n l b h.1 in
-      and-value v (term_of ws a) (term_of ws b) ∙ (λ i. Truth (truth_of (x i) && truth_of (y i)))
-  term-value names I s ws n l (BinaryOf op.Or p a q b) h =
-      let x = term-value names I s ws n l a h.0 in
-      let y = term-value names I s ws n l b h.1 in
-      or-value v (term_of ws a) (term_of ws b) ∙ (λ i. Truth (truth_of (x i) || truth_of (y i)))
-  term-value names I s ws n l (BinaryOf op.Implies p a q b) h =
-      let x = not-value v (term_of ws a) ∙ ap (λ (z : Value). Truth (not (truth_of z))) (term-value names I s ws n l a h.0) in
-      let y = term-value names I s ws n l b h.1 in
-      or-value v (not_of (term_of ws a)) (term_of ws b) ∙ (λ i. Truth (truth_of (x i) || truth_of (y i)))
-  term-value names I s ws n l (BinaryOf op.Explies p a q b) h =
-      let x = term-value names I s ws n l a h.0 in
-      let y = not-value v (term_of ws b) ∙ ap (λ (z : Value). Truth (not (truth_of z))) (term-value names I s ws n l b h.1) in
-      or-value v (term_of ws a) (not_of (term_of ws b)) ∙ (λ i. Truth (truth_of (x i) || truth_of (y i)))
-  term-value names I s ws n l (BinaryOf op.Iff p a q b) h = same-terms ws a b _ _ (term-value names I s ws n l a h.0) (term-value names I s ws n l b h.1)
-  term-value names I s ws n l (BinaryOf op.Eq p a q b) h = same-terms ws a b _ _ (term-value names I s ws n l a h.0) (term-value names I s ws n l b h.1)
-  term-value names I s ws n l (BinaryOf op.Ne p a q b) h =
-      let e = same-terms ws a b _ _ (term-value names I s ws n l a h.0) (term-value names I s ws n l b h.1) in
-      not-value v (eq_of (term_of ws a) (term_of ws b)) ∙ ap (λ (z : Value). Truth (not (truth_of z))) e
-  term-value names I s ws n l _ h = absurd h
+abbrev After : Valuation → Store Sort → State → Step → Type 0
+After v S s (Goes st) = Agrees v S s st false false
+After v S s (Stops st flag) = Agrees v S s st flag true
+After v S s Blocks = all_true v s.assumes ≡ false
+After v S s Lacks = ⊥
 
-  valued-assigned : (ws : Terms) (x : Text) (t : Tree) → valued (assigned ws x t) ≡ run.assigned (valued ws) x (value v t)
-  valued-assigned [] x t = refl
-  valued-assigned (w ∷ ws) x t = go (same_text x w.0) (valued-assigned ws x t)
-    where
-      go : (b : Bool) → valued (assigned ws x t) ≡ run.assigned (valued ws) x (value v t)
-          → valued (if b then (w.0, t) ∷ ws else w ∷ assigned ws x t) ≡ (if b then (w.0, value v t) ∷ valued ws else (w.0, value v w.1) ∷ run.assigned (valued ws) x (value v t))
-      go true e = refl
-      go false e = ap (λ (l : Store). (w.0, value v w.1) ∷ l) e
+module _ (P : CoreProgram) (p : CoreProc) (I : Interpretation) (v : Valuation) (reads : Reads P.functions v I) (calls : Calls) where
+  abbrev F : List Function
+  F = P.functions
 
-  valued-kept : (ws : Terms) (x : Text) (t : Tree) → value v t ≡ value v (term_named ws x) → valued (assigned ws x t) ≡ valued ws
-  valued-kept [] x t e = refl
-  valued-kept (w ∷ ws) x t e = go (same_text x w.0) e (valued-kept ws x t)
-    where
-      go : (b : Bool) → value v t ≡ value v (if b then w.1 else term_named ws x) → (value v t ≡ value v (term_named ws x) → valued (assigned ws x t) ≡ valued ws)
-          → valued (if b then (w.0, t) ∷ ws else w ∷ assigned ws x t) ≡ (w.0, value v w.1) ∷ valued ws
-      go true k r = λ i. (w.0, k i) ∷ valued ws
-      go false k r = ap (λ (l : Store). (w.0, value v w.1) ∷ l) (r k)
+  abbrev S : Store Sort
+  S = state_sorts P p
 
-  not-truth : (t : Tree) → truth (not_of t) ≡ not (truth t)
-  not-truth t = ap truth_of (not-value v t)
+  guard_truth : (path : Tree) (s : State) → truth v (guard_of path s) ≡ (truth v path && not (truth v s.gone))
+  guard_truth path s = and_truth v path (not_of s.gone) ∙ ap (λ (b : Bool). truth v path && b) (not_truth v s.gone)
 
-  and-truth : (s t : Tree) → truth (and_of s t) ≡ (truth s && truth t)
-  and-truth s t = ap truth_of (and-value v s t)
+  guard_off : (path : Tree) (s : State) (st : Store Value) (f g : Bool) → (truth v path && not g) ≡ false → Agrees v S s st f g → truth v (guard_of path s) ≡ false
+  guard_off path s st f g off a = guard_truth path s ∙ ap (λ (b : Bool). truth v path && not b) a.gone_is ∙ off
 
-  or-truth : (s t : Tree) → truth (or_of s t) ≡ (truth s || truth t)
-  or-truth s t = ap truth_of (or-value v s t)
+  guard_on : (path : Tree) (s : State) (st : Store Value) → truth v path ≡ true → Agrees v S s st false false → truth v (guard_of path s) ≡ true
+  guard_on path s st on a = guard_truth path s ∙ (λ i. on i && not (a.gone_is i))
 
-  guard-truth : (path : Tree) (s : State) → truth (guard_of path s) ≡ (truth path && not (truth s.gone))
-  guard-truth path s = and-truth path (not_of s.gone) ∙ ap (λ (b : Bool). truth path && b) (not-truth s.gone)
-
-  -- ---- where the guard is false, nothing happens
-
-  pub record Same (s s' : State) : Type 0 where
-    pub names : names_in s'.store ≡ names_in s.store
-    pub store : valued s'.store ≡ valued s.store
-    pub flag : truth s'.flag ≡ truth s.flag
-    pub gone : truth s'.gone ≡ truth s.gone
-
-  same-self : (s : State) → Same s s
-  same-self s = record { names = refl; store = refl; flag = refl; gone = refl }
-
-  same-then : (a b c : State) → Same a b → Same b c → Same a c
-  same-then a b c h k = record { names = k.names ∙ h.names; store = k.store ∙ h.store; flag = k.flag ∙ h.flag; gone = k.gone ∙ h.gone }
-
-  chosen : (g : Tree) (s : State) (x : Text) (t : Tree) → Holds IsTruth s → IsTruth t → (b : Bool) → truth g ≡ b
-      → value v (ite_of g t (term_named s.store x)) ≡ cond b (value v t) (value v (term_named s.store x))
-  chosen g s x t w k b e =
-      let old = term_named s.store x in
-      let sorts : sort_of t ≡ sort_of old = k ∙ sym (named-keeps IsTruth truths s.store x w.store) in
-      ite-chosen v g t old sorts ∙ ap (λ (c : Bool). cond c (value v t) (value v old)) e
-
-  same-set : (g : Tree) (s : State) (x : Text) (t : Tree) → Holds IsTruth s → IsTruth t → truth g ≡ false → Same s (set g s x t)
-  same-set g s x t w k off = record {
-    names = assigned-names s.store x (ite_of g t (term_named s.store x));
-    store = valued-kept s.store x (ite_of g t (term_named s.store x)) (chosen g s x t w k false off);
-    flag = refl;
-    gone = refl;
-  }
-
-  same-leave : (g : Tree) (s : State) → truth g ≡ false → Same s (leave g s)
-  same-leave g s off = record { names = refl; store = refl; flag = refl; gone = or-truth s.gone g ∙ or_off (truth s.gone) (truth g) off }
-
-  same-fail : (g : Tree) (s : State) → truth g ≡ false → Same s (fail g s)
-  same-fail g s off = record {
-    names = refl;
-    store = refl;
-    flag = or-truth s.flag g ∙ or_off (truth s.flag) (truth g) off;
-    gone = or-truth s.gone g ∙ or_off (truth s.gone) (truth g) off;
-  }
-
-  -- the path isn't taken, or the body has ended
-  abbrev pub IsIdle : Tree → State → Type 0
-  IsIdle path s = (truth path && not (truth s.gone)) ≡ false
-
-  idle-further : (path c : Tree) (s : State) → IsIdle path s → IsIdle (and_of path c) s
-  idle-further path c s off =
-      ap (λ (b : Bool). b && not (truth s.gone)) (and-truth path c) ∙ and_off (truth path) (truth c) (not (truth s.gone)) off
-
-  idle-same : (path : Tree) (s s' : State) → Same s s' → IsIdle path s → IsIdle path s'
-  idle-same path s s' same off = ap (λ (b : Bool). truth path && not b) same.gone ∙ off
-
-  guard-off : (path : Tree) (s : State) → IsIdle path s → truth (guard_of path s) ≡ false
-  guard-off path s off = guard-truth path s ∙ off
-
-  idle-assign : (path : Tree) (ls : List Left) (es : List Expr) (s : State) → Holds IsTruth s → IsIdle path s → Same s (assign path ls es s)
-  idle-assign path (l ∷ []) (e ∷ []) s w off =
-      same-set (guard_of path s) s l.name (term_of s.store e.kind) w (term-keeps IsTruth truths s.store e.kind w.store) (guard-off path s off)
-  idle-assign path [] es s w off = same-self s
-  idle-assign path (l ∷ []) [] s w off = same-self s
-  idle-assign path (l ∷ []) (e ∷ d ∷ es) s w off = same-self s
-  idle-assign path (l ∷ k ∷ ls) es s w off = same-self s
+  -- ---- where the run is blocked, it stays so
 
   mutual
-    pub idle : (k : StmtKind) (path : Tree) (s : State) → IsTruth path → Holds IsTruth s → IsIdle path s → Same s (step k path s)
-    idle (Assert e) path s p w off =
-        let q = and_of path (not_of (term_of s.store e.kind)) in
-        same-fail (guard_of q s) s (guard-off q s (idle-further path (not_of (term_of s.store e.kind)) s off))
-    idle (Assign ls es) path s p w off = idle-assign path ls es s w off
-    idle (If' e shape a shape' b) path s p w off =
-        let t = term_of s.store e.kind in
-        let p1 = and_of path t in
-        let p2 = and_of path (not_of t) in
-        let first = idle_row a p1 s (and-sort path t) w (idle-further path t s off) in
-        let w1 = steps-keep IsTruth truths a p1 s (and-sort path t) w in
-        same-then s (steps a p1 s) (steps b p2 (steps a p1 s)) first
-        (idle_row b p2 (steps a p1 s) (and-sort path (not_of t)) w1 (idle-same p2 s (steps a p1 s) first (idle-further path (not_of t) s off)))
-    idle Return path s p w off = same-leave (guard_of path s) s (guard-off path s off)
-    idle _ path s p w off = same-self s
+    stuck : (k : CoreStmt) (path : Tree) (s : State) → all_true v s.assumes ≡ false → all_true v (step F k path s).assumes ≡ false
+    stuck (Assign ps es) path s h = h
+    stuck (If' c n a m b) path s h = stuck_row b (and_of path (not_of (term_in F s.store c))) (steps F a (and_of path (term_in F s.store c)) s) (stuck_row a (and_of path (term_in F s.store c)) s h)
+    stuck (Call ps q es) path s h = h
+    stuck (Assume c) path s h = all_push v s.assumes _ ∙ first_off (all_true v s.assumes) _ h
+    stuck Fail path s h = h
+    stuck Return path s h = h
 
-    pub idle_row : {m : _} → (ks : Row_of-Stmt m) (path : Tree) (s : State) → IsTruth path → Holds IsTruth s → IsIdle path s → Same s (steps ks path s)
-    idle_row end_of-Stmt path s p w off = same-self s
-    idle_row (more_of-Stmt at k ks) path s p w off =
-        let first = idle k path s p w off in
-        let w1 = step-keeps IsTruth truths k path s p w in
-        same-then s (step k path s) (steps ks path (step k path s)) first
-        (idle_row ks path (step k path s) p w1 (idle-same path s (step k path s) first off))
+    stuck_row : {n : _} (ks : Row_of-CoreStmt n) (path : Tree) (s : State) → all_true v s.assumes ≡ false → all_true v (steps F ks path s).assumes ≡ false
+    stuck_row end_of-CoreStmt path s h = h
+    stuck_row (more_of-CoreStmt k ks) path s h = stuck_row ks path (step F k path s) (stuck k path s h)
 
-  pub idle_all : (ks : List Stmt) (path : Tree) (s : State) → IsTruth path → Holds IsTruth s → IsIdle path s → Same s (all_steps ks path s)
-  idle_all [] path s p w off = same-self s
-  idle_all (k ∷ ks) path s p w off =
-      let first = idle k.kind path s p w off in
-      let w1 = step-keeps IsTruth truths k.kind path s p w in
-      same-then s (step k.kind path s) (all_steps ks path (step k.kind path s)) first
-      (idle_all ks path (step k.kind path s) p w1 (idle-same path s (step k.kind path s) first off))
+  stuck_all : (ks : List CoreStmt) (path : Tree) (s : State) → all_true v s.assumes ≡ false → all_true v (all_steps F ks path s).assumes ≡ false
+  stuck_all [] path s h = h
+  stuck_all (k ∷ ks) path s h = stuck_all ks path (step F k path s) (stuck k path s h)
 
--- ---- where the run is on the path
+  -- ---- where the run isn't here, nothing happens
 
-module _ (v : Valuation) (P : Program) (I : Interpretation) (lower : Option Level) (names locals : List Text) (within : (x : Text) → Contains locals x → Contains names x) (globals : Store) where
-  pub record Follows (ts : State) (s : meaning.State) : Type 0 where
-    pub names_are : names_in ts.store ≡ names
-    pub store : valued v ts.store ≡ s.locals
-    pub globals_are : s.globals ≡ globals
-    pub flag : truth v ts.flag ≡ false
-    pub gone : truth v ts.gone ≡ false
+  mutual
+    idle : (k : CoreStmt) → IsFormed P p k → (path : Tree) (s : State) (st : Store Value) (f g : Bool) → (truth v path && not g) ≡ false → Agrees v S s st f g → Agrees v S (step F k path s) st f g
+    idle (Assign ps es) formed path s st f g off a =
+        let ts = map (term_in F s.store) es in
+        let typed = all-sorts F S s.store es formed.0 a.sorts formed.1 in
+        record {
+          sorts = assign-sorts S (guard_of path s) ps ts formed.0 s.store formed.2.sorts typed a.sorts;
+          store = assign_off v S (guard_of path s) (guard_off path s st f g off a) ps ts formed.0 formed.2.sorts typed s.store st a.sorts a.store;
+          flag_is = a.flag_is;
+          gone_is = a.gone_is;
+          assumes = a.assumes;
+        }
+    idle (If' c n x m y) formed path s st f g off a =
+        let c' = term_in F s.store c in
+        let off1 = ap (λ (b : Bool). b && not g) (and_truth v path c') ∙ and_off (truth v path) (truth v c') g off in
+        let off2 = ap (λ (b : Bool). b && not g) (and_truth v path (not_of c')) ∙ and_off (truth v path) (truth v (not_of c')) g off in
+        idle_row y formed.2 (and_of path (not_of c')) (steps F x (and_of path c') s) st f g off2 (idle_row x formed.1 (and_of path c') s st f g off1 a)
+    idle (Call ps q es) formed path s st f g off a = a
+    idle (Assume c) formed path s st f g off a =
+        let guard = guard_of path s in
+        let c' = term_in F s.store c in
+        let holds : truth v (or_of (not_of guard) c') ≡ true =
+        or_truth v (not_of guard) c' ∙ ap (λ (b : Bool). b || truth v c') (not_truth v guard ∙ ap not (guard_off path s st f g off a)) in
+        record {
+          sorts = a.sorts;
+          store = a.store;
+          flag_is = a.flag_is;
+          gone_is = a.gone_is;
+          assumes = all_push v s.assumes (or_of (not_of guard) c') ∙ both_on (all_true v s.assumes) (truth v (or_of (not_of guard) c')) a.assumes holds;
+        }
+    idle Fail formed path s st f g off a =
+        let down = guard_off path s st f g off a in
+        record {
+          sorts = a.sorts;
+          store = a.store;
+          flag_is = or_truth v s.flag (guard_of path s) ∙ or_off (truth v s.flag) (truth v (guard_of path s)) down ∙ a.flag_is;
+          gone_is = or_truth v s.gone (guard_of path s) ∙ or_off (truth v s.gone) (truth v (guard_of path s)) down ∙ a.gone_is;
+          assumes = a.assumes;
+        }
+    idle Return formed path s st f g off a =
+        record {
+          sorts = a.sorts;
+          store = a.store;
+          flag_is = a.flag_is;
+          gone_is = or_truth v s.gone (guard_of path s) ∙ or_off (truth v s.gone) (truth v (guard_of path s)) (guard_off path s st f g off a) ∙ a.gone_is;
+          assumes = a.assumes;
+        }
 
-  -- what the terms say where a run of statements leads
-  abbrev pub After : State → Flow → Type 0
-  After ts (Next s) = Follows ts s
-  After ts (Returns s) = (s.globals ≡ globals) × (truth v ts.flag ≡ false) × (truth v ts.gone ≡ true)
-  After ts Failed = (truth v ts.flag ≡ true) × (truth v ts.gone ≡ true)
-  After ts (Breaks s) = ⊥
-  After ts Blocked = ⊥
-  After ts Unfinished = ⊥
+    idle_row : {n : _} (ks : Row_of-CoreStmt n) → AreFormed P p ks → (path : Tree) (s : State) (st : Store Value) (f g : Bool) → (truth v path && not g) ≡ false → Agrees v S s st f g → Agrees v S (steps F ks path s) st f g
+    idle_row end_of-CoreStmt formed path s st f g off a = a
+    idle_row (more_of-CoreStmt k ks) formed path s st f g off a = idle_row ks formed.1 path (step F k path s) st f g off (idle k formed.0 path s st f g off a)
 
-  follows-same : (ts ts' : State) (s : meaning.State) → Same v ts ts' → Follows ts s → Follows ts' s
-  follows-same ts ts' s same f = record {
-    names_are = same.names ∙ f.names_are;
-    store = same.store ∙ f.store;
-    globals_are = f.globals_are;
-    flag = same.flag ∙ f.flag;
-    gone = same.gone ∙ f.gone;
-  }
+  idle_all : (ks : List CoreStmt) → AllFormed P p ks → (path : Tree) (s : State) (st : Store Value) (f g : Bool) → (truth v path && not g) ≡ false → Agrees v S s st f g → Agrees v S (all_steps F ks path s) st f g
+  idle_all [] formed path s st f g off a = a
+  idle_all (k ∷ ks) formed path s st f g off a = idle_all ks formed.1 path (step F k path s) st f g off (idle k formed.0 path s st f g off a)
 
-  after-same : (ts ts' : State) (flow : Flow) → Same v ts ts' → After ts flow → After ts' flow
-  after-same ts ts' (Next s) same a = follows-same ts ts' s same a
-  after-same ts ts' (Returns s) same a = (a.0, same.flag ∙ a.1, same.gone ∙ a.2)
-  after-same ts ts' Failed same a = (same.flag ∙ a.0, same.gone ∙ a.1)
-  after-same ts ts' (Breaks s) same a = absurd a
-  after-same ts ts' Blocked same a = absurd a
-  after-same ts ts' Unfinished same a = absurd a
+  -- a stretch off the path, after a run
+  then_idle : {n : _} (ks : Row_of-CoreStmt n) → AreFormed P p ks → (path : Tree) (s : State) (out : Step) → ((g : Bool) → (truth v path && not g) ≡ false) → After v S s out → After v S (steps F ks path s) out
+  then_idle ks formed path s (Goes st) off a = idle_row ks formed path s st false false (off false) a
+  then_idle ks formed path s (Stops st flag) off a = idle_row ks formed path s st flag true (off true) a
+  then_idle ks formed path s Blocks off a = stuck_row ks path s a
+  then_idle ks formed path s Lacks off a = absurd a
 
-  -- one stretch, and then another
-  live-then : (path : Tree) (go : State → State) (ts : State) (flow : Flow) (rest : meaning.State → Flow) → After ts flow → ((s : meaning.State) → Follows ts s → After (go ts) (rest s)) → (IsIdle v path ts → Same v ts (go ts)) → After (go ts) (and_then flow rest)
-  live-then path go ts (Next s) rest a next idles = next s a
-  live-then path go ts (Returns s) rest a next idles =
-      after-same ts (go ts) (Returns s) (idles (ap (λ (b : Bool). truth v path && not b) a.2 ∙ and_false (truth v path))) a
-  live-then path go ts Failed rest a next idles =
-      after-same ts (go ts) Failed (idles (ap (λ (b : Bool). truth v path && not b) a.1 ∙ and_false (truth v path))) a
-  live-then path go ts (Breaks s) rest a next idles = absurd a
-  live-then path go ts Blocked rest a next idles = absurd a
-  live-then path go ts Unfinished rest a next idles = absurd a
+  -- ---- where the run is here
 
-  guard-on : (path : Tree) (ts : State) (s : meaning.State) → truth v path ≡ true → Follows ts s → truth v (guard_of path ts) ≡ true
-  guard-on path ts s on f = guard-truth v path ts ∙ (λ i. on i && not (f.gone i))
+  holds_is : (s : State) (st : Store Value) (c : CoreExpr) (f g : Bool) → HasType F S c BoolSort → Agrees v S s st f g → truth v (term_in F s.store c) ≡ truth_of (value_in I st c)
+  holds_is s st c f g h a = ap truth_of (term-value F v I reads S s.store c BoolSort a.sorts h ∙ ap (λ (x : Store Value). value_in I x c) a.store)
 
-  live-assert : (path t : Tree) (ts : State) (s : meaning.State) (b : Bool) → truth v path ≡ true → truth v t ≡ b → Follows ts s → After (assert path t ts) (if b then Next s else Failed)
-  live-assert path t ts s true on e f =
-      let q = and_of path (not_of t) in
-      let no : truth v q ≡ false = and-truth v path (not_of t) ∙ (λ i. on i && truth v (not_of t)) ∙ not-truth v t ∙ ap not e in
-      let off : IsIdle v q ts = ap (λ (b : Bool). b && not (truth v ts.gone)) no in
-      follows-same ts (assert path t ts) s (same-fail v (guard_of q ts) ts (guard-off v q ts off)) f
-  live-assert path t ts s false on e f =
-      let q = and_of path (not_of t) in
-      let yes : truth v q ≡ true = and-truth v path (not_of t) ∙ (λ i. on i && truth v (not_of t)) ∙ not-truth v t ∙ ap not e in
-      let g = guard_of q ts in
-      let up = guard-on q ts s yes f in
-      (or-truth v ts.flag g ∙ or_on (truth v ts.flag) (truth v g) up, or-truth v ts.gone g ∙ or_on (truth v ts.gone) (truth v g) up)
-
-  set-is : (s : meaning.State) (x : Text) (w y : Value) → is_in s.locals x ≡ true → w ≡ y → run.set s x w ≡ record { globals = s.globals; entry = s.entry; locals = run.assigned s.locals x y }
-  set-is s x w y there e =
-      ap (run.set s x) e ∙ ap (λ (b : Bool). if b then record s { locals = run.assigned s.locals x y } else record s { globals = run.assigned s.globals x y }) there
-
-  live-assign : (path : Tree) (ls : List Left) (es : List Expr) (ts : State) (s : meaning.State) → IsBooleanAssign names locals ls es → truth v path ≡ true → Holds IsTruth ts → Follows ts s → Follows (assign path ls es ts) (run.assign I s ls es)
-  live-assign path (l ∷ []) (e ∷ []) ts s h on w f =
-      let x = l.name in
-      let g = guard_of path ts in
-      let t = term_of ts.store e.kind in
-      let new = ite_of g t (term_named ts.store x) in
-      let y = meaning.value I s e.kind in
-      let there : Contains (names_in ts.store) x = subst (λ (xs : List Text). Contains xs x) (sym f.names_are) (within x h.1) in
-      let found : held s.locals x ≡ Some (value v (term_named ts.store x)) = ap (λ (vs : Store). held vs x) (sym f.store) ∙ held-named v ts.store x there in
-      let plain : written (variable I s x) (map index_of (values_of I s l.indices)) y ≡ y =
-      ap (λ (is : List Expr). written (variable I s x) (map index_of (values_of I s is)) y) h.0 in
-      let becomes : value v new ≡ y =
-      chosen v g ts x t w (term-keeps IsTruth truths ts.store e.kind w.store) true (guard-on path ts s on f) ∙ term-value v names I s ts.store f.names_are f.store e.kind h.2 in
-      let after : Follows (set g ts x t) (record { globals = s.globals; entry = s.entry; locals = run.assigned s.locals x y }) = record {
-        names_are = assigned-names ts.store x new ∙ f.names_are;
-        store = valued-assigned v ts.store x new ∙ (λ i. run.assigned (f.store i) x (becomes i));
-        globals_are = f.globals_are;
-        flag = f.flag;
-        gone = f.gone;
-      } in
-      subst (Follows (set g ts x t)) (sym (set-is s x _ y (held-is_in s.locals x _ found) plain)) after
-  live-assign path [] es ts s h on w f = absurd h
-  live-assign path (l ∷ []) [] ts s h on w f = absurd h
-  live-assign path (l ∷ []) (e ∷ d ∷ es) ts s h on w f = absurd h
-  live-assign path (l ∷ k ∷ ls) es ts s h on w f = absurd h
+  live_assume : (c : CoreExpr) → HasType F S c BoolSort → (path : Tree) (s : State) (st : Store Value) → truth v path ≡ true → Agrees v S s st false false → (b : Bool) → truth_of (value_in I st c) ≡ b → After v S (step F (Assume c) path s) (if b then Goes st else Blocks)
+  live_assume c h path s st on a true e =
+      let n = not_of (guard_of path s) in
+      let c' = term_in F s.store c in
+      let holds : truth v (or_of n c') ≡ true = or_truth v n c' ∙ or_on (truth v n) (truth v c') (holds_is s st c false false h a ∙ e) in
+      record {
+        sorts = a.sorts;
+        store = a.store;
+        flag_is = a.flag_is;
+        gone_is = a.gone_is;
+        assumes = all_push v s.assumes (or_of n c') ∙ both_on (all_true v s.assumes) (truth v (or_of n c')) a.assumes holds;
+      }
+  live_assume c h path s st on a false e =
+      let n = not_of (guard_of path s) in
+      let c' = term_in F s.store c in
+      let down : truth v n ≡ false = not_truth v (guard_of path s) ∙ ap not (guard_on path s st on a) in
+      let fails : truth v (or_of n c') ≡ false = or_truth v n c' ∙ (λ i. down i || (holds_is s st c false false h a ∙ e) i) in
+      all_push v s.assumes (or_of n c') ∙ both_off (all_true v s.assumes) (truth v (or_of n c')) fails
 
   -- a choice, by the value of its condition
-  live-if : {m n : _} (a : Row_of-Stmt m) (b : Row_of-Stmt n) (path t : Tree) (ts : State) (s : meaning.State) (c : Bool) → truth v path ≡ true → truth v t ≡ c → Holds IsTruth ts → Follows ts s
-      → (truth v (and_of path t) ≡ true → After (steps a (and_of path t) ts) (run.steps P I lower a s))
-      → ((us : State) → truth v (and_of path (not_of t)) ≡ true → Holds IsTruth us → Follows us s → After (steps b (and_of path (not_of t)) us) (run.steps P I lower b s))
-      → After (steps b (and_of path (not_of t)) (steps a (and_of path t) ts)) (if c then run.steps P I lower a s else run.steps P I lower b s)
-  live-if a b path t ts s true on e w f first second =
-      let p1 = and_of path t in
-      let p2 = and_of path (not_of t) in
-      let yes : truth v p1 ≡ true = and-truth v path t ∙ (λ i. on i && e i) in
-      let no : truth v p2 ≡ false = and-truth v path (not_of t) ∙ (λ i. on i && truth v (not_of t)) ∙ not-truth v t ∙ ap not e in
-      let us = steps a p1 ts in
-      let off : IsIdle v p2 us = ap (λ (z : Bool). z && not (truth v us.gone)) no in
-      after-same us (steps b p2 us) (run.steps P I lower a s)
-      (idle_row v b p2 us (and-sort path (not_of t)) (steps-keep IsTruth truths a p1 ts (and-sort path t) w) off) (first yes)
-  live-if a b path t ts s false on e w f first second =
-      let p1 = and_of path t in
-      let p2 = and_of path (not_of t) in
-      let no : truth v p1 ≡ false = and-truth v path t ∙ (λ i. on i && e i) in
-      let yes : truth v p2 ≡ true = and-truth v path (not_of t) ∙ (λ i. on i && truth v (not_of t)) ∙ not-truth v t ∙ ap not e in
-      let us = steps a p1 ts in
-      let off : IsIdle v p1 ts = ap (λ (z : Bool). z && not (truth v ts.gone)) no in
-      second us yes (steps-keep IsTruth truths a p1 ts (and-sort path t) w) (follows-same ts us s (idle_row v a p1 ts (and-sort path t) w off) f)
+  live_if : (c : CoreExpr) {n m : _} (x : Row_of-CoreStmt n) (y : Row_of-CoreStmt m) → HasType F S c BoolSort × AreFormed P p x × AreFormed P p y → (path : Tree) (s : State) (st : Store Value) → truth v path ≡ true → Agrees v S s st false false
+      → ((path : Tree) (s : State) → truth v path ≡ true → Agrees v S s st false false → After v S (steps F x path s) (run_row I calls x st)) → ((path : Tree) (s : State) → truth v path ≡ true → Agrees v S s st false false → After v S (steps F y path s) (run_row I calls y st))
+      → (b : Bool) → truth_of (value_in I st c) ≡ b → After v S (steps F y (and_of path (not_of (term_in F s.store c))) (steps F x (and_of path (term_in F s.store c)) s)) (if b then run_row I calls x st else run_row I calls y st)
+  live_if c x y formed path s st on a first second true e =
+      let c' = term_in F s.store c in
+      let holds : truth v c' ≡ true = holds_is s st c false false formed.0 a ∙ e in
+      let on1 : truth v (and_of path c') ≡ true = and_truth v path c' ∙ both_on (truth v path) (truth v c') on holds in
+      let off2 : (g : Bool) → (truth v (and_of path (not_of c')) && not g) ≡ false =
+      λ g. ap (λ (b : Bool). b && not g) (and_truth v path (not_of c')) ∙ off_path (truth v path) (truth v (not_of c')) g (not_truth v c' ∙ ap not holds) in
+      then_idle y formed.2 (and_of path (not_of c')) (steps F x (and_of path c') s) (run_row I calls x st) off2 (first (and_of path c') s on1 a)
+  live_if c x y formed path s st on a first second false e =
+      let c' = term_in F s.store c in
+      let fails : truth v c' ≡ false = holds_is s st c false false formed.0 a ∙ e in
+      let off1 : (truth v (and_of path c') && not false) ≡ false = ap (λ (b : Bool). b && not false) (and_truth v path c') ∙ off_path (truth v path) (truth v c') false fails in
+      let on2 : truth v (and_of path (not_of c')) ≡ true = and_truth v path (not_of c') ∙ both_on (truth v path) (truth v (not_of c')) on (not_truth v c' ∙ ap not fails) in
+      second (and_of path (not_of c')) (steps F x (and_of path c') s) on2 (idle_row x formed.1 (and_of path c') s st false false off1 a)
+
+  then_row : {n : _} (ks : Row_of-CoreStmt n) → AreFormed P p ks → (path : Tree) (s1 : State) (out : Step) → After v S s1 out → ((st1 : Store Value) → Agrees v S s1 st1 false false → After v S (steps F ks path s1) (run_row I calls ks st1)) → After v S (steps F ks path s1) (then_run out (run_row I calls ks))
+  then_row ks formed path s1 (Goes st1) a next = next st1 a
+  then_row ks formed path s1 (Stops st1 flag) a next = idle_row ks formed path s1 st1 flag true (and_gone (truth v path)) a
+  then_row ks formed path s1 Blocks a next = stuck_row ks path s1 a
+  then_row ks formed path s1 Lacks a next = absurd a
 
   mutual
-    pub live : (k : StmtKind) → IsBooleanStmt names locals k → (path : Tree) (ts : State) (s : meaning.State) → IsTruth path → truth v path ≡ true → Holds IsTruth ts → Follows ts s → After (step k path ts) (run.step P I lower k s)
-    live (Assert e) h path ts s p on w f =
-        live-assert path (term_of ts.store e.kind) ts s (truth_of (meaning.value I s e.kind)) on (ap truth_of (term-value v names I s ts.store f.names_are f.store e.kind h)) f
-    live (Assign ls es) h path ts s p on w f = live-assign path ls es ts s h on w f
-    live (If' e shape a shape' b) h path ts s p on w f =
-        let t = term_of ts.store e.kind in
-        live-if a b path t ts s (truth_of (meaning.value I s e.kind)) on (ap truth_of (term-value v names I s ts.store f.names_are f.store e.kind h.0)) w f
-        (λ yes. live_row a h.1 (and_of path t) ts s (and-sort path t) yes w f)
-        (λ us yes w1 f1. live_row b h.2 (and_of path (not_of t)) us s (and-sort path (not_of t)) yes w1 f1)
-    live Return h path ts s p on w f =
-        let g = guard_of path ts in
-        (f.globals_are, f.flag, or-truth v ts.gone g ∙ or_on (truth v ts.gone) (truth v g) (guard-on path ts s on f))
-    live _ h path ts s p on w f = absurd h
+    live : (k : CoreStmt) → IsFormed P p k → IsStraight k → (path : Tree) (s : State) (st : Store Value) → truth v path ≡ true → Agrees v S s st false false → After v S (step F k path s) (core.run I calls k st)
+    live (Assign ps es) formed straight path s st on a =
+        let ts = map (term_in F s.store) es in
+        let typed = all-sorts F S s.store es formed.0 a.sorts formed.1 in
+        record {
+          sorts = assign-sorts S (guard_of path s) ps ts formed.0 s.store formed.2.sorts typed a.sorts;
+          store = assign_on v S (guard_of path s) (guard_on path s st on a) ps ts formed.0 formed.2.sorts typed s.store st a.sorts a.store
+              ∙ ap (write_all st ps) (all-values F v I reads S s.store es formed.0 a.sorts formed.1 ∙ ap (λ (x : Store Value). map (value_in I x) es) a.store);
+          flag_is = a.flag_is;
+          gone_is = a.gone_is;
+          assumes = a.assumes;
+        }
+    live (If' c n x m y) formed straight path s st on a = live_if c x y formed path s st on a (λ q r o b. live_row x formed.1 straight.0 q r st o b) (λ q r o b. live_row y formed.2 straight.1 q r st o b) (truth_of (value_in I st c)) refl
+    live (Call ps q es) formed straight path s st on a = absurd straight
+    live (Assume c) formed straight path s st on a = live_assume c formed path s st on a (truth_of (value_in I st c)) refl
+    live Fail formed straight path s st on a =
+        let up = guard_on path s st on a in
+        record {
+          sorts = a.sorts;
+          store = a.store;
+          flag_is = or_truth v s.flag (guard_of path s) ∙ or_on (truth v s.flag) (truth v (guard_of path s)) up;
+          gone_is = or_truth v s.gone (guard_of path s) ∙ or_on (truth v s.gone) (truth v (guard_of path s)) up;
+          assumes = a.assumes;
+        }
+    live Return formed straight path s st on a =
+        record {
+          sorts = a.sorts;
+          store = a.store;
+          flag_is = a.flag_is;
+          gone_is = or_truth v s.gone (guard_of path s) ∙ or_on (truth v s.gone) (truth v (guard_of path s)) (guard_on path s st on a);
+          assumes = a.assumes;
+        }
 
-    pub live_row : {m : _} → (ks : Row_of-Stmt m) → AreBooleanStmts names locals ks → (path : Tree) (ts : State) (s : meaning.State) → IsTruth path → truth v path ≡ true → Holds IsTruth ts → Follows ts s → After (steps ks path ts) (run.steps P I lower ks s)
-    live_row end_of-Stmt h path ts s p on w f = f
-    live_row (more_of-Stmt at k ks) h path ts s p on w f =
-        let us = step k path ts in
-        let w1 = step-keeps IsTruth truths k path ts p w in
-        live-then path (steps ks path) us (run.step P I lower k s) (run.steps P I lower ks) (live k h.0 path ts s p on w f)
-        (λ s1 f1. live_row ks h.1 path us s1 p on w1 f1) (idle_row v ks path us p w1)
+    live_row : {n : _} (ks : Row_of-CoreStmt n) → AreFormed P p ks → AreStraight ks → (path : Tree) (s : State) (st : Store Value) → truth v path ≡ true → Agrees v S s st false false → After v S (steps F ks path s) (run_row I calls ks st)
+    live_row end_of-CoreStmt formed straight path s st on a = a
+    live_row (more_of-CoreStmt k ks) formed straight path s st on a =
+        then_row ks formed.1 path (step F k path s) (core.run I calls k st) (live k formed.0 straight.0 path s st on a) (λ st1 a1. live_row ks formed.1 straight.1 path (step F k path s) st1 on a1)
 
-  pub live_all : (ks : List Stmt) → AllBooleanStmts names locals ks → (path : Tree) (ts : State) (s : meaning.State) → IsTruth path → truth v path ≡ true → Holds IsTruth ts → Follows ts s → After (all_steps ks path ts) (each (run.step P I lower) (kinds_of ks) s)
-  live_all [] h path ts s p on w f = f
-  live_all (k ∷ ks) h path ts s p on w f =
-      let us = step k.kind path ts in
-      let w1 = step-keeps IsTruth truths k.kind path ts p w in
-      live-then path (all_steps ks path) us (run.step P I lower k.kind s) (each (run.step P I lower) (kinds_of ks)) (live k.kind h.0 path ts s p on w f)
-      (λ s1 f1. live_all ks h.1 path us s1 p on w1 f1) (idle_all v ks path us p w1)
+  then_all : (ks : List CoreStmt) → AllFormed P p ks → (path : Tree) (s1 : State) (out : Step) → After v S s1 out → ((st1 : Store Value) → Agrees v S s1 st1 false false → After v S (all_steps F ks path s1) (run_all I calls ks st1)) → After v S (all_steps F ks path s1) (then_run out (run_all I calls ks))
+  then_all ks formed path s1 (Goes st1) a next = next st1 a
+  then_all ks formed path s1 (Stops st1 flag) a next = idle_all ks formed path s1 st1 flag true (and_gone (truth v path)) a
+  then_all ks formed path s1 Blocks a next = stuck_all ks path s1 a
+  then_all ks formed path s1 Lacks a next = absurd a
+
+  live_all : (ks : List CoreStmt) → AllFormed P p ks → AllStraight ks → (path : Tree) (s : State) (st : Store Value) → truth v path ≡ true → Agrees v S s st false false → After v S (all_steps F ks path s) (run_all I calls ks st)
+  live_all [] formed straight path s st on a = a
+  live_all (k ∷ ks) formed straight path s st on a =
+      then_all ks formed.1 path (step F k path s) (core.run I calls k st) (live k formed.0 straight.0 path s st on a) (λ st1 a1. live_all ks formed.1 straight.1 path (step F k path s) st1 on a1)
+
+  -- ---- the beginning and the end
+
+  starts_value : (vs : List Var) → map (value v) (map (λ x. leaf (head.Start x.sort)) vs) ≡ map (λ x. I.start x.sort) vs
+  starts_value [] = refl
+  starts_value (x ∷ vs) = λ i. reads.starts x.sort i ∷ starts_value vs i
+
+  begun_store : (ins globals : List Tree) → map_store (value v) (begun p ins globals).store ≡ enter I.start p (map (value v) ins) (map (value v) globals)
+  begun_store ins globals =
+      let outs = map (λ x. leaf (head.Start x.sort)) p.outs in
+      let locals = map (λ x. leaf (head.Start x.sort)) p.locals in
+      let all : map (value v) (ins ++ (outs ++ locals)) ≡ map (value v) ins ++ (map (λ x. I.start x.sort) p.outs ++ map (λ x. I.start x.sort) p.locals) =
+      map-append (value v) ins (outs ++ locals) ∙ ap (λ l. map (value v) ins ++ l) (map-append (value v) outs locals ∙ (λ i. starts_value p.outs i ++ starts_value p.locals i)) in
+      λ i. record { slots = all i; globals = map (value v) globals }
+
+  reads_value : (st : Store Tree) (ps : List Spot) → map (value v) (map (read nothing st) ps) ≡ map (read core.nothing (map_store (value v) st)) ps
+  reads_value st [] = refl
+  reads_value st (q ∷ ps) = λ i. read_map (value v) nothing st q i ∷ reads_value st ps i
+
+  outs_value : (s : State) (st : Store Value) → map_store (value v) s.store ≡ st → map (value v) (outs_of p s) ≡ core.outs_of p st
+  outs_value s st e = reads_value s.store (out_spots p) ∙ ap (core.outs_of p) e
+
+  ended : (s : State) (st : Store Value) (f g : Bool) → Agrees v S s st f g → Ended (core.outs_of p st) st.globals f ≡ told v p s
+  ended s st f g a =
+      let tells : Ended (map (value v) (outs_of p s)) (map (value v) s.store.globals) (truth v s.flag) ≡ Ended (core.outs_of p st) st.globals f =
+      λ i. Ended (outs_value s st a.store i) (a.store i).globals (a.flag_is i) in
+      sym (ap (λ (b : Bool). if b then Ended (map (value v) (outs_of p s)) (map (value v) s.store.globals) (truth v s.flag) else Blocked) a.assumes ∙ tells)
+
+  end_is : (s : State) (out : Step) → After v S s out → end_of p out ≡ told v p s
+  end_is s (Goes st) a = ended s st false false a
+  end_is s (Stops st flag) a = ended s st flag true a
+  end_is s Blocks a = sym (ap (λ (b : Bool). if b then Ended (map (value v) (outs_of p s)) (map (value v) s.store.globals) (truth v s.flag) else Blocked) a)
+  end_is s Lacks a = absurd a
+
+pub bodies-are-runs : BodiesAreRuns
+bodies-are-runs P p formed straight I v reads calls ins globals hi hg =
+    let start : Agrees v (state_sorts P p) (begun p ins globals) (enter I.start p (map (value v) ins) (map (value v) globals)) false false = record {
+      sorts = begun-sorts P p ins globals hi hg;
+      store = begun_store P p I v reads calls ins globals;
+      flag_is = refl;
+      gone_is = refl;
+      assumes = refl;
+    } in
+    end_is P p I v reads calls (body_of P.functions p ins globals) (run_all I calls p.body (enter I.start p (map (value v) ins) (map (value v) globals)))
+    (live_all P p I v reads calls p.body formed straight (constant true) (begun p ins globals) (enter I.start p (map (value v) ins) (map (value v) globals)) refl start)

@@ -1,8 +1,9 @@
-pub mod Keep
-pub mod Adequate
-pub mod Runs
-pub mod Sorted
+pub mod Stores
 pub mod Numbers
-pub mod Statements
-pub mod Declared
-pub mod Assertions
+pub mod Loops
+pub mod Rows
+pub mod Bodies
+pub mod Typed
+pub mod Sorted
+pub mod Values
+pub mod Adequate

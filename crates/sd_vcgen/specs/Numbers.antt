@@ -1,34 +1,70 @@
 -- Which trees the numbers that a body is run with stand for.
-use Rattle.std.specs.Prelude.{◌≡◌, ℕ, ◌<◌, List, [], ◌∷◌, map, length}
-use Rattle.sd_base.specs.Value.{Text}
+use Rattle.std.specs.Prelude.{◌≡◌, ℕ, ◌<◌, List, All, map, length, Option, slice_get}
+use Rattle.sd_core.specs.declared.CoreProc.{CoreProc}
+use Rattle.sd_core.specs.declared.Spot.{Spot}
+use Rattle.sd_core.specs.declared.Spot.TheVariants.{Slot, Global}
+use Rattle.sd_core.specs.Store.{Store, map_store}
 use Rattle.sd_term.specs.Tree.{Tree}
 use Rattle.sd_term.specs.Bank.{tree_at}
-use Rattle.sd_vcgen.specs.Body.{Terms, State}
+use Rattle.sd_vcgen.specs.Body.{State, outs_of}
+use Rattle.sd_vcgen.specs.declared.body.BodyTerms.{BodyTerms}
 use Rattle.sd_vcgen.specs.declared.body.BodyState.{BodyState}
+use Rattle.sd_vcgen.specs.declared.spots.Spots.{Spots}
 
 -- the number is one of the bank, and stands for the tree
 pub record Denotes (bank : List Tree) (id : ℕ) (t : Tree) : Type 0 where
   pub within : id < length bank
   pub tree : tree_at bank id ≡ t
 
-abbrev pub store_of : List Tree → List (Text × ℕ) → Terms
-store_of bank = map (λ e. (e.0, tree_at bank e.1))
+-- the numbers are of the bank, and stand for these trees
+pub record DenoteAll (bank : List Tree) (ids : List ℕ) (ts : List Tree) : Type 0 where
+  pub within : All (λ id. id < length bank) ids
+  pub trees : map (tree_at bank) ids ≡ ts
 
-abbrev pub AreWithin : List Tree → List (Text × ℕ) → Type 0
-AreWithin bank [] = Unit {0}
-AreWithin bank (e ∷ es) = (e.1 < length bank) × AreWithin bank es
+-- the terms of a body, which ended in this state
+pub record AreTermsOf (bank : List Tree) (terms : BodyTerms) (p : CoreProc) (s : State) : Type 0 where
+  pub outs : DenoteAll bank terms.outs (outs_of p s)
+  pub globals : DenoteAll bank terms.globals s.store.globals
+  pub flag : Denotes bank terms.flag s.flag
+  pub assumes : DenoteAll bank terms.assumes s.assumes
+
+-- ---- while it runs
+
+-- the numbers that the spots hold
+abbrev pub numbers_of : Spots → Store ℕ
+numbers_of n = record { slots = n.slots; globals = n.globals }
+
+-- what a spot holds, where there is such a spot
+abbrev pub held : Store ℕ → Spot → Option ℕ
+held n (Slot i) = slice_get n.slots i
+held n (Global i) = slice_get n.globals i
+
+-- the trees that they stand for
+abbrev pub store_of : List Tree → Spots → Store Tree
+store_of bank n = map_store (tree_at bank) (numbers_of n)
+
+-- the spots hold numbers of the bank
+pub record AreWithin (bank : List Tree) (n : Spots) : Type 0 where
+  pub slots : All (λ id. id < length bank) n.slots
+  pub globals : All (λ id. id < length bank) n.globals
 
 -- the state of numbers stands for the state of trees
-pub record Stands (bank : List Tree) (numbers : BodyState) (s : State) : Type 0 where
-  pub within : AreWithin bank numbers.store.entries
-  pub store : store_of bank numbers.store.entries ≡ s.store
-  pub flag : Denotes bank numbers.flag s.flag
-  pub gone : Denotes bank numbers.gone s.gone
+pub record Stands (bank : List Tree) (n : BodyState) (s : State) : Type 0 where
+  pub within : AreWithin bank n.spots
+  pub store : store_of bank n.spots ≡ s.store
+  pub flag : Denotes bank n.flag s.flag
+  pub gone : Denotes bank n.gone s.gone
+  pub assumes : DenoteAll bank n.assumes s.assumes
 
 -- the state of trees that it stands for
 abbrev pub state_of : List Tree → BodyState → State
-state_of bank numbers = record { store = store_of bank numbers.store.entries; flag = tree_at bank numbers.flag; gone = tree_at bank numbers.gone }
+state_of bank n = record {
+  store = store_of bank n.spots;
+  flag = tree_at bank n.flag;
+  gone = tree_at bank n.gone;
+  assumes = map (tree_at bank) n.assumes;
+}
 
 -- its numbers are in the bank
 abbrev pub IsWithin : List Tree → BodyState → Type 0
-IsWithin bank numbers = Stands bank numbers (state_of bank numbers)
+IsWithin bank n = Stands bank n (state_of bank n)

@@ -1,223 +1,142 @@
 //! The statements of a body run on terms, under a path that says when they are reached.
 ghost use Rattle.std.specs.Prelude.{◌≡◌, ◌<◌, [], ◌∷◌, ◌++◌, IfOk, OnOk, All, length, map};
-ghost use Rattle.std.specs.List.{zip, IsDistinct};
-ghost use Rattle.indexmap.specs.IndexMap.{insert_all};
-ghost use Rattle.sd_base.specs.Value.{same_text};
-ghost use Rattle.sd_ast.specs.Tree.{names_of};
-ghost use Rattle.sd_ast.specs.Boolean.{IsBooleanProc};
+ghost use Rattle.sd_core.specs.declared.CoreStmt.{Assign, Assume};
+ghost use Rattle.sd_core.specs.Run.{out_spots};
+ghost use Rattle.sd_core.specs.Store.{read};
+ghost use Rattle.sd_term.specs.declared.node.Head.TheVariants as head;
+ghost use Rattle.sd_term.specs.Tree.{leaf};
 ghost use Rattle.sd_term.specs.Bank.{tree_at};
-ghost use Rattle.sd_term.specs.Build.{Extends, not_of, and_of, or_of, eq_of};
+ghost use Rattle.sd_term.specs.Build.{Extends, not_of, and_of};
 ghost use Rattle.sd_vcgen.specs.Body as spec;
-ghost use Rattle.sd_vcgen.specs.Body.{constant, unary, binary, term_named, term_of, assert, assign, guard_of, step, all_steps, starting, begun, flag_of};
-ghost use Rattle.sd_vcgen.specs.Numbers.{Denotes, store_of, AreWithin, Stands, state_of, IsWithin};
+ghost use Rattle.sd_vcgen.specs.Body.{nothing, term_in, guard_of, assign, step, all_steps, begun};
+ghost use Rattle.sd_vcgen.specs.Numbers.{Denotes, DenoteAll, AreWithin, store_of, AreTermsOf, Stands, state_of, IsWithin};
 
-use indexmap::IndexMap;
-use sd_ast::{BinOp, Expr, ExprKind, Left, Proc, Stmt, StmtKind, UnOp};
-use sd_base::{CloneOf, Name, NoMemory, Var};
-use sd_term::{Bank, Head, Op, TermId};
+use crate::expression::{put_expression, put_expressions};
+use crate::spots::{Spots, hold, put_slot, put_spot, put_truth};
+use sd_base::{CloneOf, NoMemory, Var};
+use sd_core::{CoreExpr, CoreProc, CoreStmt, Function, Spot};
+use sd_term::{Bank, Head, TermId};
+use sqlite_items::Items;
 use std::alloc::Global;
 
-/// What the variables of a body hold, whether an assertion has failed, and whether the body has ended.
+/// The terms of a body: what its out-parameters and the globals hold at its end, where it fails an assertion, and what it assumes.
 #[derive(Drop)]
-pub(crate) struct BodyState {
-    store: IndexMap<Name, TermId>,
-    flag: TermId,
-    gone: TermId,
+pub struct BodyTerms {
+    pub outs: Items<TermId>,
+    pub globals: Items<TermId>,
+    pub flag: TermId,
+    pub assumes: Items<TermId>,
 }
 
-/// The term that is true where the body of the procedure fails an assertion, from these terms of its in-parameters.
+/// What the spots hold, whether an assertion has failed, whether the body has ended, and what it assumes.
+#[derive(Drop)]
+pub(crate) struct BodyState {
+    spots: Spots,
+    flag: TermId,
+    gone: TermId,
+    assumes: Items<TermId>,
+}
+
+/// The terms of a procedure's body, from these terms of its in-parameters and of the globals.
 ///
-/// A statement counts where its path is taken, which joins the conditions of the `if` statements around it, and where the
-/// body hasn't ended before it. An assignment keeps the old term elsewhere (Lahiri and others 2012).
-pub fn flag_term(
+/// A statement counts where its path is taken, which joins the conditions of the choices around it, and where the body
+/// hasn't ended before it. An assignment keeps the old term elsewhere (Lahiri and others 2012).
+pub fn body_of(
     alloc: Global,
     bank: &mut Bank,
-    procedure: &Proc,
-    inputs: &[TermId],
-) -> Result<TermId, NoMemory>
-    requires boolean { IsBooleanProc procedure.now }
-    requires count { length inputs.now ≡ length procedure.now.head.ins }
-    requires inputs { All (λ id. id < length bank.old) inputs.now }
-    ensures flag { IfOk result (λ id. Denotes bank.new id (flag_of (map (tree_at bank.old) inputs.now) procedure.now)) }
+    functions: &[Function],
+    procedure: &CoreProc,
+    ins: &[TermId],
+    globals: &[TermId],
+) -> Result<BodyTerms, NoMemory>
+    requires ins { All (λ id. id < length bank.old) ins.now }
+    requires globals { All (λ id. id < length bank.old) globals.now }
+    ensures terms { IfOk result (λ terms. AreTermsOf bank.new terms procedure.now (spec.body_of functions.now procedure.now (map (tree_at bank.old) ins.now) (map (tree_at bank.old) globals.now))) }
     ensures kept { OnOk result (Extends bank.old bank.new) }
 {
-    let Some(body) = &procedure.body else {
-        return put_truth(bank, false);
-    };
-    let mut state = begin(
-        alloc,
-        bank,
-        procedure.head.ins.as_slice(),
-        inputs,
-        body.locals.as_slice(),
-    )?;
+    let mut state = begin(alloc, bank, procedure, ins, globals)?;
     let path = put_truth(bank, true)?;
-    run_statements(bank, &mut state, path, body.stmts.as_slice())?;
-    Ok(state.flag)
+    run_statements(bank, functions, &mut state, path, procedure.body.as_slice())?;
+    let outs = put_outs(alloc, bank, &state.spots, procedure)?;
+    let BodyState {
+        spots,
+        flag,
+        assumes,
+        ..
+    } = state;
+    Ok(BodyTerms {
+        outs,
+        globals: spots.globals,
+        flag,
+        assumes,
+    })
 }
 
 /// Where a body begins.
 fn begin(
     alloc: Global,
     bank: &mut Bank,
-    parameters: &[Var],
-    inputs: &[TermId],
-    locals: &[Var],
+    procedure: &CoreProc,
+    ins: &[TermId],
+    globals: &[TermId],
 ) -> Result<BodyState, NoMemory>
-    requires count { length inputs.now ≡ length parameters.now }
-    requires inputs { All (λ id. id < length bank.old) inputs.now }
-    requires distinct { IsDistinct same_text (names_of parameters.now ++ names_of locals.now) }
-    ensures state { IfOk result (λ s. Stands bank.new s (begun (names_of parameters.now) (map (tree_at bank.old) inputs.now) locals.now)) }
+    requires ins { All (λ id. id < length bank.old) ins.now }
+    requires globals { All (λ id. id < length bank.old) globals.now }
+    ensures state { IfOk result (λ s. Stands bank.new s (begun procedure.now (map (tree_at bank.old) ins.now) (map (tree_at bank.old) globals.now))) }
     ensures kept { OnOk result (Extends bank.old bank.new) }
 {
     let flag = put_truth(bank, false)?;
     let gone = put_truth(bank, false)?;
-    let mut store = IndexMap::new(alloc);
-    declare_inputs(alloc, &mut store, parameters, inputs)?;
-    declare_locals(alloc, bank, &mut store, locals)?;
-    Ok(BodyState { store, flag, gone })
+    let mut slots = Items::from_slice(alloc, ins)?;
+    put_starts(alloc, bank, &mut slots, procedure.outs.as_slice())?;
+    put_starts(alloc, bank, &mut slots, procedure.locals.as_slice())?;
+    let globals = Items::from_slice(alloc, globals)?;
+    Ok(BodyState {
+        spots: Spots { slots, globals },
+        flag,
+        gone,
+        assumes: Items::new(alloc),
+    })
 }
 
-/// Gives each in-parameter the term of its input.
-fn declare_inputs(
+/// Adds a slot for each variable, with the starting value of its type.
+fn put_starts(
     alloc: Global,
-    store: &mut IndexMap<Name, TermId>,
-    parameters: &[Var],
-    inputs: &[TermId],
+    bank: &mut Bank,
+    slots: &mut Items<TermId>,
+    variables: &[Var],
 ) -> Result<(), NoMemory>
-    requires { length inputs.now ≡ length parameters.now }
-    ensures { OnOk result (store.new.entries ≡ insert_all same_text store.old.entries (zip (names_of parameters.now) inputs.now)) }
+    requires { All (λ id. id < length bank.old) slots.old }
+    ensures slots { OnOk result (DenoteAll bank.new slots.new (map (tree_at bank.old) slots.old ++ map (λ v. leaf (head.Start v.sort)) variables.now)) }
+    ensures kept { OnOk result (Extends bank.old bank.new) }
 {
-    for (i, parameter) in parameters.iter().enumerate() {
-        store.insert(parameter.name.clone_of(alloc)?, inputs[i])?;
+    for variable in variables {
+        let start = bank.put_tree(Head::Start(variable.sort.clone_of(alloc)?), &[])?;
+        slots.push(start)?;
     }
     Ok(())
 }
 
-/// Gives each local the starting value of its type.
-fn declare_locals(
+/// What the out-parameters hold.
+fn put_outs(
     alloc: Global,
     bank: &mut Bank,
-    store: &mut IndexMap<Name, TermId>,
-    locals: &[Var],
-) -> Result<(), NoMemory>
-    requires { AreWithin bank.old store.old.entries }
-    ensures within { OnOk result (AreWithin bank.new store.new.entries) }
-    ensures store { OnOk result (store_of bank.new store.new.entries ≡ insert_all same_text (store_of bank.old store.old.entries) (starting locals.now)) }
+    spots: &Spots,
+    procedure: &CoreProc,
+) -> Result<Items<TermId>, NoMemory>
+    requires { AreWithin bank.old spots.now }
+    ensures terms { IfOk result (λ ids. DenoteAll bank.new ids (map (read nothing (store_of bank.old spots.now)) (out_spots procedure.now))) }
+    ensures spots { OnOk result (AreWithin bank.new spots.now) }
     ensures kept { OnOk result (Extends bank.old bank.new) }
 {
-    for local in locals {
-        let start = bank.put_tree(Head::Start(local.sort.clone_of(alloc)?), &[])?;
-        store.insert(local.name.clone_of(alloc)?, start)?;
+    let first = procedure.ins.as_slice().len();
+    let outs = procedure.outs.as_slice();
+    let mut terms = Items::new(alloc);
+    for i in 0..outs.len() {
+        let term = put_slot(bank, spots, first + i)?;
+        terms.push(term)?;
     }
-    Ok(())
-}
-
-// ---- expressions
-
-fn put_truth(bank: &mut Bank, value: bool) -> Result<TermId, NoMemory>
-    ensures term { IfOk result (λ id. Denotes bank.new id (constant value)) }
-    ensures kept { OnOk result (Extends bank.old bank.new) }
-{
-    let op = if value { Op::True } else { Op::False };
-    bank.put_tree(Head::Op(op), &[])
-}
-
-#[tactic(auto, using(crate::proofs::Numbers::within_later))]
-fn put_expression(
-    bank: &mut Bank,
-    store: &IndexMap<Name, TermId>,
-    expression: &ExprKind,
-) -> Result<TermId, NoMemory>
-    requires { AreWithin bank.old store.now.entries }
-    ensures term { IfOk result (λ id. Denotes bank.new id (term_of (store_of bank.old store.now.entries) expression.now)) }
-    ensures store { OnOk result (AreWithin bank.new store.now.entries) }
-    ensures kept { OnOk result (Extends bank.old bank.new) }
-{
-    match expression {
-        ExprKind::Truth(value) => put_truth(bank, *value),
-        ExprKind::Var(name) => put_variable(bank, store, name),
-        ExprKind::Unary(operator, part) => {
-            let part = put_expression(bank, store, &part.get().kind)?;
-            put_unary(bank, *operator, part)
-        }
-        ExprKind::Binary(operator, left, right) => {
-            let left = put_expression(bank, store, &left.get().kind)?;
-            let right = put_expression(bank, store, &right.get().kind)?;
-            put_binary(bank, *operator, left, right)
-        }
-        _ => put_truth(bank, false),
-    }
-}
-
-fn put_variable(
-    bank: &mut Bank,
-    store: &IndexMap<Name, TermId>,
-    name: &Name,
-) -> Result<TermId, NoMemory>
-    requires { AreWithin bank.old store.now.entries }
-    ensures term { IfOk result (λ id. Denotes bank.new id (term_named (store_of bank.old store.now.entries) name.now)) }
-    ensures kept { OnOk result (Extends bank.old bank.new) }
-{
-    match store.get(name) {
-        Some(term) => Ok(*term),
-        None => put_truth(bank, false),
-    }
-}
-
-fn put_unary(bank: &mut Bank, operator: UnOp, part: TermId) -> Result<TermId, NoMemory>
-    requires { part < length bank.old }
-    ensures term { IfOk result (λ id. Denotes bank.new id (unary operator (tree_at bank.old part))) }
-    ensures kept { OnOk result (Extends bank.old bank.new) }
-{
-    match operator {
-        UnOp::Not => bank.not(part),
-        UnOp::Neg => put_truth(bank, false),
-    }
-}
-
-fn put_binary(
-    bank: &mut Bank,
-    operator: BinOp,
-    left: TermId,
-    right: TermId,
-) -> Result<TermId, NoMemory>
-    requires left { left < length bank.old }
-    requires right { right < length bank.old }
-    ensures term { IfOk result (λ id. Denotes bank.new id (binary operator (tree_at bank.old left) (tree_at bank.old right))) }
-    ensures kept { OnOk result (Extends bank.old bank.new) }
-{
-    match operator {
-        BinOp::And => bank.and(left, right),
-        BinOp::Or => bank.or(left, right),
-        BinOp::Implies => bank.implies(left, right),
-        BinOp::Explies => put_implied(bank, left, right),
-        BinOp::Iff | BinOp::Eq => bank.eq(left, right),
-        BinOp::Ne => put_unequal(bank, left, right),
-        _ => put_truth(bank, false),
-    }
-}
-
-fn put_implied(bank: &mut Bank, left: TermId, right: TermId) -> Result<TermId, NoMemory>
-    requires left { left < length bank.old }
-    requires right { right < length bank.old }
-    ensures term { IfOk result (λ id. Denotes bank.new id (or_of (tree_at bank.old left) (not_of (tree_at bank.old right)))) }
-    ensures kept { OnOk result (Extends bank.old bank.new) }
-{
-    let denied = bank.not(right)?;
-    let either = bank.or(left, denied)?;
-    Ok(either)
-}
-
-fn put_unequal(bank: &mut Bank, left: TermId, right: TermId) -> Result<TermId, NoMemory>
-    requires left { left < length bank.old }
-    requires right { right < length bank.old }
-    ensures term { IfOk result (λ id. Denotes bank.new id (not_of (eq_of (tree_at bank.old left) (tree_at bank.old right)))) }
-    ensures kept { OnOk result (Extends bank.old bank.new) }
-{
-    let equal = bank.eq(left, right)?;
-    let unequal = bank.not(equal)?;
-    Ok(unequal)
+    Ok(terms)
 }
 
 // ---- statements
@@ -234,7 +153,87 @@ fn put_guard(bank: &mut Bank, gone: TermId, path: TermId) -> Result<TermId, NoMe
     Ok(guard)
 }
 
-/// An assertion fails where the guard is true, and the body ends there.
+/// Each target takes its new term where the guard is true.
+fn assign(
+    bank: &mut Bank,
+    spots: &mut Spots,
+    guard: TermId,
+    targets: &[Spot],
+    news: &[TermId],
+) -> Result<(), NoMemory>
+    requires spots { AreWithin bank.old spots.old }
+    requires guard { guard < length bank.old }
+    requires news { All (λ id. id < length bank.old) news.now }
+    ensures spots { OnOk result (store_of bank.new spots.new ≡ spec.assign (tree_at bank.old guard) (store_of bank.old spots.old) targets.now (map (tree_at bank.old) news.now)) }
+    ensures within { OnOk result (AreWithin bank.new spots.new) }
+    ensures kept { OnOk result (Extends bank.old bank.new) }
+{
+    for (target, new) in targets.iter().zip(news) {
+        assign_one(bank, spots, guard, *target, *new)?;
+    }
+    Ok(())
+}
+
+fn assign_one(
+    bank: &mut Bank,
+    spots: &mut Spots,
+    guard: TermId,
+    target: Spot,
+    new: TermId,
+) -> Result<(), NoMemory>
+    requires spots { AreWithin bank.old spots.old }
+    requires guard { guard < length bank.old }
+    requires new { new < length bank.old }
+    ensures spots { OnOk result (store_of bank.new spots.new ≡ spec.assign (tree_at bank.old guard) (store_of bank.old spots.old) (target ∷ []) (tree_at bank.old new ∷ [])) }
+    ensures within { OnOk result (AreWithin bank.new spots.new) }
+    ensures kept { OnOk result (Extends bank.old bank.new) }
+{
+    let old = put_spot(bank, spots, target)?;
+    let chosen = bank.ite(guard, new, old)?;
+    hold(spots, target, chosen);
+    Ok(())
+}
+
+fn run_assignment(
+    bank: &mut Bank,
+    functions: &[Function],
+    state: &mut BodyState,
+    path: TermId,
+    targets: &[Spot],
+    rights: &[CoreExpr],
+) -> Result<(), NoMemory>
+    requires state { IsWithin bank.old state.old }
+    requires path { path < length bank.old }
+    ensures state { OnOk result (Stands bank.new state.new (step functions.now (Assign targets.now rights.now) (tree_at bank.old path) (state_of bank.old state.old))) }
+    ensures kept { OnOk result (Extends bank.old bank.new) }
+{
+    let news = put_expressions(bank, functions, &state.spots, rights)?;
+    let guard = put_guard(bank, state.gone, path)?;
+    assign(bank, &mut state.spots, guard, targets, news.as_slice())?;
+    Ok(())
+}
+
+fn run_assumption(
+    bank: &mut Bank,
+    functions: &[Function],
+    state: &mut BodyState,
+    path: TermId,
+    condition: &CoreExpr,
+) -> Result<(), NoMemory>
+    requires state { IsWithin bank.old state.old }
+    requires path { path < length bank.old }
+    ensures state { OnOk result (Stands bank.new state.new (step functions.now (Assume condition.now) (tree_at bank.old path) (state_of bank.old state.old))) }
+    ensures kept { OnOk result (Extends bank.old bank.new) }
+{
+    let holds = put_expression(bank, functions, &state.spots, condition)?;
+    let guard = put_guard(bank, state.gone, path)?;
+    let elsewhere = bank.not(guard)?;
+    let assumed = bank.or(elsewhere, holds)?;
+    state.assumes.push(assumed)?;
+    Ok(())
+}
+
+/// The body ends where the guard is true, with its flag up.
 fn fail(bank: &mut Bank, state: &mut BodyState, guard: TermId) -> Result<(), NoMemory>
     requires state { IsWithin bank.old state.old }
     requires guard { guard < length bank.old }
@@ -259,80 +258,14 @@ fn leave(bank: &mut Bank, state: &mut BodyState, guard: TermId) -> Result<(), No
     Ok(())
 }
 
-/// The variable takes the new term where the guard is true.
-fn set(
-    bank: &mut Bank,
-    state: &mut BodyState,
-    guard: TermId,
-    name: &Name,
-    new: TermId,
-) -> Result<(), NoMemory>
-    requires state { IsWithin bank.old state.old }
-    requires guard { guard < length bank.old }
-    requires new { new < length bank.old }
-    ensures state { OnOk result (Stands bank.new state.new (spec.set (tree_at bank.old guard) (state_of bank.old state.old) name.now (tree_at bank.old new))) }
-    ensures kept { OnOk result (Extends bank.old bank.new) }
-{
-    if let Some(term) = state.store.get_mut(name) {
-        *term = bank.ite(guard, new, *term)?;
-    }
-    Ok(())
-}
-
-fn run_assertion(
-    bank: &mut Bank,
-    state: &mut BodyState,
-    path: TermId,
-    condition: &ExprKind,
-) -> Result<(), NoMemory>
+fn run_failure(bank: &mut Bank, state: &mut BodyState, path: TermId) -> Result<(), NoMemory>
     requires state { IsWithin bank.old state.old }
     requires path { path < length bank.old }
-    ensures state { OnOk result (Stands bank.new state.new (assert (tree_at bank.old path) (term_of (state_of bank.old state.old).store condition.now) (state_of bank.old state.old))) }
+    ensures state { OnOk result (Stands bank.new state.new (spec.fail (guard_of (tree_at bank.old path) (state_of bank.old state.old)) (state_of bank.old state.old))) }
     ensures kept { OnOk result (Extends bank.old bank.new) }
 {
-    let holds = put_expression(bank, &state.store, condition)?;
-    let fails = bank.not(holds)?;
-    let path = bank.and(path, fails)?;
     let guard = put_guard(bank, state.gone, path)?;
     fail(bank, state, guard)
-}
-
-fn run_assignment(
-    bank: &mut Bank,
-    state: &mut BodyState,
-    path: TermId,
-    left: &Left,
-    right: &Expr,
-) -> Result<(), NoMemory>
-    requires state { IsWithin bank.old state.old }
-    requires path { path < length bank.old }
-    ensures state { OnOk result (Stands bank.new state.new (assign (tree_at bank.old path) (left.now ∷ []) (right.now ∷ []) (state_of bank.old state.old))) }
-    ensures kept { OnOk result (Extends bank.old bank.new) }
-{
-    let new = put_expression(bank, &state.store, &right.kind)?;
-    let guard = put_guard(bank, state.gone, path)?;
-    set(bank, state, guard, &left.name, new)
-}
-
-fn run_assignments(
-    bank: &mut Bank,
-    state: &mut BodyState,
-    path: TermId,
-    lefts: &[Left],
-    rights: &[Expr],
-) -> Result<(), NoMemory>
-    requires state { IsWithin bank.old state.old }
-    requires path { path < length bank.old }
-    ensures state { OnOk result (Stands bank.new state.new (assign (tree_at bank.old path) lefts.now rights.now (state_of bank.old state.old))) }
-    ensures kept { OnOk result (Extends bank.old bank.new) }
-{
-    match lefts {
-        [left] => match rights {
-            [right] => run_assignment(bank, state, path, left, right),
-            _ => Ok(()),
-        },
-        _ => Ok(()),
-    }
 }
 
 fn run_return(bank: &mut Bank, state: &mut BodyState, path: TermId) -> Result<(), NoMemory>
@@ -345,7 +278,7 @@ fn run_return(bank: &mut Bank, state: &mut BodyState, path: TermId) -> Result<()
     leave(bank, state, guard)
 }
 
-/// The paths of the two branches of an `if`.
+/// The paths of the two branches of a choice.
 #[derive(Drop)]
 struct Branches {
     then_path: TermId,
@@ -354,18 +287,19 @@ struct Branches {
 
 fn put_branches(
     bank: &mut Bank,
+    functions: &[Function],
     state: &BodyState,
     path: TermId,
-    condition: &ExprKind,
+    condition: &CoreExpr,
 ) -> Result<Branches, NoMemory>
     requires state { IsWithin bank.old state.now }
     requires path { path < length bank.old }
-    ensures then_path { IfOk result (λ b. Denotes bank.new b.then_path (and_of (tree_at bank.old path) (term_of (state_of bank.old state.now).store condition.now))) }
-    ensures else_path { IfOk result (λ b. Denotes bank.new b.else_path (and_of (tree_at bank.old path) (not_of (term_of (state_of bank.old state.now).store condition.now)))) }
+    ensures then_path { IfOk result (λ b. Denotes bank.new b.then_path (and_of (tree_at bank.old path) (term_in functions.now (state_of bank.old state.now).store condition.now))) }
+    ensures else_path { IfOk result (λ b. Denotes bank.new b.else_path (and_of (tree_at bank.old path) (not_of (term_in functions.now (state_of bank.old state.now).store condition.now)))) }
     ensures state { OnOk result (IsWithin bank.new state.now) }
     ensures kept { OnOk result (Extends bank.old bank.new) }
 {
-    let holds = put_expression(bank, &state.store, condition)?;
+    let holds = put_expression(bank, functions, &state.spots, condition)?;
     let then_path = bank.and(path, holds)?;
     let fails = bank.not(holds)?;
     let else_path = bank.and(path, fails)?;
@@ -378,46 +312,55 @@ fn put_branches(
 #[cycle(statement)]
 fn run_statement(
     bank: &mut Bank,
+    functions: &[Function],
     state: &mut BodyState,
     path: TermId,
-    statement: &StmtKind,
+    statement: &CoreStmt,
 ) -> Result<(), NoMemory>
     requires state { IsWithin bank.old state.old }
     requires path { path < length bank.old }
-    ensures state { OnOk result (Stands bank.new state.new (step statement.now (tree_at bank.old path) (state_of bank.old state.old))) }
+    ensures state { OnOk result (Stands bank.new state.new (step functions.now statement.now (tree_at bank.old path) (state_of bank.old state.old))) }
     ensures within { OnOk result (IsWithin bank.new state.new) }
     ensures kept { OnOk result (Extends bank.old bank.new) }
 {
     match statement {
-        StmtKind::Assert(condition) => run_assertion(bank, state, path, &condition.kind),
-        StmtKind::Assign(lefts, rights) => {
-            run_assignments(bank, state, path, lefts.as_slice(), rights.as_slice())
+        CoreStmt::Assign(targets, rights) => run_assignment(
+            bank,
+            functions,
+            state,
+            path,
+            targets.as_slice(),
+            rights.as_slice(),
+        ),
+        CoreStmt::If(condition, yes, no) => {
+            let paths = put_branches(bank, functions, state, path, condition)?;
+            run_statements(bank, functions, state, paths.then_path, yes.as_slice())?;
+            run_statements(bank, functions, state, paths.else_path, no.as_slice())
         }
-        StmtKind::If(condition, yes, no) => {
-            let paths = put_branches(bank, state, path, &condition.kind)?;
-            run_statements(bank, state, paths.then_path, yes.as_slice())?;
-            run_statements(bank, state, paths.else_path, no.as_slice())
-        }
-        StmtKind::Return => run_return(bank, state, path),
-        _ => Ok(()),
+        // Calls aren't turned into terms yet.
+        CoreStmt::Call(..) => Ok(()),
+        CoreStmt::Assume(condition) => run_assumption(bank, functions, state, path, condition),
+        CoreStmt::Fail => run_failure(bank, state, path),
+        CoreStmt::Return => run_return(bank, state, path),
     }
 }
 
 #[cycle(statement)]
 fn run_statements(
     bank: &mut Bank,
+    functions: &[Function],
     state: &mut BodyState,
     path: TermId,
-    statements: &[Stmt],
+    statements: &[CoreStmt],
 ) -> Result<(), NoMemory>
     requires state { IsWithin bank.old state.old }
     requires path { path < length bank.old }
-    ensures state { OnOk result (Stands bank.new state.new (all_steps statements.now (tree_at bank.old path) (state_of bank.old state.old))) }
+    ensures state { OnOk result (Stands bank.new state.new (all_steps functions.now statements.now (tree_at bank.old path) (state_of bank.old state.old))) }
     ensures within { OnOk result (IsWithin bank.new state.new) }
     ensures kept { OnOk result (Extends bank.old bank.new) }
 {
     for statement in statements {
-        run_statement(bank, state, path, &statement.kind)?;
+        run_statement(bank, functions, state, path, statement)?;
     }
     Ok(())
 }

@@ -1,58 +1,64 @@
-ghost use Rattle.std.specs.Prelude.{◌≡◌, IfOk, length};
-ghost use Rattle.sd_ast.specs.Boolean.{IsBooleanProc};
-
-use crate::flag_term;
-use sd_ast::{Body, Expr, ExprKind, Head, Proc, Stmt, StmtKind};
-use sd_base::{CloneOf, Name, NoMemory, Place, Sort, Var};
-use sd_term::{Bank, Head as TermHead, Op, is_same_head};
+use crate::body_of;
+use sd_base::{Name, NoMemory, Sort, Var};
+use sd_core::{CoreExpr, CoreProc, CoreStmt, Spot};
+use sd_term::{Bank, Head, Op, is_same_head};
 use sqlite_items::Items;
 use std::alloc::Global;
 use std::test::Fail;
 
-/// `procedure p(b: bool) { assert b; }`
-fn assertion(alloc: Global) -> Result<Proc, NoMemory>
-    ensures boolean { IfOk result IsBooleanProc }
-    ensures count { IfOk result (λ p. length p.head.ins ≡ 1) }
-{
-    let at = Place { byte: 0 };
-    let b = Name::new(alloc, b"b")?;
-    let mut ins = Items::new(alloc);
-    ins.push(Var {
-        name: b.clone_of(alloc)?,
+fn truth_value(alloc: Global, name: &[u8]) -> Result<Items<Var>, NoMemory> {
+    let mut variables = Items::new(alloc);
+    variables.push(Var {
+        name: Name::new(alloc, name)?,
         sort: Sort::Bool,
     })?;
-    let condition = Expr {
-        at,
-        kind: ExprKind::Var(b),
-    };
-    let mut stmts = Items::new(alloc);
-    stmts.push(Stmt {
-        at,
-        kind: StmtKind::Assert(condition),
-    })?;
-    Ok(Proc {
-        head: Head {
-            name: Name::new(alloc, b"p")?,
-            at,
-            ins,
-            outs: Items::new(alloc),
-        },
-        specs: Items::new(alloc),
-        body: Some(Body {
-            locals: Items::new(alloc),
-            stmts,
-        }),
+    Ok(variables)
+}
+
+/// `r := true;`, where `r` is the second slot.
+fn success(alloc: Global) -> Result<Items<CoreStmt>, NoMemory> {
+    let mut targets = Items::new(alloc);
+    targets.push(Spot::Slot(1))?;
+    let mut rights = Items::new(alloc);
+    rights.push(CoreExpr::Truth(true))?;
+    let mut statements = Items::new(alloc);
+    statements.push(CoreStmt::Assign(targets, rights))?;
+    Ok(statements)
+}
+
+/// `procedure p(b: bool) returns (r: bool) { if (b) { r := true; } else { fail; } }`
+fn choice(alloc: Global) -> Result<CoreProc, NoMemory> {
+    let mut failure = Items::new(alloc);
+    failure.push(CoreStmt::Fail)?;
+    let mut body = Items::new(alloc);
+    body.push(CoreStmt::If(CoreExpr::At(Spot::Slot(0)), success(alloc)?, failure))?;
+    Ok(CoreProc {
+        name: Name::new(alloc, b"p")?,
+        parent: None,
+        ins: truth_value(alloc, b"b")?,
+        outs: truth_value(alloc, b"r")?,
+        locals: Items::new(alloc),
+        modifies: Items::new(alloc),
+        body,
     })
 }
 
 #[test]
-fn an_assertion_fails_where_it_is_false(rt: HostRuntime) -> Result<(), Fail> {
-    let procedure = assertion(rt.alloc())?;
+fn a_choice_fails_where_its_condition_is_false(rt: HostRuntime) -> Result<(), Fail> {
+    let procedure = choice(rt.alloc())?;
     let mut bank = Bank::new(rt.alloc());
     let input = bank.fresh(Sort::Bool)?;
-    let flag = flag_term(rt.alloc(), &mut bank, &procedure, &[input])?;
-    let node = bank.node(flag);
-    assert!(rt; is_same_head(&node.head, &TermHead::Op(Op::Not)));
-    assert_eq!(rt; node.parts.as_slice(), [input].as_slice());
+    let terms = body_of(rt.alloc(), &mut bank, &[], &procedure, &[input], &[])?;
+    let flag = bank.node(terms.flag);
+    assert!(rt; is_same_head(&flag.head, &Head::Op(Op::Not)));
+    assert_eq!(rt; flag.parts.as_slice(), [input].as_slice());
+    assert_eq!(rt; terms.outs.len(), 1);
+    for out in terms.outs.as_slice() {
+        let out = bank.node(*out);
+        assert!(rt; is_same_head(&out.head, &Head::Op(Op::Ite)));
+        assert_eq!(rt; out.parts.as_slice().first(), Some(&input));
+    }
+    assert!(rt; terms.globals.is_empty());
+    assert!(rt; terms.assumes.is_empty());
     Ok(())
 }

@@ -2,15 +2,15 @@
 use Rattle.std.proofs.Common.{◌≡◌, ◌≢◌, ◌∙◌, sym, ap, refl, subst, ℕ, Bool, true, false, cond, List, [], ◌∷◌, length, inl, inr}
 use Rattle.std.specs.Prelude.{Option, None, Some, not, ◌⊎◌, Result, Ok, Err, IfOk}
 use Rattle.std.specs.Option.{option_map}
-use Rattle.std.specs.List.{AllByRecursion, cons_option}
-use Rattle.sd_ast.specs.declared.Decl.{Decl}
-use Rattle.sd_ast.specs.declared.Decl.TheVariants.{Procedure}
-use Rattle.sd_ast.specs.declared.Proc.{Proc}
-use Rattle.sd_meaning.specs.Routine.{procedure_in}
+use Rattle.std.specs.List.{AllByRecursion, cons_option, filter_map}
+use Rattle.sd_core.specs.declared.CoreProc.{CoreProc}
+use Rattle.sd_core.specs.declared.CoreProgram.{CoreProgram}
+use Rattle.sd_match.specs.Places.{proc_named}
 use Rattle.sd_term.specs.Tree.{Tree}
 use Rattle.sd_kernel.specs.declared.proved.Proved.{Proved}
 use Rattle.sd_product.specs.declared.straight.Straight.{Straight}
-use Rattle.sd_product.specs.Straight.{same_types, straight_of, straights_of, queries_of}
+use Rattle.sd_product.specs.Query.{Side}
+use Rattle.sd_product.specs.Straight.{side, same_types, straight_of, straight_in, straights_of, queries_of}
 use Rattle.sd_product.specs.Inductive.{proved_of, IsInductive}
 use Rattle.sd_rounds.specs.declared.settle.Death.{Death}
 use Rattle.sd_rounds.specs.Settled.{IsSettled}
@@ -33,17 +33,19 @@ none_where_refused : {X : Type 0} (b : Bool) (xs : List X) → not b ≡ true �
 none_where_refused true xs e = absurd (cc)
 none_where_refused false xs e = refl
 
-straight-empty : (p q : Proc) → (straight_of p q).refused ≡ true → (straight_of p q).queries ≡ []
-straight-empty p q e = none_where_refused (same_types p q) _ e
+straight-empty : (a b : Side) → (straight_of a b).refused ≡ true → (straight_of a b).queries ≡ []
+straight-empty a b e = none_where_refused (same_types a.proc b.proc) _ e
 
-pub straights-empty : (olds news : List Decl) → RefusedAreEmpty (straights_of olds news)
-straights-empty [] news = tt
-straights-empty (Procedure p ∷ ds) news = go (procedure_in news p.head.name) (straights-empty ds news)
+straights-empty-in : (C D : CoreProgram) (ps : List CoreProc) → RefusedAreEmpty (filter_map (straight_in C D) ps)
+straights-empty-in C D [] = tt
+straights-empty-in C D (p ∷ ps) = go (proc_named D.procs p.name) (straights-empty-in C D ps)
   where
-    go : (o : Option Proc) → RefusedAreEmpty (straights_of ds news) → RefusedAreEmpty (cons_option (option_map (straight_of p) o) (straights_of ds news))
+    go : (o : Option CoreProc) → RefusedAreEmpty (filter_map (straight_in C D) ps) → RefusedAreEmpty (cons_option (option_map (λ q. straight_of (side C p) (side D q)) o) (filter_map (straight_in C D) ps))
     go None rest = rest
-    go (Some q) rest = (straight-empty p q, rest)
-straights-empty (_ ∷ ds) news = straights-empty ds news
+    go (Some q) rest = (straight-empty (side C p) (side D q), rest)
+
+pub straights-empty : (C D : CoreProgram) → RefusedAreEmpty (straights_of C D)
+straights-empty C D = straights-empty-in C D C.procs
 
 -- ---- what is made shows the table
 

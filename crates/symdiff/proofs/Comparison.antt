@@ -3,7 +3,11 @@ use Rattle.std.proofs.Common.{◌≡◌, sym, subst, ℕ, List, [], ◌∷◌}
 use Rattle.std.specs.Prelude.{Option, Result, Ok, Err}
 use Rattle.sd_parse.specs.declared.answer.ReadError.{ReadError}
 use Rattle.std.specs.List.{AllByRecursion}
-use Rattle.sd_ast.specs.declared.Proc.{Proc}
+use Rattle.sd_core.specs.declared.CoreProc.{CoreProc}
+use Rattle.sd_core.specs.declared.CoreProgram.{CoreProgram}
+use Rattle.sd_core.specs.Failure.{NewFailureOf}
+use Rattle.sd_extract.specs.Programs.{core_program}
+use Rattle.sd_vcgen.proofs.Adequate.{bodies-are-runs}
 use Rattle.sd_ast.specs.declared.Program.{Program}
 use Rattle.sd_meaning.specs.NewFailure.{NewFailure}
 use Rattle.sd_parse.proofs.AnswerLaws.{one_answer}
@@ -13,9 +17,9 @@ use Rattle.sd_product.specs.declared.pair.Candidate.{Candidate}
 use Rattle.sd_product.specs.declared.pair.Candidate.TheVariants.{EqualInputs}
 use Rattle.sd_product.specs.Query.{query_of}
 use Rattle.sd_product.specs.Laws.{IsPair}
-use Rattle.sd_product.specs.Straight.{straights_of, queries_of}
+use Rattle.sd_product.specs.Straight.{side, queries_of}
 use Rattle.sd_product.proofs.Booleans.{query-sorted}
-use Rattle.sd_product.proofs.Programs.{found-boolean}
+use Rattle.sd_product.proofs.Sides.{taken_side}
 use Rattle.sd_product.proofs.Failures.{unsatisfiable-safe, open_cubes-fail}
 use Rattle.symdiff.specs.declared.verdict.PairVerdict.{PairVerdict}
 use Rattle.symdiff.specs.declared.verdict.VerdictState.{VerdictState}
@@ -37,18 +41,24 @@ all-map A B f [] a = tt
 all-map A B f (x ∷ xs) a = (f x a.0, all-map A B f xs a.1)
 
 module _ (t : Texts) (old_read : IsTaken t.old_bytes t.old) (new_read : IsTaken t.new_bytes t.new) where
-  safe : (p q : Proc) (c : Candidate) → IsPair t.old t.new p.head.name q.head.name p q → HasProof (query_of c p q) → NewFailure t.old t.new p.head.name q.head.name → ⊥
-  safe p q c pair proof =
-      unsatisfiable-safe t.old t.new p.head.name q.head.name p q c pair
-      (accepted-unsatisfiable (query_of c p q) proof.steps
-      (query-sorted c p q (found-boolean t.old.decls p.head.name p pair.old_boolean.decls pair.old_found) (found-boolean t.new.decls q.head.name q pair.new_boolean.decls pair.new_found))
-      (proves-accepted (query_of c p q) proof.steps proof.proves))
+  C : CoreProgram
+  C = core_program t.old
 
-  failure : (p q : Proc) → IsPair t.old t.new p.head.name q.head.name p q → HasCube (query_of EqualInputs p q) → NewFailure t.old t.new p.head.name q.head.name
-  failure p q pair cube = open_cubes-fail t.old t.new p.head.name q.head.name p q cube.cube pair cube.«open»
+  D : CoreProgram
+  D = core_program t.new
+
+  safe : (i j : ℕ) (p q : CoreProc) (c : Candidate) → IsPair C D i j p q → HasProof (query_of c (side C p) (side D q)) → NewFailureOf C D i j → ⊥
+  safe i j p q c pair proof =
+      unsatisfiable-safe bodies-are-runs C D i j p q c pair
+      (accepted-unsatisfiable (query_of c (side C p) (side D q)) proof.steps
+      (query-sorted c (side C p) (side D q) (taken_side C i p pair.old_taken pair.old_found) (taken_side D j q pair.new_taken pair.new_found))
+      (proves-accepted (query_of c (side C p) (side D q)) proof.steps proof.proves))
+
+  failure : (i j : ℕ) (p q : CoreProc) → IsPair C D i j p q → HasCube (query_of EqualInputs (side C p) (side D q)) → NewFailureOf C D i j
+  failure i j p q pair cube = open_cubes-fail bodies-are-runs C D i j p q cube.cube pair cube.«open»
 
   abbrev Right : PairVerdict → Type 0
-  Right = IsRight t.old t.new old_read.boolean new_read.boolean
+  Right = IsRight t.old t.new old_read.typed new_read.typed old_read.straight new_read.straight
 
   abbrev AreRight : List PairVerdict → Type 0
   AreRight vs = AllByRecursion Right vs
@@ -66,13 +76,13 @@ module _ (t : Texts) (old_read : IsTaken t.old_bytes t.old) (new_read : IsTaken 
   compared_right name o c =
       let queries = queries_of (pairs_of t) in
       subst AreRight (sym c.told.verdicts)
-      (all_right t.old t.new old_read.boolean new_read.boolean Unknown unknown_not_safe HasProof HasCube safe (λ is. failure) c.live c.settled.0
+      (all_right t.old t.new old_read.typed new_read.typed old_read.straight new_read.straight Unknown unknown_not_safe HasProof HasCube safe (λ is. failure) c.live c.settled.0
       (live_proved queries c.live c.proofs (settled_inductive queries c.live o.deaths c.proofs c.settled)) (dead_open queries c.live o.deaths c.proofs c.settled))
 
   pub replayed_right : (bytes : List ℕ) (o : Outcome) → IsReplay bytes t o → AreRight o.pairs
   replayed_right bytes o r =
       subst AreRight (sym r.told.verdicts)
-      (all_right t.old t.new old_read.boolean new_read.boolean Unproved unproved_not_safe HasProof (λ facts. Unit {0}) safe (λ is p q pair d. absurd (unproved_not_unknown is)) r.live r.accepted.size
+      (all_right t.old t.new old_read.typed new_read.typed old_read.straight new_read.straight Unproved unproved_not_safe HasProof (λ facts. Unit {0}) safe (λ is i j p q pair d. absurd (unproved_not_unknown is)) r.live r.accepted.size
       (live_proved (queries_of (pairs_of t)) r.live _ r.accepted.inductive) (λ c facts dead query. tt))
 
   -- no safe pair has a new failure

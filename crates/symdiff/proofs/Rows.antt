@@ -11,7 +11,7 @@ use Rattle.symdiff.specs.Report.{is_safe}
 use Rattle.sd_parse.specs.declared.answer.ReadError.TheVariants as read
 use Rattle.symdiff.specs.declared.text.TextRefusal.{TextRefusal}
 use Rattle.symdiff.specs.declared.text.TextRefusal.TheVariants.{Reading, Typing, NotYet}
-use Rattle.symdiff.specs.declared.text.Text.{Text}
+use Rattle.symdiff.specs.declared.extracted.Text.{Text}
 use Rattle.symdiff.specs.declared.text.TextFault.{TextFault}
 use Rattle.symdiff.specs.declared.text.TextFault.TheVariants.{Memory, Failed, Refused}
 use Rattle.symdiff.specs.TextRefusals.{IsTaken, IsTextRefusal, refusal_status}

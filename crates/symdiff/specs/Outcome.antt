@@ -2,6 +2,7 @@
 use Rattle.std.specs.Prelude.{◌≡◌, ◌≢◌, ℕ, Bool, List, [], Option, None, Some, if◌then◌else◌}
 use Rattle.std.specs.List.{list_all}
 use Rattle.sd_cand.specs.Words.{words_of}
+use Rattle.sd_extract.specs.Programs.{core_program}
 use Rattle.sd_kernel.specs.declared.proved.Proved.{Proved}
 use Rattle.sd_product.specs.Straight.{queries_of}
 use Rattle.sd_rounds.specs.declared.settle.Death.{Death}
@@ -39,7 +40,7 @@ pub record IsReport (otherwise : VerdictState) (t : Texts) (live : List Bool) (o
   pub verdicts : o.pairs ≡ verdicts_of otherwise (pairs_of t) live
   pub words : o.table ≡ words_of live
   pub status : o.status ≡ status_of o.pairs
-  pub text : o.text ≡ report t.old.decls t.new.decls o.pairs
+  pub text : o.text ≡ report (core_program t.old) (core_program t.new) o.pairs
 
 -- a certificate is there where a file is named for it, and shows this table
 abbrev pub IsCertified : Texts → List Bool → Option (List ℕ) → Option (List ℕ × List ℕ) → Type 0

@@ -6,7 +6,7 @@ use Rattle.sd_product.specs.declared.straight.Straight.{Straight}
 use Rattle.sd_cert.specs.declared.fault.CertError.{CertError}
 use Rattle.sd_cert.specs.Written.{IsWritten}
 use Rattle.sd_base.specs.Outside.{WhereTold}
-use Rattle.symdiff.specs.declared.text.Text.{Text}
+use Rattle.symdiff.specs.declared.extracted.Text.{Text}
 use Rattle.symdiff.specs.declared.text.TextFault.{TextFault}
 use Rattle.symdiff.specs.declared.text.TextFault.TheVariants.{Refused}
 use Rattle.symdiff.specs.TextRefusals.{refusal_status, text_error}

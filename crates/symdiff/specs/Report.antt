@@ -1,9 +1,9 @@
 -- The text of the report and the other texts that are written.
 use Rattle.std.specs.Prelude.{ℕ, List, [], ◌∷◌, ◌++◌, Bool, true, false, codes, decimal, length, is_some, if◌then◌else◌, count_by}
 use Rattle.std.specs.List.{flat_map}
-use Rattle.sd_ast.specs.declared.Decl.{Decl}
-use Rattle.sd_ast.specs.declared.Decl.TheVariants.{Axiom, Procedure}
-use Rattle.sd_meaning.specs.Routine.{procedure_in}
+use Rattle.sd_core.specs.declared.CoreProc.{CoreProc}
+use Rattle.sd_core.specs.declared.CoreProgram.{CoreProgram}
+use Rattle.sd_match.specs.Places.{proc_named}
 use Rattle.symdiff.specs.declared.verdict.PairVerdict.{PairVerdict}
 use Rattle.symdiff.specs.declared.verdict.VerdictState.{VerdictState}
 use Rattle.symdiff.specs.declared.verdict.VerdictState.TheVariants.{Safe, Unknown, Unproved, Signature}
@@ -26,9 +26,8 @@ abbrev pub verdict_line : PairVerdict → List ℕ
 verdict_line v = beginning v.state ++ v.old ++ codes " " ++ v.new ++ ending v.state
 
 -- a line for a procedure without partner among the others
-abbrev pub only_line : List ℕ → List Decl → Decl → List ℕ
-only_line word others (Procedure p) = if is_some (procedure_in others p.head.name) then [] else word ++ p.head.name ++ line_end
-only_line word others _ = []
+abbrev pub only_line : List ℕ → List CoreProc → CoreProc → List ℕ
+only_line word others p = if is_some (proc_named others p.name) then [] else word ++ p.name ++ line_end
 
 abbrev pub is_safe : VerdictState → Bool
 is_safe Safe = true
@@ -48,16 +47,12 @@ is_refused _ = false
 abbrev pub count_of : (VerdictState → Bool) → List PairVerdict → ℕ
 count_of test verdicts = count_by (λ v. test v.state) verdicts
 
-unfoldable pub is_axiom : Decl → Bool
-is_axiom (Axiom e) = true
-is_axiom _ = false
-
 -- the last line: how many pairs there are and how many of each kind, and how many axioms each text has
 abbrev pub summary : List PairVerdict → ℕ → ℕ → List ℕ
 summary verdicts old_axioms new_axioms = codes "pairs " ++ decimal (length verdicts) ++ codes " safe " ++ decimal (count_of is_safe verdicts) ++ codes " equal 0 unknown " ++ decimal (count_of is_unknown verdicts) ++ codes " refused " ++ decimal (count_of is_refused verdicts) ++ codes " axioms " ++ decimal old_axioms ++ codes " " ++ decimal new_axioms ++ line_end
 
-abbrev pub report : List Decl → List Decl → List PairVerdict → List ℕ
-report old new verdicts = flat_map verdict_line verdicts ++ flat_map (only_line (codes "only old ") new) old ++ flat_map (only_line (codes "only new ") old) new ++ summary verdicts (count_by is_axiom old) (count_by is_axiom new)
+abbrev pub report : CoreProgram → CoreProgram → List PairVerdict → List ℕ
+report old new verdicts = flat_map verdict_line verdicts ++ flat_map (only_line (codes "only old ") new.procs) old.procs ++ flat_map (only_line (codes "only new ") old.procs) new.procs ++ summary verdicts (length old.axioms) (length new.axioms)
 
 abbrev pub usage_text : List ℕ
 usage_text = codes "usage: symdiff verify OLD NEW [--settings FILE] [--workers N] [--leaves N] [--certificate FILE]" ++ line_end ++ codes "       symdiff replay OLD NEW CERTIFICATE [--settings FILE]" ++ line_end ++ codes "       symdiff gen N [--workers N] [--leaves N]" ++ line_end

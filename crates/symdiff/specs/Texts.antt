@@ -4,6 +4,7 @@ use Rattle.sha2.specs.Sha256.{sha256}
 use Rattle.sd_base.specs.Outside.{WhereTold}
 use Rattle.sd_ast.specs.declared.Program.{Program}
 use Rattle.sd_product.specs.declared.straight.Straight.{Straight}
+use Rattle.sd_extract.specs.Programs.{core_program}
 use Rattle.sd_product.specs.Straight.{straights_of}
 use Rattle.sd_cert.specs.declared.digest.Digests.{Digests}
 use Rattle.symdiff.specs.Words.{JobNames}
@@ -21,7 +22,7 @@ pub record Texts : Type 0 where
   pub new : Program
 
 abbrev pub pairs_of : Texts → List Straight
-pairs_of t = straights_of t.old.decls t.new.decls
+pairs_of t = straights_of (core_program t.old) (core_program t.new)
 
 -- the digests of the texts and of absent settings
 abbrev pub digests_of : Texts → Digests

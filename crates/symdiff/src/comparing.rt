@@ -9,8 +9,9 @@ ghost use Rattle.symdiff.specs.Outcome.{IsComparison};
 ghost use Rattle.symdiff.specs.TextRefusals.{IsTaken};
 ghost use Rattle.symdiff.specs.Replies.{outcome_of, texts_of, named, IsMade};
 
+use crate::extracted::Text;
 use crate::reply::{NamedCertificate, Reply, report_on};
-use crate::text::{Text, digests, pairs};
+use crate::text::{digests, pairs};
 use crate::verdict::VerdictState;
 use sd_base::NoMemory;
 use sd_cert::write_certificate;

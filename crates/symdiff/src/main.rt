@@ -4,6 +4,7 @@
 mod answering;
 mod certificate_error;
 mod comparing;
+mod extracted;
 mod judge;
 mod line;
 mod real;

@@ -6,8 +6,9 @@ ghost use Rattle.symdiff.specs.TextRefusals.{IsTaken};
 ghost use Rattle.symdiff.specs.Replies.{outcome_of, texts_of, refusal, IsJudged, IsReplayReply};
 
 use crate::certificate_error::certificate_error;
+use crate::extracted::Text;
 use crate::reply::{Reply, Stop, message, report_on};
-use crate::text::{Text, digests, pairs};
+use crate::text::{digests, pairs};
 use crate::verdict::VerdictState;
 use sd_base::{Files, NoMemory, ReadFault, read_up_to};
 use sd_cert::{CertError, replay};

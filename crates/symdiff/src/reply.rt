@@ -9,8 +9,9 @@ ghost use Rattle.symdiff.specs.Texts.{pairs_of};
 ghost use Rattle.symdiff.specs.Replies.{outcome_of, outcome_with, texts_of};
 ghost use Rattle.symdiff.specs.Report.{is_safe};
 
+use crate::extracted::Text;
 use crate::judge::verdicts_of;
-use crate::text::{Text, report};
+use crate::text::report;
 use crate::verdict::{PairVerdict, VerdictState};
 use sd_base::NoMemory;
 use sd_cand::LiveTable;

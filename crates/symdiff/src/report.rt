@@ -1,10 +1,10 @@
-ghost use Rattle.std.specs.Prelude.{◌≡◌, ◌++◌, IfOk, OnOk, codes, decimal, count_by, [], if◌then◌else◌};
+ghost use Rattle.std.specs.Prelude.{◌≡◌, ◌++◌, IfOk, OnOk, codes, decimal, [], if◌then◌else◌};
 ghost use Rattle.std.specs.List.{flat_map};
-ghost use Rattle.symdiff.specs.Report.{line_end, beginning, ending, verdict_line, only_line, is_axiom, summary, report, count_of, is_safe, is_unknown, is_refused};
+ghost use Rattle.symdiff.specs.Report.{line_end, beginning, ending, verdict_line, only_line, summary, report, count_of, is_safe, is_unknown, is_refused};
 
 use crate::verdict::{PairVerdict, VerdictState};
-use sd_ast::{Decl, Proc, Program};
 use sd_base::NoMemory;
+use sd_core::{CoreProc, CoreProgram};
 use sd_match::Procedures;
 use std::alloc::Global;
 
@@ -52,31 +52,15 @@ fn push_verdicts(out: &mut Vec<u8>, verdicts: &[PairVerdict]) -> Result<(), NoMe
 fn push_only(
     out: &mut Vec<u8>,
     word: &[u8],
-    decl: &Decl,
+    proc: &CoreProc,
     others: &Procedures<'_>,
 ) -> Result<(), NoMemory>
-    ensures { OnOk result (out.new.items ≡ out.old.items ++ only_line word.now others.now.decls.now decl.now) }
+    ensures { OnOk result (out.new.items ≡ out.old.items ++ only_line word.now others.now.procs.now proc.now) }
 {
-    match decl {
-        Decl::Procedure(proc) => {
-            push_unless(out, word, proc, others.named(&proc.head.name).is_some())
-        }
-        _ => Ok(()),
-    }
-}
-
-/// A line for a procedure, unless there is a partner.
-fn push_unless(
-    out: &mut Vec<u8>,
-    word: &[u8],
-    proc: &Proc,
-    has_partner: bool,
-) -> Result<(), NoMemory>
-    ensures { OnOk result (out.new.items ≡ out.old.items ++ (if has_partner then [] else word.now ++ proc.now.head.name ++ line_end)) }
-{
+    let has_partner = others.named(&proc.name).is_some();
     if !has_partner {
         out.extend_from_slice(word)?;
-        out.extend_from_slice(proc.head.name.as_bytes())?;
+        out.extend_from_slice(proc.name.as_bytes())?;
         out.extend_from_slice(b"\n")?;
     }
     Ok(())
@@ -86,13 +70,13 @@ fn push_unless(
 fn push_all_only(
     out: &mut Vec<u8>,
     word: &[u8],
-    decls: &[Decl],
+    procs: &[CoreProc],
     others: &Procedures<'_>,
 ) -> Result<(), NoMemory>
-    ensures { OnOk result (out.new.items ≡ out.old.items ++ flat_map (only_line word.now others.now.decls.now) decls.now) }
+    ensures { OnOk result (out.new.items ≡ out.old.items ++ flat_map (only_line word.now others.now.procs.now) procs.now) }
 {
-    'decls: for decl in decls {
-        push_only(out, word, decl, others)?;
+    'procs: for proc in procs {
+        push_only(out, word, proc, others)?;
     }
     Ok(())
 }
@@ -124,28 +108,6 @@ fn count_refused(verdicts: &[PairVerdict]) -> usize
     verdicts.iter().filter(|v| v.state.is_refused()).count()
 }
 
-#[tactic(auto, unfolding(crate::specs::Report::is_axiom))]
-fn is_axiom(decl: &Decl) -> bool
-    ensures { result ≡ is_axiom decl.now }
-{
-    match decl {
-        Decl::Axiom(_) => true,
-        _ => false,
-    }
-}
-
-fn count_axioms(decls: &[Decl]) -> usize
-    ensures { result ≡ count_by is_axiom decls.now }
-{
-    let mut count = 0;
-    'decls: for decl in decls {
-        if is_axiom(decl) {
-            count += 1;
-        }
-    }
-    count
-}
-
 fn push_summary(
     alloc: Global,
     out: &mut Vec<u8>,
@@ -169,24 +131,24 @@ fn push_summary(
 /// without partner, old text first, and the line of the counts.
 pub fn report_of(
     alloc: Global,
-    old: &Program,
-    new: &Program,
+    old: &CoreProgram,
+    new: &CoreProgram,
     verdicts: &[PairVerdict],
 ) -> Result<Vec<u8>, NoMemory>
-    ensures { IfOk result (λ text. text.items ≡ report old.now.decls new.now.decls verdicts.now) }
+    ensures { IfOk result (λ text. text.items ≡ report old.now new.now verdicts.now) }
 {
-    let olds = Procedures::new(alloc, old)?;
-    let news = Procedures::new(alloc, new)?;
+    let olds = Procedures::new(alloc, old.procs.as_slice())?;
+    let news = Procedures::new(alloc, new.procs.as_slice())?;
     let mut out = Vec::new(alloc);
     push_verdicts(&mut out, verdicts)?;
-    push_all_only(&mut out, b"only old ", olds.decls, &news)?;
-    push_all_only(&mut out, b"only new ", news.decls, &olds)?;
+    push_all_only(&mut out, b"only old ", olds.procs, &news)?;
+    push_all_only(&mut out, b"only new ", news.procs, &olds)?;
     push_summary(
         alloc,
         &mut out,
         verdicts,
-        count_axioms(olds.decls),
-        count_axioms(news.decls),
+        old.axioms.len(),
+        new.axioms.len(),
     )?;
     Ok(out)
 }

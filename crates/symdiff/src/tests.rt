@@ -70,7 +70,7 @@ fn run_words<R: Threads + Sync + Abort>(
 }
 
 /// Texts with the status and the text that `verify old new` answers.
-const REPORTS: [(&[u8], &[u8], u8, &[u8]); 9] = [
+const REPORTS: [(&[u8], &[u8], u8, &[u8]); 14] = [
     (
         b"",
         b"",
@@ -119,6 +119,36 @@ const REPORTS: [(&[u8], &[u8], u8, &[u8]); 9] = [
         b"procedure g() { }\n",
         0,
         b"only old f\nonly new g\npairs 0 safe 0 equal 0 unknown 0 refused 0 axioms 0 0\n",
+    ),
+    (
+        b"procedure p(b: bool) returns (r: bool) ensures r == b; { r := b; }\n",
+        b"procedure p(b: bool) returns (r: bool) ensures r == b; { r := true; }\n",
+        1,
+        b"unknown p p\npairs 1 safe 0 equal 0 unknown 1 refused 0 axioms 0 0\n",
+    ),
+    (
+        b"procedure p(b: bool) returns (r: bool) requires b; ensures r == b; { r := b; }\n",
+        b"procedure p(b: bool) returns (r: bool) requires b; ensures r == b; { r := true; }\n",
+        0,
+        b"safe p p\npairs 1 safe 1 equal 0 unknown 0 refused 0 axioms 0 0\n",
+    ),
+    (
+        b"var g: bool; procedure p() modifies g; { assert g; g := !g; }\n",
+        b"var g: bool; procedure p() modifies g; { g := !g; assert old(g); }\n",
+        0,
+        b"safe p p\npairs 1 safe 1 equal 0 unknown 0 refused 0 axioms 0 0\n",
+    ),
+    (
+        b"procedure p(b: bool); implementation p(c: bool) { assume !c; assert !c; }\n",
+        b"procedure p(b: bool); implementation p(c: bool) { assert !c; }\n",
+        1,
+        b"unknown p p\npairs 1 safe 0 equal 0 unknown 1 refused 0 axioms 0 0\n",
+    ),
+    (
+        b"procedure p(b: bool);\n",
+        b"procedure p(b: bool) { assert b; }\n",
+        0,
+        b"only new p\npairs 0 safe 0 equal 0 unknown 0 refused 0 axioms 0 0\n",
     ),
 ];
 

@@ -5,6 +5,7 @@ ghost use Rattle.sd_base.specs.Outside.{WhereTold, AllStay};
 ghost use Rattle.sd_types.specs.Declarations.{WellTyped};
 ghost use Rattle.symdiff.specs.declared.text.TextRefusal.{TextRefusal as Refusal};
 ghost use Rattle.std.specs.List.{AllByRecursion};
+ghost use Rattle.sd_extract.specs.Programs.{core_program};
 ghost use Rattle.sd_kernel.specs.OpenCube.{AllBoolean};
 ghost use Rattle.sd_product.specs.Straight.{queries_of};
 ghost use Rattle.symdiff.specs.Report as spec;
@@ -13,22 +14,17 @@ ghost use Rattle.symdiff.specs.TextRefusals.{IsTaken, IsTextRefusal};
 ghost use Rattle.symdiff.specs.Replies.{texts_of};
 ghost use Rattle.symdiff.specs.Taking.{IsFault, IsReadFault, IsTypeFault};
 
+use crate::extracted::Text;
 use crate::report::report_of;
 use crate::verdict::PairVerdict;
 use sd_base::limits::TEXT_BYTES;
 use sd_base::{Files, NoMemory, ReadFault, read_up_to};
 use sd_cert::{Digests, digests_of};
+use sd_extract::{extract, is_straight_program};
 use sd_parse::{ReadError, read_program};
 use sd_product::{Straight, straight_pairs};
-use sd_types::{TypeError, Typed, check, is_boolean_program};
+use sd_types::{TypeError, Typed, check};
 use std::alloc::Global;
-
-/// A text that was read, and the program that it spells.
-#[derive(Drop)]
-pub struct Text {
-    pub bytes: Vec<u8>,
-    pub program: Typed,
-}
 
 /// Why a text isn't taken.
 #[derive(Drop)]
@@ -81,11 +77,10 @@ fn take(alloc: Global, bytes: &[u8]) -> Result<Typed, TextFault>
         Ok(typed) => typed,
         Err((_, error)) => return Err(type_fault(error)),
     };
-    match is_boolean_program(alloc, typed.program()) {
-        Ok(true) => Ok(typed),
-        Ok(false) => Err(TextFault::Refused(TextRefusal::NotYet)),
-        Err(_) => Err(TextFault::Memory),
+    if !is_straight_program(typed.program()) {
+        return Err(TextFault::Refused(TextRefusal::NotYet));
     }
+    Ok(typed)
 }
 
 /// Reads a file and the program that it spells.
@@ -104,9 +99,17 @@ pub fn read_text<F: Files>(alloc: Global, files: &mut F, name: &str) -> Result<T
         Err(ReadFault::Failed) => return Err(TextFault::Failed),
         Err(ReadFault::Memory) => return Err(TextFault::Memory),
     };
-    match take(alloc, bytes.as_slice()) {
-        Ok(program) => Ok(Text { bytes, program }),
-        Err(fault) => Err(fault),
+    let program = match take(alloc, bytes.as_slice()) {
+        Ok(program) => program,
+        Err(fault) => return Err(fault),
+    };
+    match extract(alloc, &program) {
+        Ok(core) => Ok(Text {
+            bytes,
+            program,
+            core,
+        }),
+        Err(_) => Err(TextFault::Memory),
     }
 }
 
@@ -117,7 +120,7 @@ pub fn pairs(alloc: Global, old: &Text, new: &Text) -> Result<Vec<Straight>, NoM
     ensures pairs { IfOk result (λ pairs. pairs.items ≡ pairs_of (texts_of old.now new.now)) }
     ensures boolean { IfOk result (λ pairs. AllByRecursion AllBoolean (queries_of pairs.items)) }
 {
-    straight_pairs(alloc, old.program.program(), new.program.program())
+    straight_pairs(alloc, &old.core, &new.core)
 }
 
 /// The report on two texts whose pairs have these verdicts.
@@ -127,14 +130,9 @@ pub fn report(
     new: &Text,
     verdicts: &[PairVerdict],
 ) -> Result<Vec<u8>, NoMemory>
-    ensures { IfOk result (λ text. text.items ≡ spec.report old.now.program.decls new.now.program.decls verdicts.now) }
+    ensures { IfOk result (λ text. text.items ≡ spec.report (core_program old.now.program) (core_program new.now.program) verdicts.now) }
 {
-    report_of(
-        alloc,
-        old.program.program(),
-        new.program.program(),
-        verdicts,
-    )
+    report_of(alloc, &old.core, &new.core, verdicts)
 }
 
 /// The digests of two texts, and of absent settings.

@@ -2,7 +2,7 @@ use Rattle.std.proofs.Common.{◌<◌, ◌∙◌, subst, length, arith}
 use Rattle.sd_term.specs.Build.{eq_of}
 use Rattle.sd_term.specs.Bank.{tree_at}
 use Rattle.sd_vcgen.proofs.Numbers.{extends_then}
-use Rattle.sd_product.specs.Numbers.{DenoteAll}
+use Rattle.sd_vcgen.specs.Numbers.{DenoteAll}
 use Rattle.sd_product.proofs.Numbers.{pushed, equalities_more, item_within}
 use Rattle.sd_product.proofs.pair.put_equalities.Goals as goal
 

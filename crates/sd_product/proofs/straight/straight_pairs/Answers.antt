@@ -1,19 +1,14 @@
-use Rattle.std.proofs.Common.{◌<◌, sym, subst, List, length, arith}
-use Rattle.sd_ast.specs.declared.Decl.{Decl}
-use Rattle.sd_ast.specs.Boolean.{AreBooleanDecls}
+use Rattle.std.proofs.Common.{◌<◌, ◌∙◌, sym, subst, ap, List, length, get_or, arith}
+use Rattle.sd_core.specs.declared.CoreProc.{CoreProc}
 use Rattle.sd_product.specs.Straight.{straight_in}
-use Rattle.sd_product.proofs.Pairs.{boolean_at, filter_map_step}
+use Rattle.sd_product.proofs.Sides.{taken_side}
+use Rattle.sd_product.proofs.Pairs.{filter_map_step, slice_at}
 use Rattle.sd_product.proofs.straight.straight_pairs.Goals as goal
 
-pub straight_in-requires-clause-old_boolean : goal.straight_in-requires-clause-old_boolean
-straight_in-requires-clause-old_boolean c =
-    let h : c.decls.decl-index < length c.as_slice-decl-items.result.now = omega arith in
-    boolean_at c.as_slice-decl-items.result.now c.decls.decl-index c.decl-item.result h c.decl-item.is (subst (λ (ds : List Decl). AreBooleanDecls ds) (sym c.as_slice-decl-items.ensures) c.requires.old_boolean.decls)
-
-pub decls-preserved : goal.decls-preserved
-decls-preserved c =
-    let h : c.decls.decl-index < length c.as_slice-decl-items.result.now = omega arith in
+pub procs-preserved : goal.procs-preserved
+procs-preserved c =
+    let h : c.procs.proc-index < length c.as_slice-proc-items.result.now = omega arith in
     record {
-      pairs = filter_map_step (straight_in c.in_ok-news.news.decls.now) c.as_slice-decl-items.result.now c.decls.decl-index c.decl-item.result _ _ _ h c.decl-item.is c.in_ok-straight_in.ensures.pair c.decls.invariant.pairs c.in_ok-push_some.ensures.pushed;
-      boolean = c.in_ok-push_some.ensures.boolean c.decls.invariant.boolean;
+      pairs = filter_map_step (straight_in c.args.old.now c.args.new.now) c.as_slice-proc-items.result.now c.procs.proc-index c.proc-item.result _ _ _ h c.proc-item.is c.in_ok-straight_in.ensures.pair c.procs.invariant.pairs c.in_ok-push_some.ensures.pushed;
+      boolean = c.in_ok-push_some.ensures.boolean c.procs.invariant.boolean;
     }

@@ -9,5 +9,5 @@ abbrev pub invariant-run_statements-loop-statement : goal.invariant-run_statemen
 invariant-run_statements-loop-statement l = record {
   state : IsWithin l.bank l.state;
   kept : Extends l.initial.bank l.bank;
-  steps : all_steps (drop l.statement-index l.statements) (tree_at l.initial.bank l.path) (state_of l.bank l.state) ≡ all_steps l.statements (tree_at l.initial.bank l.path) (state_of l.initial.bank l.initial.state);
+  steps : all_steps l.functions (drop l.statement-index l.statements) (tree_at l.initial.bank l.path) (state_of l.bank l.state) ≡ all_steps l.functions l.statements (tree_at l.initial.bank l.path) (state_of l.initial.bank l.initial.state);
 }

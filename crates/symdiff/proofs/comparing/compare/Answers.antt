@@ -1,4 +1,5 @@
 use Rattle.std.proofs.Common.{List, sym, ◌∙◌, subst}
+use Rattle.sd_extract.specs.Programs.{core_program}
 use Rattle.sd_product.specs.declared.straight.Straight.{Straight}
 use Rattle.sd_cert.specs.Written.{RefusedAreEmpty}
 use Rattle.symdiff.specs.Replies.{texts_of, named, outcome_with}
@@ -8,7 +9,7 @@ use Rattle.symdiff.proofs.comparing.compare.Goals as goal
 
 pub certify-requires-clause-empty : goal.certify-requires-clause-empty
 certify-requires-clause-empty c =
-    subst (λ (ps : List Straight). RefusedAreEmpty ps) (sym (c.as_slice-straights.ensures.value ∙ c.in_ok-straights.ensures.pairs)) (straights-empty c.args.old.now.program.decls c.args.new.now.program.decls)
+    subst (λ (ps : List Straight). RefusedAreEmpty ps) (sym (c.as_slice-straights.ensures.value ∙ c.in_ok-straights.ensures.pairs)) (straights-empty (core_program c.args.old.now.program) (core_program c.args.new.now.program))
 
 pub certify-requires-clause-ascend : goal.certify-requires-clause-ascend
 certify-requires-clause-ascend c =

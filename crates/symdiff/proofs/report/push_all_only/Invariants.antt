@@ -3,5 +3,5 @@ use Rattle.std.specs.List.{flat_map}
 use Rattle.symdiff.specs.Report.{only_line}
 use Rattle.symdiff.proofs.report.push_all_only.Given as goal
 
-abbrev pub invariant-decls : goal.invariant-decls
-invariant-decls l = l.out.items ≡ l.initial.out.items ++ flat_map (only_line l.word l.others.decls.now) (take l.decl-index l.decls)
+abbrev pub invariant-procs : goal.invariant-procs
+invariant-procs l = l.out.items ≡ l.initial.out.items ++ flat_map (only_line l.word l.others.procs.now) (take l.proc-index l.procs)

@@ -5,4 +5,4 @@ use Rattle.symdiff.proofs.text.report.Goals as goal
 
 pub returns : goal.returns
 returns c =
-    ok-map c.report_of.result c.report_of.ensures (λ text e. e ∙ (λ i. report (c.program.ensures.program i).decls (c.program-2.ensures.program i).decls c.args.verdicts.now))
+    ok-map c.report_of.result c.report_of.ensures (λ text e. e ∙ (λ i. report (c.args.old.now.extracted i) (c.args.new.now.extracted i) c.args.verdicts.now))

@@ -1,14 +1,14 @@
 use Rattle.std.proofs.Common.{◌≡◌, ◌≤◌, length, drop}
 use Rattle.std.specs.HashMap.{get}
 use Rattle.sd_base.specs.Value.{Text, same_text}
-use Rattle.sd_match.specs.Places.{place_from}
+use Rattle.sd_match.specs.Places.{place_from, proc_names}
 use Rattle.sd_match.proofs.procedures.Procedures.new.Given as goal
 
-abbrev pub invariant-decls : goal.invariant-decls
-invariant-decls l = record {
-  within : l.place ≤ length l.decls;
-  found : (f : Text) → get same_text l.places f ≡ place_from l.place (drop l.place l.decls) f;
+abbrev pub invariant-procs : goal.invariant-procs
+invariant-procs l = record {
+  within : l.place ≤ length l.procs;
+  found : (f : Text) → get same_text l.places f ≡ place_from l.place (proc_names (drop l.place l.procs)) f;
 }
 
-abbrev pub decreases-decls : goal.decreases-decls
-decreases-decls l = l.place
+abbrev pub decreases-procs : goal.decreases-procs
+decreases-procs l = l.place
