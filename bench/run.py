@@ -1,5 +1,5 @@
 #!/usr/bin/env python3
-"""Times the built program on texts of many procedures, on the replay of long certificates, and on long texts.
+"""Times the built program on texts of many procedures, on the replay of long certificates, on extraction, and on long texts.
 
     python3 bench/run.py [--count N] [--runs R] [--program PATH]
 
@@ -11,13 +11,18 @@ Then it makes two texts of one procedure that takes the parity of its parameters
 write the certificate, and runs `symdiff replay old new certificate` R times: once on a certificate of more than 10000 steps, and
 once on one of more than twice as many; the ratio is that of the times a step, twice.
 
+Then it makes texts of N and of 2N procedures of 20 statements each, with contracts and `old`, and runs `symdiff verify old new` with one as
+the old text and none as the new one: the text is read, checked, and turned into its core program, and nothing is compared.
+
 Last it makes a text of 16777216 bytes, the longest that is read, and one of half the size, with types, maps, loops, calls and contracts,
 and runs `symdiff verify old new` R times with it as the old text and none as the new one. The texts are read and checked whole, and
-answered with `not yet`, since their form isn't taken. It is no part of the gate. The program has to be built before: `rt run` in crates/symdiff leaves it as
+answered with `not yet`, since their form isn't taken.
+
+It is no part of the gate. The program has to be built before: `rt run` in crates/symdiff leaves it as
 crates/symdiff/out/symdiff.
 
 The status is 0 where each answer is right, all ratios are below 2.5, the text of 2N procedures takes less than a second and 200 MB, the
-replay of the first certificate less than a second, and the longest text less than 4 seconds and 3 GB. Where one of these fails a line says
+replay of the first certificate less than a second, the text of 2N procedures of 20 statements less than a second, and the longest text less than 4 seconds and 3 GB. Where one of these fails a line says
 so, and the status is 1.
 """
 
@@ -145,6 +150,43 @@ def measure_replay(program, count, runs, complaints):
     return best, steps
 
 
+# A procedure of 20 statements.
+STATEMENTS = """procedure guard_{number:04d}(ready: bool, open: bool) returns (taken: bool)
+  requires ready || open; modifies count; ensures taken ==> old(count);
+{{
+  var seen: bool;
+{parts}
+}}
+"""
+FIVE = """  seen := ready && count; assume seen || open;
+  if (seen) {{ taken := seen ==> old(count); }} else {{ count := !count; }}"""
+
+
+def statements_text(count):
+    """A text of so many procedures of 20 statements, and the report where the new text has none."""
+    parts = "\n".join([FIVE.replace("{{", "{").replace("}}", "}")] * 4)
+    text = ["var count: bool;\n"] + [STATEMENTS.format(number=number, parts=parts) for number in range(count)]
+    report = ["only old guard_%04d\n" % number for number in range(count)]
+    report.append("pairs 0 safe 0 equal 0 unknown 0 refused 0 axioms 0 0\n")
+    return "".join(text), "".join(report)
+
+
+def measure_statements(program, count, runs, complaints):
+    """The least time in which a text of so many procedures of 20 statements is turned into its core program."""
+    text, report = statements_text(count)
+    best = None
+    with tempfile.TemporaryDirectory() as folder:
+        put_texts(folder, text, "")
+        for _ in range(runs):
+            seconds, _, status, written = run_once(program, folder)
+            best = seconds if best is None else min(best, seconds)
+            if status != 0 or written != report:
+                complaints.append("%d procedures of 20 statements: status %d, and the report isn't the one that is right" % (count, status))
+                break
+    print("%5d procedures of 20 statements  %8d bytes  %8.3f s" % (count, len(text), best))
+    return best
+
+
 # A procedure of about 4600 bytes in the whole language, of which PART stands many times.
 HEAD = """procedure {{:number {number}}} account_{number:04d}(who: Account, amount: int) returns (ok: bool)
   requires amount >= 0; modifies balance;
@@ -224,6 +266,13 @@ def main():
         complaints.append("the ratio of the times of replay isn't below %.1f" % GREATEST_RATIO)
     if single >= GREATEST_SECONDS:
         complaints.append("the replay of %d steps takes a second or more" % steps)
+    single = measure_statements(program, given.count, given.runs, complaints)
+    double = measure_statements(program, 2 * given.count, given.runs, complaints)
+    print("ratio of the times of extraction at %d and %d: %.2f" % (2 * given.count, given.count, double / single))
+    if double / single >= GREATEST_RATIO:
+        complaints.append("the ratio of the times of extraction isn't below %.1f" % GREATEST_RATIO)
+    if double >= GREATEST_SECONDS:
+        complaints.append("%d procedures of 20 statements take a second or more" % (2 * given.count))
     half, _ = measure_reading(program, LONGEST_TEXT // 2, given.runs, complaints)
     whole, peak = measure_reading(program, LONGEST_TEXT, given.runs, complaints)
     print("ratio of the times of reading at %d and %d bytes: %.2f" % (LONGEST_TEXT, LONGEST_TEXT // 2, whole / half))

@@ -139,7 +139,7 @@ const REPORTS: [(&[u8], &[u8], u8, &[u8]); 14] = [
         b"safe p p\npairs 1 safe 1 equal 0 unknown 0 refused 0 axioms 0 0\n",
     ),
     (
-        b"procedure p(b: bool); implementation p(c: bool) { assume !c; assert !c; }\n",
+        b"procedure p(b: bool); implementation p(c: bool) { assume c; assert c; }\n",
         b"procedure p(b: bool); implementation p(c: bool) { assert !c; }\n",
         1,
         b"unknown p p\npairs 1 safe 0 equal 0 unknown 1 refused 0 axioms 0 0\n",
