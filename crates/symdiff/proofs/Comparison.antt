@@ -41,10 +41,10 @@ all-map A B f [] a = tt
 all-map A B f (x ∷ xs) a = (f x a.0, all-map A B f xs a.1)
 
 module _ (t : Texts) (old_read : IsTaken t.old_bytes t.old) (new_read : IsTaken t.new_bytes t.new) where
-  C : CoreProgram
+  abbrev C : CoreProgram
   C = core_program t.old
 
-  D : CoreProgram
+  abbrev D : CoreProgram
   D = core_program t.new
 
   safe : (i j : ℕ) (p q : CoreProc) (c : Candidate) → IsPair C D i j p q → HasProof (query_of c (side C p) (side D q)) → NewFailureOf C D i j → ⊥

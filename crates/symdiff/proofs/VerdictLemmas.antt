@@ -45,10 +45,10 @@ pub core_taken : (P : Program) → WellTyped P → IsStraightProgram P → IsTak
 core_taken P typed straight = record { formed = extracted_formed P typed; straight = straight_kept P typed straight }
 
 module _ (P Q : Program) (old_typed : WellTyped P) (new_typed : WellTyped Q) (old_straight : IsStraightProgram P) (new_straight : IsStraightProgram Q) where
-  C : CoreProgram
+  abbrev pub C : CoreProgram
   C = core_program P
 
-  D : CoreProgram
+  abbrev pub D : CoreProgram
   D = core_program Q
 
   old_taken : IsTaken C
