@@ -1,0 +1,8 @@
+pub mod Contained
+pub mod Fits
+pub mod Keeps
+pub mod More
+pub mod Hushed
+pub mod Rows
+pub mod Callers
+pub mod Spread
