@@ -7,6 +7,8 @@ Makes two texts of N procedures and two of 2N (N is 2048 unless --count gives le
 runs `symdiff verify old new` on them R times each in a temporary folder, and prints the size of the text, the least time and the
 greatest peak memory, and then the ratio of the two times.
 
+It does the same with texts of N and of 2N procedures that call themselves. All their pairs are settled in two sweeps.
+
 Then it makes two texts of one procedure that takes the parity of its parameters, in one order and in the other, lets the program
 write the certificate, and runs `symdiff replay old new certificate` R times: once on a certificate of more than 10000 steps, and
 once on one of more than twice as many; the ratio is that of the times a step, twice.
@@ -90,6 +92,33 @@ def parity(name, parameters):
     for parameter in parameters:
         lines.append("  odd := (odd && !{0}) || (!odd && {0});".format(parameter))
     return "\n".join(lines + ["  assert odd;", "}", ""])
+
+
+# Procedures that call themselves in two ways that come to the same.
+CALLING = [
+    """procedure turn_{number:04d}(b: bool) returns (r: bool) {{ if (b) {{ call r := turn_{number:04d}(!b); }} else {{ r := b; }} assert !r; }}
+""",
+    """procedure turn_{number:04d}(b: bool) returns (r: bool) {{ r := b; if (b) {{ call r := turn_{number:04d}(false); }} assert !r; }}
+""",
+]
+
+
+def measure_calls(program, count, runs, complaints):
+    """The least time of several runs on texts of so many procedures that call themselves."""
+    old, new = ("".join(form.format(number=number) for number in range(count)) for form in CALLING)
+    report = "".join("safe turn_%04d turn_%04d\n" % (number, number) for number in range(count))
+    report += "pairs %d safe %d equal 0 unknown 0 refused 0 axioms 0 0\n" % (count, count)
+    best = None
+    with tempfile.TemporaryDirectory() as folder:
+        put_texts(folder, old, new)
+        for _ in range(runs):
+            seconds, _, status, written = run_once(program, folder)
+            best = seconds if best is None else min(best, seconds)
+            if status != 0 or written != report:
+                complaints.append("%d procedures with calls: status %d, and the report isn't the one that is right" % (count, status))
+                break
+    print("%5d procedures with calls  %8d bytes a text  %8.3f s" % (count, len(old), best))
+    return best
 
 
 def put_texts(folder, old, new):
@@ -256,6 +285,11 @@ def main():
         complaints.append("%d procedures take a second or more" % (2 * given.count))
     if peak >= GREATEST_BYTES:
         complaints.append("%d procedures take 200 MB or more" % (2 * given.count))
+    single = measure_calls(program, given.count, given.runs, complaints)
+    double = measure_calls(program, 2 * given.count, given.runs, complaints)
+    print("ratio of the times with calls at %d and %d: %.2f" % (2 * given.count, given.count, double / single))
+    if double / single >= GREATEST_RATIO:
+        complaints.append("the ratio of the times with calls isn't below %.1f" % GREATEST_RATIO)
     single, steps = measure_replay(program, REPLAY_PARAMETERS, given.runs, complaints)
     double, more = measure_replay(program, REPLAY_PARAMETERS + 1, given.runs, complaints)
     ratio = 2 * (double / more) / (single / steps)

@@ -1,8 +1,12 @@
 //! Candidates for facts about pairs of runs, and which of them are live.
 #![tactic(auto)]
 
+mod candidate;
+mod generate;
 mod live;
 #[cfg(test)]
 mod tests;
 
+pub use candidate::{Candidate, Claim, Relation};
+pub use generate::{candidates, candidates_of};
 pub use live::LiveTable;

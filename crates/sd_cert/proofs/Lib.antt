@@ -9,6 +9,8 @@ pub mod AcceptLemmas
 pub mod Listing
 pub mod RefusalLemmas
 pub mod JudgeLemmas
+pub mod ShapeLemmas
+pub mod TableLemmas
 pub mod ReplayLemmas
 pub mod ReplayFaultLemmas
 pub mod SpellLemmas

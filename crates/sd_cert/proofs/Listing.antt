@@ -1,14 +1,15 @@
 -- A table that is decided number by number lists the entries.
-use Rattle.std.proofs.Common.{◌≡◌, ℕ, zero, suc, ◌+◌, ◌<◌, ◌≤◌, Bool, true, false, List, [], ◌∷◌, ◌++◌, cond, map, length, get_or, set, take, drop, refl, sym, ap, ◌∙◌, subst, arith, append_assoc, length-append}
+use Rattle.std.proofs.Common.{◌≡◌, ℕ, zero, suc, ◌+◌, ◌<◌, ◌≤◌, Bool, true, false, List, [], ◌∷◌, ◌++◌, map, length, get_or, set, take, drop, refl, sym, ap, ◌∙◌, subst, arith, append_assoc}
 use Rattle.std.specs.Prelude.{None}
 use Rattle.sd_cert.specs.BadSteps.{pairs_fault}
 use Rattle.std.proofs.lemmas.List.{map-append, append-nil, take_more, take_more_set, drop_more, take_all, drop_all, get_or-set_other, length-take-le}
+use Rattle.sd_term.specs.Tree.{Tree}
 use Rattle.sd_kernel.specs.declared.Proved.{Proved}
-use Rattle.sd_product.specs.declared.straight.Straight.{Straight}
-use Rattle.sd_product.specs.Straight.{queries_of}
+use Rattle.sd_cert.specs.declared.shape.Shape.{Shape}
 use Rattle.sd_product.specs.Inductive.{proved_of, live_from}
 use Rattle.sd_cert.specs.declared.certificate.CertPair.{CertPair}
-use Rattle.sd_cert.specs.Accepts.{Ascend, FitsPair, FitsPairs, candidates_of, numbered_from, proofs_from}
+use Rattle.sd_cert.specs.Accepts.{Ascend, FitsPair, FitsPairs, numbered_from, proofs_from}
+use Rattle.sd_cert.specs.Shapes.{count_of}
 use Rattle.sd_cert.specs.Tables.{IsDecided}
 
 -- ---- decided numbers
@@ -53,19 +54,9 @@ ascend-below least bound [] i p a h e = absurd (omega arith)
 ascend-below least bound (q ∷ ps) zero p a h e = subst (λ (r : Proved). r.candidate < bound) (sym e) a.1
 ascend-below least bound (q ∷ ps) (suc i) p a h e = ascend-below (q.candidate + 1) bound ps i p a.2 (omega arith) e
 
-ascend-weaker : (least bound more : ℕ) (ks : List ℕ) → bound ≤ more → Ascend least bound ks → Ascend least more ks
+pub ascend-weaker : (least bound more : ℕ) (ks : List ℕ) → bound ≤ more → Ascend least bound ks → Ascend least more ks
 ascend-weaker least bound more [] h a = tt
 ascend-weaker least bound more (k ∷ ks) h a = (a.0, omega (arith, a.1), ascend-weaker (k + 1) bound more ks h a.2)
-
-fewer : (s : Straight) → candidates_of s ≤ length s.queries
-fewer s = go s.refused
-  where
-    go : (b : Bool) → cond b 0 (length s.queries) ≤ length s.queries
-    go true = omega arith
-    go false = omega arith
-
-pub ascend-all : (s : Straight) (p : CertPair) → FitsPair s p → Ascend 0 (length s.queries) (proved_of p.proved)
-ascend-all s p fits = ascend-weaker 0 (candidates_of s) (length s.queries) (proved_of p.proved) (fewer s) fits.numbers
 
 module _ (entries : List Proved) (i : ℕ) (e : Proved) (within : i < length entries) (is : e ≡ get_or entries i e) where
   here : drop i entries ≡ e ∷ drop (i + 1) entries
@@ -93,44 +84,47 @@ numbers-from : (n : ℕ) (ps : List Proved) → proved_of (map (numbered_from n)
 numbers-from n [] = refl
 numbers-from n (p ∷ ps) = ap (λ ks. (n + p.candidate) ∷ ks) (numbers-from n ps)
 
-module _ (pairs : List Straight) (claims : List CertPair) (i : ℕ) (s : Straight) (p : CertPair) (within : i < length pairs) (claimed : i < length claims) (is : s ≡ get_or pairs i s) (claim : p ≡ get_or claims i p) where
-  pub pairs-here : drop i pairs ≡ s ∷ drop (i + 1) pairs
-  pairs-here = drop_more pairs i s within ∙ ap (λ x. x ∷ drop (i + 1) pairs) (sym is)
+-- the shape at a place
+abbrev pub shape-at : List Shape → ℕ → Shape
+shape-at shapes i = get_or shapes i (record { refused = false; candidates = 0 })
+
+module _ (shapes : List Shape) (claims : List CertPair) (i : ℕ) (p : CertPair) (within : i < length shapes) (claimed : i < length claims) (claim : p ≡ get_or claims i p) where
+  pub shapes-here : drop i shapes ≡ shape-at shapes i ∷ drop (i + 1) shapes
+  shapes-here = drop_more shapes i (record { refused = false; candidates = 0 }) within
 
   pub claims-here : drop i claims ≡ p ∷ drop (i + 1) claims
   claims-here = drop_more claims i p claimed ∙ ap (λ x. x ∷ drop (i + 1) claims) (sym claim)
 
-  pub fits-step : FitsPairs (drop i pairs) (drop i claims) → FitsPair s p × FitsPairs (drop (i + 1) pairs) (drop (i + 1) claims)
+  pub fits-step : FitsPairs (drop i shapes) (drop i claims) → FitsPair (shape-at shapes i) p × FitsPairs (drop (i + 1) shapes) (drop (i + 1) claims)
   fits-step fits =
-      subst (λ (cs : List CertPair). FitsPairs (s ∷ drop (i + 1) pairs) cs) claims-here
-      (subst (λ (ss : List Straight). FitsPairs ss (drop i claims)) pairs-here fits)
+      subst (λ (cs : List CertPair). FitsPairs (shape-at shapes i ∷ drop (i + 1) shapes) cs) claims-here
+      (subst (λ (ss : List Shape). FitsPairs ss (drop i claims)) shapes-here fits)
 
-  pub queries-step : (first total : ℕ) → first + length (queries_of (drop i pairs)) ≡ total → (first + length s.queries) + length (queries_of (drop (i + 1) pairs)) ≡ total
-  queries-step first total h =
-      omega (arith, h, ap (λ ss. length (queries_of ss)) pairs-here, length-append s.queries (queries_of (drop (i + 1) pairs)))
+  pub count-step : (first total : ℕ) → first + count_of (drop i shapes) ≡ total → (first + (shape-at shapes i).candidates) + count_of (drop (i + 1) shapes) ≡ total
+  count-step first total h = omega (arith, h, ap count_of shapes-here)
 
-  pub numbers-step : (numbers all : List ℕ) (first : ℕ) → numbers ++ proved_of (proofs_from first (drop i pairs) (drop i claims)) ≡ all → (numbers ++ map (λ k. first + k) (proved_of p.proved)) ++ proved_of (proofs_from (first + length s.queries) (drop (i + 1) pairs) (drop (i + 1) claims)) ≡ all
+  pub numbers-step : (numbers all : List ℕ) (first : ℕ) → numbers ++ proved_of (proofs_from first (drop i shapes) (drop i claims)) ≡ all → (numbers ++ map (λ k. first + k) (proved_of p.proved)) ++ proved_of (proofs_from (first + (shape-at shapes i).candidates) (drop (i + 1) shapes) (drop (i + 1) claims)) ≡ all
   numbers-step numbers all first h =
-      let others = proofs_from (first + length s.queries) (drop (i + 1) pairs) (drop (i + 1) claims)
+      let others = proofs_from (first + (shape-at shapes i).candidates) (drop (i + 1) shapes) (drop (i + 1) claims)
       in append_assoc numbers (map (λ k. first + k) (proved_of p.proved)) (proved_of others)
       ∙ ap (λ t. numbers ++ t)
       (sym
-      (ap (λ ss. proved_of (proofs_from first ss (drop i claims))) pairs-here
-      ∙ ap (λ cs. proved_of (proofs_from first (s ∷ drop (i + 1) pairs) cs)) claims-here
+      (ap (λ ss. proved_of (proofs_from first ss (drop i claims))) shapes-here
+      ∙ ap (λ cs. proved_of (proofs_from first (shape-at shapes i ∷ drop (i + 1) shapes) cs)) claims-here
       ∙ map-append (λ (q : Proved). q.candidate) (map (numbered_from first) p.proved) others
       ∙ ap (λ ks. ks ++ proved_of others) (numbers-from first p.proved)))
       ∙ h
 
-no-claims : (n : ℕ) (ss : List Straight) → proofs_from n ss [] ≡ []
+no-claims : (n : ℕ) (ss : List Shape) → proofs_from n ss [] ≡ []
 no-claims n [] = refl
 no-claims n (s ∷ ss) = refl
 
-pub numbers-all : (pairs : List Straight) (claims : List CertPair) (i first : ℕ) (numbers all : List ℕ) → length claims ≤ i → numbers ++ proved_of (proofs_from first (drop i pairs) (drop i claims)) ≡ all → all ≡ numbers
-numbers-all pairs claims i first numbers all h e =
-    sym e ∙ ap (λ cs. numbers ++ proved_of (proofs_from first (drop i pairs) cs)) (drop_all i claims h)
-    ∙ ap (λ ps. numbers ++ proved_of ps) (no-claims first (drop i pairs)) ∙ append-nil numbers
+pub numbers-all : (shapes : List Shape) (claims : List CertPair) (i first : ℕ) (numbers all : List ℕ) → length claims ≤ i → numbers ++ proved_of (proofs_from first (drop i shapes) (drop i claims)) ≡ all → all ≡ numbers
+numbers-all shapes claims i first numbers all h e =
+    sym e ∙ ap (λ cs. numbers ++ proved_of (proofs_from first (drop i shapes) cs)) (drop_all i claims h)
+    ∙ ap (λ ps. numbers ++ proved_of ps) (no-claims first (drop i shapes)) ∙ append-nil numbers
 
-pub fits-length : (ss : List Straight) (ps : List CertPair) → FitsPairs ss ps → length ss ≡ length ps
+pub fits-length : (ss : List Shape) (ps : List CertPair) → FitsPairs ss ps → length ss ≡ length ps
 fits-length [] [] f = refl
 fits-length (s ∷ ss) (p ∷ ps) f = ap suc (fits-length ss ps f.1)
 fits-length [] (p ∷ ps) f = absurd f
@@ -138,9 +132,9 @@ fits-length (s ∷ ss) [] f = absurd f
 
 -- ---- the lines of the pairs
 
-no-claims-fault : (line : ℕ) (ss : List Straight) → pairs_fault line ss [] ≡ None
-no-claims-fault line [] = refl
-no-claims-fault line (s ∷ ss) = refl
+no-claims-fault : (queries : List (List Tree)) (first line : ℕ) (ss : List Shape) → pairs_fault queries first line ss [] ≡ None
+no-claims-fault queries first line [] = refl
+no-claims-fault queries first line (s ∷ ss) = refl
 
-pub no-fault-left : (line : ℕ) (ss : List Straight) (claims : List CertPair) (i : ℕ) → length claims ≤ i → pairs_fault line ss (drop i claims) ≡ None
-no-fault-left line ss claims i h = ap (pairs_fault line ss) (drop_all i claims h) ∙ no-claims-fault line ss
+pub no-fault-left : (queries : List (List Tree)) (first line : ℕ) (ss : List Shape) (claims : List CertPair) (i : ℕ) → length claims ≤ i → pairs_fault queries first line ss (drop i claims) ≡ None
+no-fault-left queries first line ss claims i h = ap (pairs_fault queries first line ss) (drop_all i claims h) ∙ no-claims-fault queries first line ss

@@ -12,7 +12,8 @@ use Rattle.sd_kernel.specs.declared.step.Verdict.TheVariants.{Accepted, Rejected
 use Rattle.sd_kernel.specs.declared.How.{How}
 use Rattle.sd_kernel.specs.declared.How.TheVariants.{Steps}
 use Rattle.sd_kernel.specs.declared.Proved.{Proved}
-use Rattle.sd_product.specs.declared.straight.Straight.{Straight}
+use Rattle.sd_product.specs.Work.{Held, queries_under}
+use Rattle.sd_cert.specs.declared.shape.Shape.{Shape}
 use Rattle.sd_cert.specs.declared.digest.Digests.{Digests}
 use Rattle.sd_cert.specs.declared.certificate.CertPair.{CertPair}
 use Rattle.sd_cert.specs.declared.certificate.Certificate.{Certificate}
@@ -28,6 +29,8 @@ use Rattle.sd_cert.specs.Certificates.{certificate_lines, certificate_text, IsCe
 use Rattle.sd_cert.specs.Faults.{IsFault}
 use Rattle.sd_cert.specs.Refusals.{unless, or_next, refusal, spot_after, first_spot, first_refusal, refusal_or, first_fault}
 use Rattle.sd_cert.specs.BadSteps.{verdict_fault, how_fault, entry_fault, entries_fault, pairs_fault}
+use Rattle.sd_cert.specs.Shapes.{shapes_of}
+use Rattle.sd_cert.specs.Tables.{table_of}
 use Rattle.sd_cert.specs.ReplayFaults.{IsRefused, HasBadStep, IsReplayFault, IsCertificateFault}
 use Rattle.sd_cert.proofs.TextLemmas.{no_feed, first_line-unique, lines_text-append}
 use Rattle.sd_cert.proofs.OneLine.{line_text-injective}
@@ -57,21 +60,23 @@ verdict-steps line (Rejected n cause) = tt
 how-steps : (line : ℕ) (facts : List Tree) (h : How) → IsOfSteps (how_fault line facts h)
 how-steps line facts (Steps p) = verdict-steps line (verdict facts p.steps)
 
-entries-steps : (queries : List (List Tree)) (ps : List Proved) (line : ℕ) → IsOfSteps (entries_fault queries line ps)
+entries-steps : (queries : List (List Tree)) (first : ℕ) (ps : List Proved) (line : ℕ) → IsOfSteps (entries_fault queries first line ps)
 unfolding IsOfSteps
-entries-steps queries [] line = tt
-entries-steps queries (p ∷ ps) line = next-steps (entry_fault queries line p) _ (how-steps (line + 1) (get_or queries p.candidate []) p.how) (entries-steps queries ps _)
+entries-steps queries first [] line = tt
+entries-steps queries first (p ∷ ps) line =
+    next-steps (entry_fault queries first line p) _ (how-steps (line + 1) (get_or queries (first + p.candidate) []) p.how) (entries-steps queries first ps _)
 
-pairs-steps : (ss : List Straight) (ps : List CertPair) (line : ℕ) → IsOfSteps (pairs_fault line ss ps)
+pairs-steps : (queries : List (List Tree)) (ss : List Shape) (ps : List CertPair) (first line : ℕ) → IsOfSteps (pairs_fault queries first line ss ps)
 unfolding IsOfSteps
-pairs-steps [] ps line = tt
-pairs-steps (s ∷ ss) [] line = tt
-pairs-steps (s ∷ ss) (p ∷ ps) line = next-steps (entries_fault s.queries (line + 1) p.proved) _ (entries-steps s.queries p.proved (line + 1)) (pairs-steps ss ps _)
+pairs-steps queries [] ps first line = tt
+pairs-steps queries (s ∷ ss) [] first line = tt
+pairs-steps queries (s ∷ ss) (p ∷ ps) first line =
+    next-steps (entries_fault queries first (line + 1) p.proved) _ (entries-steps queries first p.proved (line + 1)) (pairs-steps queries ss ps _ _)
 
-step-fault : (pairs : List Straight) (d : Digests) (text : List ℕ) (e : CertError) → IsOfSteps (Some e) → HasBadStep pairs d text e → IsReplayFault pairs d text e
+step-fault : (h : Held) (d : Digests) (text : List ℕ) (e : CertError) → IsOfSteps (Some e) → HasBadStep h d text e → IsReplayFault h d text e
 unfolding IsOfSteps IsOfStep
-step-fault pairs d text (BadStep n cause) f h = h
-step-fault pairs d text _ f h = absurd f
+step-fault h d text (BadStep n cause) f s = s
+step-fault h d text _ f s = absurd f
 
 -- ---- refused lines
 
@@ -87,33 +92,33 @@ unless-work : (b : Bool) (o e : CertError) → IsOfWork o → unless b o ≡ Som
 unless-work true o e f h = absurd (cc)
 unless-work false o e f h = subst IsOfWork (same_Some o e h) f
 
-refusal-work : (pairs : List Straight) (d : Digests) (spot : Spot) (l : Line) (e : CertError) → refusal pairs d spot l ≡ Some e → IsOfWork e
+refusal-work : (shapes : List Shape) (d : Digests) (spot : Spot) (l : Line) (e : CertError) → refusal shapes d spot l ≡ Some e → IsOfWork e
 unfolding IsOfWork
-refusal-work pairs d spot (Version n) e h = absurd (cc)
-refusal-work pairs d spot (Old o) e h = unless-work _ OtherOld e tt h
-refusal-work pairs d spot (New o) e h = unless-work _ OtherNew e tt h
-refusal-work pairs d spot (Settings o) e h = unless-work _ OtherSettings e tt h
-refusal-work pairs d spot (Pairs n) e h = unless-work _ (OtherPair _) e tt h
-refusal-work pairs d spot (Pair i s) e h = unless-work _ (OtherPair i) e tt h
-refusal-work pairs d spot (Candidate k) e h = unless-work _ (OtherPair _) e tt h
-refusal-work pairs d spot (StepLine s) e h = absurd (cc)
-refusal-work pairs d spot End e h = absurd (cc)
+refusal-work shapes d spot (Version n) e h = absurd (cc)
+refusal-work shapes d spot (Old o) e h = unless-work _ OtherOld e tt h
+refusal-work shapes d spot (New o) e h = unless-work _ OtherNew e tt h
+refusal-work shapes d spot (Settings o) e h = unless-work _ OtherSettings e tt h
+refusal-work shapes d spot (Pairs n) e h = unless-work _ (OtherPair _) e tt h
+refusal-work shapes d spot (Pair i s) e h = unless-work _ (OtherPair i) e tt h
+refusal-work shapes d spot (Candidate k) e h = unless-work _ (OtherPair _) e tt h
+refusal-work shapes d spot (StepLine s) e h = absurd (cc)
+refusal-work shapes d spot End e h = absurd (cc)
 
 -- the lines up to the first that is refused
-record Split (pairs : List Straight) (d : Digests) (spot : Spot) (lines : List Line) (e : CertError) : Type 0 where
+record Split (shapes : List Shape) (d : Digests) (spot : Spot) (lines : List Line) (e : CertError) : Type 0 where
   front : List Line
   line : Line
   after : List Line
   whole : lines ≡ front ++ line ∷ after
-  passed : first_refusal pairs d spot front ≡ None
-  refused : first_refusal pairs d spot (front ++ line ∷ []) ≡ Some e
+  passed : first_refusal shapes d spot front ≡ None
+  refused : first_refusal shapes d spot (front ++ line ∷ []) ≡ Some e
   work : IsOfWork e
 
-split-refused : (pairs : List Straight) (d : Digests) (spot : Spot) (ls : List Line) (e : CertError) → first_refusal pairs d spot ls ≡ Some e → Split pairs d spot ls e
-split-refused pairs d spot [] e h = absurd (cc)
-split-refused pairs d spot (l ∷ ls) e h = go (refusal pairs d spot l) refl (split-refused pairs d (spot_after spot l) ls e) h
+split-refused : (shapes : List Shape) (d : Digests) (spot : Spot) (ls : List Line) (e : CertError) → first_refusal shapes d spot ls ≡ Some e → Split shapes d spot ls e
+split-refused shapes d spot [] e h = absurd (cc)
+split-refused shapes d spot (l ∷ ls) e h = go (refusal shapes d spot l) refl (split-refused shapes d (spot_after spot l) ls e) h
   where
-    go : (o : Option CertError) → refusal pairs d spot l ≡ o → (first_refusal pairs d (spot_after spot l) ls ≡ Some e → Split pairs d (spot_after spot l) ls e) → or_next o (first_refusal pairs d (spot_after spot l) ls) ≡ Some e → Split pairs d spot (l ∷ ls) e
+    go : (o : Option CertError) → refusal shapes d spot l ≡ o → (first_refusal shapes d (spot_after spot l) ls ≡ Some e → Split shapes d (spot_after spot l) ls e) → or_next o (first_refusal shapes d (spot_after spot l) ls) ≡ Some e → Split shapes d spot (l ∷ ls) e
     go None is others k =
         let more = others k in
         record {
@@ -121,8 +126,8 @@ split-refused pairs d spot (l ∷ ls) e h = go (refusal pairs d spot l) refl (sp
           line = more.line;
           after = more.after;
           whole = ap (λ t. l ∷ t) more.whole;
-          passed = ap (λ o. or_next o (first_refusal pairs d (spot_after spot l) more.front)) is ∙ more.passed;
-          refused = ap (λ o. or_next o (first_refusal pairs d (spot_after spot l) (more.front ++ more.line ∷ []))) is ∙ more.refused;
+          passed = ap (λ o. or_next o (first_refusal shapes d (spot_after spot l) more.front)) is ∙ more.passed;
+          refused = ap (λ o. or_next o (first_refusal shapes d (spot_after spot l) (more.front ++ more.line ∷ []))) is ∙ more.refused;
           work = more.work;
         }
     go (Some x) is others k = record {
@@ -132,7 +137,7 @@ split-refused pairs d spot (l ∷ ls) e h = go (refusal pairs d spot l) refl (sp
       whole = refl;
       passed = refl;
       refused = ap (λ o. or_next o None) is ∙ k;
-      work = refusal-work pairs d spot l e (is ∙ k);
+      work = refusal-work shapes d spot l e (is ∙ k);
     }
 
 front-stands : (p q : Phase) (xs ys : List Line) → after_lines p (xs ++ ys) ≡ Some q → (r : Phase) × (after_lines p xs ≡ Some r)
@@ -143,22 +148,22 @@ front-stands p q (x ∷ xs) ys h = go (after_line p x) (λ r. front-stands r q x
     go None more k = absurd (cc)
     go (Some r) more k = more r k
 
-work-fault : (pairs : List Straight) (d : Digests) (text : List ℕ) (e : CertError) → IsOfWork e → IsRefused pairs d text e → IsReplayFault pairs d text e
+work-fault : (h : Held) (d : Digests) (text : List ℕ) (e : CertError) → IsOfWork e → IsRefused (shapes_of h) d text e → IsReplayFault h d text e
 unfolding IsOfWork
-work-fault pairs d text OtherOld f h = h
-work-fault pairs d text OtherNew f h = h
-work-fault pairs d text OtherSettings f h = h
-work-fault pairs d text (OtherPair i) f h = h
-work-fault pairs d text _ f h = absurd f
+work-fault h d text OtherOld f r = r
+work-fault h d text OtherNew f r = r
+work-fault h d text OtherSettings f r = r
+work-fault h d text (OtherPair i) f r = r
+work-fault h d text _ f r = absurd f
 
-module _ (pairs : List Straight) (d : Digests) (text : List ℕ) where
-  refused-fault : (lines : List Line) (rest : List ℕ) (phase : Phase) (e : CertError) → AllByRecursion IsLine lines → text ≡ lines_text lines ++ rest → after_lines at_version lines ≡ Some phase → first_refusal pairs d first_spot lines ≡ Some e → IsReplayFault pairs d text e
-  refused-fault lines rest phase e fit whole stand h =
-      let s = split-refused pairs d first_spot lines e h in
+module _ (h : Held) (d : Digests) (text : List ℕ) where
+  refused-fault : (lines : List Line) (rest : List ℕ) (phase : Phase) (e : CertError) → AllByRecursion IsLine lines → text ≡ lines_text lines ++ rest → after_lines at_version lines ≡ Some phase → first_refusal (shapes_of h) d first_spot lines ≡ Some e → IsReplayFault h d text e
+  refused-fault lines rest phase e fit whole stand f =
+      let s = split-refused (shapes_of h) d first_spot lines e f in
       let upto = s.front ++ s.line ∷ [] in
       let parts : lines ≡ upto ++ s.after = s.whole ∙ sym (append_assoc s.front (s.line ∷ []) s.after) in
       let stands = front-stands at_version phase upto s.after (ap (after_lines at_version) (sym parts) ∙ stand) in
-      work-fault pairs d text e s.work record {
+      work-fault h d text e s.work record {
         front = s.front;
         line = s.line;
         rest = lines_text s.after ++ rest;
@@ -172,17 +177,17 @@ module _ (pairs : List Straight) (d : Digests) (text : List ℕ) where
         refused = s.refused;
       }
 
-  pub certificate-fault : (c : Certificate) (e : CertError) → IsCertificate c → text ≡ certificate_text c → IsCertificateFault pairs d c e → IsReplayFault pairs d text e
-  certificate-fault c e f t (inl m) = subst (λ (x : CertError). IsReplayFault pairs d text x) (sym m) tt
-  certificate-fault c e f t (inr (inl h)) = refused-fault (certificate_lines c) [] done e f (t ∙ sym (append-nil (certificate_text c))) (certificate-end c) h
-  certificate-fault c e f t (inr (inr h)) =
-      step-fault pairs d text e (subst IsOfSteps h.2 (pairs-steps pairs c.pairs 6)) record {
+  pub certificate-fault : (c : Certificate) (e : CertError) → IsCertificate c → text ≡ certificate_text c → IsCertificateFault h d c e → IsReplayFault h d text e
+  certificate-fault c e f t (inl m) = subst (λ (x : CertError). IsReplayFault h d text x) (sym m) tt
+  certificate-fault c e f t (inr (inl r)) = refused-fault (certificate_lines c) [] done e f (t ∙ sym (append-nil (certificate_text c))) (certificate-end c) r
+  certificate-fault c e f t (inr (inr s)) =
+      step-fault h d text e (subst IsOfSteps s.2 (pairs-steps (queries_under h (table_of (shapes_of h) c.pairs)) (shapes_of h) c.pairs 0 6)) record {
         certificate = c;
         form = f;
         whole = t;
-        same_digests = h.0;
-        fits = h.1;
-        step = h.2;
+        same_digests = s.0;
+        fits = s.1;
+        step = s.2;
       }
 
 -- ---- lines that were read
@@ -198,20 +203,20 @@ prefix-of (l ∷ ls) (m ∷ ms) rest others f g stop e =
     let more : ls ≡ take (length ls) ms = prefix-of ls ms rest others f.1 g.1 stop parts.1 in
     λ i. same i ∷ more i
 
-module _ (pairs : List Straight) (d : Digests) (text : List ℕ) (lines : List Line) (rest : List ℕ) (has : HasLines text lines rest) where
+module _ (h : Held) (d : Digests) (text : List ℕ) (lines : List Line) (rest : List ℕ) (has : HasLines text lines rest) where
   before-is : (n : ℕ) (ls : List Line) (others : List ℕ) → AllByRecursion IsLine ls → text ≡ lines_text ls ++ others → n ≡ length ls + 1 → ls ≡ take (n - 1) lines
   before-is n ls others f w e =
       let count : length ls ≡ n - 1 = omega arith in
       prefix-of ls lines others rest f has.fit has.stop (sym w ∙ has.whole) ∙ ap (λ k. take k lines) count
 
-  line-fault : (n : ℕ) → IsFault text (BadLine n) → (o : Option CertError) → first_refusal pairs d first_spot (take (n - 1) lines) ≡ o → IsReplayFault pairs d text (refusal_or o (BadLine n))
-  line-fault n fault None is = (fault, λ ls others f w e. ap (first_refusal pairs d first_spot) (before-is n ls others f w e) ∙ is)
+  line-fault : (n : ℕ) → IsFault text (BadLine n) → (o : Option CertError) → first_refusal (shapes_of h) d first_spot (take (n - 1) lines) ≡ o → IsReplayFault h d text (refusal_or o (BadLine n))
+  line-fault n fault None is = (fault, λ ls others f w e. ap (first_refusal (shapes_of h) d first_spot) (before-is n ls others f w e) ∙ is)
   line-fault n fault (Some e) is =
       let at = fault.0 in
-      refused-fault pairs d text at.lines at.rest at.phase e at.fit at.whole at.before (ap (first_refusal pairs d first_spot) (before-is n at.lines at.rest at.fit at.whole at.number) ∙ is)
+      refused-fault h d text at.lines at.rest at.phase e at.fit at.whole at.before (ap (first_refusal (shapes_of h) d first_spot) (before-is n at.lines at.rest at.fit at.whole at.number) ∙ is)
 
-  pub reading-fault : (fault : CertError) → IsFault text fault → IsReplayFault pairs d text (first_fault pairs d lines fault)
+  pub reading-fault : (fault : CertError) → IsFault text fault → IsReplayFault h d text (first_fault (shapes_of h) d lines fault)
   reading-fault NoMemory f = tt
   reading-fault (OtherVersion v) f = f
-  reading-fault (BadLine n) f = line-fault n f (first_refusal pairs d first_spot (take (n - 1) lines)) refl
+  reading-fault (BadLine n) f = line-fault n f (first_refusal (shapes_of h) d first_spot (take (n - 1) lines)) refl
   reading-fault _ f = absurd f

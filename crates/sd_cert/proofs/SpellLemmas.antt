@@ -1,6 +1,6 @@
 -- A text grows line by line.
 use Rattle.std.proofs.Common.{◌≡◌, ℕ, ◌+◌, ◌<◌, List, [], ◌∷◌, ◌++◌, map, length, get_or, take, sym, ap, ◌∙◌, subst, arith, append_assoc}
-use Rattle.std.specs.List.{flat_map, AllByRecursion}
+use Rattle.std.specs.List.{flat_map}
 use Rattle.std.proofs.lemmas.List.{take_more, map_more, length-take-le, append-nil}
 use Rattle.std.proofs.lemmas.Grind.{flat_map-append}
 use Rattle.sd_kernel.specs.declared.Step.{Step}
@@ -12,14 +12,10 @@ use Rattle.sd_cert.specs.declared.line.Line.TheVariants.{Version, Old, New, Sett
 use Rattle.sd_cert.specs.Text.{lines_text}
 use Rattle.sd_cert.specs.Lines.{IsLine}
 use Rattle.sd_cert.specs.Added.{IsAdded}
-use Rattle.sd_cert.specs.Certificates.{proved_lines, pair_lines, certificate_lines, certificate_text, IsCertificate}
+use Rattle.sd_cert.specs.Certificates.{proved_lines, pair_lines, certificate_lines}
 use Rattle.sd_cert.proofs.TextLemmas.{lines_text-append}
 use Rattle.sd_cert.proofs.DraftLemmas.{pair_lines-push}
 use Rattle.sd_cert.proofs.JudgeLemmas.{all-append}
-
--- nothing was added
-pub unchanged : (old : List ℕ) → IsAdded [] old old
-unchanged old = record { fit = tt; text = sym (append-nil old) }
 
 -- the lines are the same ones
 pub added-same : (ls ms : List Line) (old new : List ℕ) → ls ≡ ms → IsAdded ls old new → IsAdded ms old new
@@ -52,10 +48,6 @@ pairs-pushed old now middle next ps i p proved within at are h k m =
     ∙ sym (append_assoc (pair_lines 0 (take i ps)) (Pair i p.state ∷ []) (flat_map proved_lines proved))
     in added-same _ _ old next (sym more)
     (pushed old middle next (pair_lines 0 (take i ps) ++ Pair i p.state ∷ []) (flat_map proved_lines proved) (pushed old now middle (pair_lines 0 (take i ps)) (Pair i p.state ∷ []) h k) m)
-
--- a candidate and its steps
-pub entry-pushed : (old now next : List ℕ) (l : Line) (ls : List Line) → IsAdded (l ∷ []) old now → IsAdded ls now next → IsAdded (l ∷ ls) old next
-entry-pushed old now next l ls h k = pushed old now next (l ∷ []) ls h k
 
 pub spelled : (c : Certificate) (pairs : List CertPair) → pairs ≡ c.pairs → (t0 t1 t2 t3 t4 t5 t6 t7 : List ℕ) → t0 ≡ [] → IsAdded (Version 1 ∷ []) t0 t1 → IsAdded (Old c.digests.old ∷ []) t1 t2 → IsAdded (New c.digests.new ∷ []) t2 t3 → IsAdded (Settings c.digests.settings ∷ []) t3 t4 → IsAdded (Pairs (length pairs) ∷ []) t4 t5 → IsAdded (pair_lines 0 pairs) t5 t6 → IsAdded (End ∷ []) t6 t7 → IsAdded (certificate_lines c) [] t7
 spelled c pairs are t0 t1 t2 t3 t4 t5 t6 t7 e0 e1 e2 e3 e4 e5 e6 e7 =

@@ -1,5 +1,5 @@
 -- Lines have no line feeds, so a text has one first line at most.
-use Rattle.std.proofs.Common.{◌≡◌, ℕ, ◌+◌, ◌^◌, ◌<◌, ◌==◌, Bool, true, false, List, [], ◌∷◌, ◌++◌, length, get_or, take, drop, refl, sym, ap, ◌∙◌, arith, append_assoc, length-append}
+use Rattle.std.proofs.Common.{◌≡◌, ℕ, ◌+◌, ◌^◌, ◌<◌, ◌==◌, Bool, true, false, List, [], ◌∷◌, ◌++◌, length, get_or, take, drop, refl, sym, ap, ◌∙◌, arith, append_assoc}
 use Rattle.std.specs.Prelude.{◌||◌, ◌&&◌}
 use Rattle.std.specs.List.{AllByRecursion}
 use Rattle.std.specs.Char.{is_ascii_digit}
@@ -99,14 +99,6 @@ pub at_feed : (text : List ℕ) (i : ℕ) → i < length text → get_or text i 
 at_feed text i within e =
     sym (take-append-drop i text) ∙ ap (λ t. take i text ++ t) (drop_more text i 0 within) ∙ ap (λ c. take i text ++ c ∷ drop (i + 1) text) e
 
-pub without_feed : (text : List ℕ) → has_feed text ≡ false → BeginsWithoutLine text
-without_feed text h l more f e =
-    let found : has_feed text ≡ true = ap has_feed e ∙ list_any-append (λ b. b == 10) (line_text l) (10 ∷ more) ∙ yes (has_feed (line_text l)) in cc
-  where
-    yes : (p : Bool) → (p || true) ≡ true
-    yes true = refl
-    yes false = refl
-
 pub without_form : (text front rest : List ℕ) → text ≡ front ++ 10 ∷ rest → has_feed front ≡ false → ((l : Line) → IsLine l → front ≡ line_text l → ⊥) → BeginsWithoutLine text
 without_form text front rest whole h none l more f e = none l f (first_line-unique front rest (line_text l) more h (no_feed l f) (sym whole ∙ e)).0
 
@@ -122,6 +114,3 @@ pub whole-push : (text rest after : List ℕ) (ls : List Line) (l : Line) → te
 whole-push text rest after ls l h e =
     h ∙ ap (λ t. lines_text ls ++ t) (e ∙ sym (append_assoc (line_text l) (10 ∷ []) after))
     ∙ sym (append_assoc (lines_text ls) (line_text l ++ 10 ∷ []) after) ∙ ap (λ t. t ++ after) (sym (lines_text-append ls (l ∷ [])))
-
-pub rest-shorter : (rest after : List ℕ) (l : Line) → rest ≡ line_text l ++ 10 ∷ after → length after < length rest
-rest-shorter rest after l e = omega (arith, ap length e, length-append (line_text l) (10 ∷ after))

@@ -1,16 +1,16 @@
 -- Proofs that are shared out among the pairs.
-use Rattle.std.proofs.Common.{◌≡◌, ℕ, zero, suc, ◌+◌, ◌-◌, ◌<◌, ◌≤◌, Bool, true, false, cond, List, [], ◌∷◌, ◌++◌, map, length, get_or, take, drop, refl, sym, ap, ◌∙◌, subst, arith, append_assoc, length-append}
-use Rattle.std.specs.List.{AllByRecursion}
+use Rattle.std.proofs.Common.{◌≡◌, ℕ, suc, ◌+◌, ◌-◌, ◌<◌, ◌≤◌, Bool, true, false, List, [], ◌∷◌, ◌++◌, map, length, get_or, take, drop, refl, sym, ap, ◌∙◌, subst, arith, append_assoc}
 use Rattle.std.proofs.lemmas.List.{map-append, append-nil, take_all, drop_all}
 use Rattle.sd_term.specs.Tree.{Tree}
 use Rattle.sd_kernel.specs.declared.Proved.{Proved}
-use Rattle.sd_product.specs.declared.straight.Straight.{Straight}
-use Rattle.sd_product.specs.Straight.{queries_of}
-use Rattle.sd_product.specs.Inductive.{proved_of, live_from, IsProved, IsInductive}
+use Rattle.sd_product.specs.Work.{Held, claims_in, queries_under}
+use Rattle.sd_product.specs.Inductive.{proved_of, live_from, IsInductive}
+use Rattle.sd_cert.specs.declared.shape.Shape.{Shape}
 use Rattle.sd_cert.specs.declared.digest.Digests.{Digests}
 use Rattle.sd_cert.specs.declared.certificate.CertPair.{CertPair}
-use Rattle.sd_cert.specs.Accepts.{state_of, candidates_of, Ascend, FitsPair, FitsPairs, numbered_from, proofs_from, Accepts}
-use Rattle.sd_cert.specs.Written.{RefusedAreEmpty, IsWritten}
+use Rattle.sd_cert.specs.Accepts.{Ascend, FitsPairs, numbered_from, proofs_from, Accepts}
+use Rattle.sd_cert.specs.Shapes.{count_of}
+use Rattle.sd_cert.specs.Written.{IsWritten}
 
 -- ---- the entries of a pair
 
@@ -103,24 +103,9 @@ first-above end k (q ∷ qs) p rest size is h e =
 -- ---- the pairs
 
 -- claims before any that fit the pairs that are left, with the proofs that are left, are the claims of all pairs
-abbrev pub Continues : List Straight → List Proved → List CertPair → ℕ → List Straight → List Proved → Type 0
-Continues pairs proofs claims first left rest =
-    (more : List CertPair) → FitsPairs left more → proofs_from first left more ≡ rest → FitsPairs pairs (claims ++ more) × (proofs_from 0 pairs (claims ++ more) ≡ proofs)
-
-pub continues-more : (pairs : List Straight) (proofs : List Proved) (claims : List CertPair) (first end : ℕ) (s : Straight) (left : List Straight) (p : CertPair) (before after : List Proved)
-    → end ≡ first + length s.queries → FitsPair s p → map (numbered_from first) p.proved ++ after ≡ before
-    → Continues pairs proofs claims first (s ∷ left) before → Continues pairs proofs (claims ++ p ∷ []) end left after
-continues-more pairs proofs claims first end s left p before after is fits same c more f e =
-    subst (λ (cs : List CertPair). FitsPairs pairs cs × (proofs_from 0 pairs cs ≡ proofs)) (sym (append_assoc claims (p ∷ []) more))
-    (c (p ∷ more) (fits, f) (ap (λ ps. map (numbered_from first) p.proved ++ ps) (ap (λ n. proofs_from n left more) (sym is) ∙ e) ∙ same))
-
--- a pair has the state and the candidates that it is claimed to have
-pub pair-fits : (s : Straight) (p : CertPair) → (s.refused ≡ true → s.queries ≡ []) → p.state ≡ state_of s.refused → Ascend 0 (length s.queries) (proved_of p.proved) → FitsPair s p
-pair-fits s p empty state a = record { state = state; numbers = subst (λ n. Ascend 0 n (proved_of p.proved)) (sym (count s.refused refl)) a }
-  where
-    count : (b : Bool) → s.refused ≡ b → cond b 0 (length s.queries) ≡ length s.queries
-    count true e = sym (ap length (empty e))
-    count false e = refl
+abbrev pub Continues : List Shape → List Proved → List CertPair → ℕ → List Shape → List Proved → Type 0
+Continues shapes proofs claims first left rest =
+    (more : List CertPair) → FitsPairs left more → proofs_from first left more ≡ rest → FitsPairs shapes (claims ++ more) × (proofs_from 0 shapes (claims ++ more) ≡ proofs)
 
 -- nothing ascends below the first number
 pub none-left : (n : ℕ) (ps : List Proved) → Ascend n n (proved_of ps) → ps ≡ []
@@ -128,14 +113,14 @@ none-left n [] a = refl
 none-left n (p ∷ ps) a = absurd (let low = a.0 in let high = a.1 in omega arith)
 
 -- after the last pair no proof is left, and the claims are those of all pairs
-pub fits-all : (pairs : List Straight) (proofs : List Proved) (claims : List CertPair) (i first : ℕ) (left : List Proved) → length pairs ≤ i → first + length (queries_of (drop i pairs)) ≡ length (queries_of pairs)
-    → Ascend first (length (queries_of pairs)) (proved_of left) → Continues pairs proofs claims first (drop i pairs) left → FitsPairs pairs claims × (proofs_from 0 pairs claims ≡ proofs)
-fits-all pairs proofs claims i first left past total a c =
-    let none : drop i pairs ≡ [] = drop_all i pairs past in
-    let all : first ≡ length (queries_of pairs) = omega (arith, total, ap (λ (ss : List Straight). length (queries_of ss)) none) in
+pub fits-all : (shapes : List Shape) (proofs : List Proved) (claims : List CertPair) (i first : ℕ) (left : List Proved) → length shapes ≤ i → first + count_of (drop i shapes) ≡ count_of shapes
+    → Ascend first (count_of shapes) (proved_of left) → Continues shapes proofs claims first (drop i shapes) left → FitsPairs shapes claims × (proofs_from 0 shapes claims ≡ proofs)
+fits-all shapes proofs claims i first left past total a c =
+    let none : drop i shapes ≡ [] = drop_all i shapes past in
+    let all : first ≡ count_of shapes = omega (arith, total, ap count_of none) in
     let empty : left ≡ [] = none-left first left (subst (λ n. Ascend first n (proved_of left)) (sym all) a) in
-    let end : Continues pairs proofs claims first [] left = subst (λ (ss : List Straight). Continues pairs proofs claims first ss left) none c in
-    subst (λ (cs : List CertPair). FitsPairs pairs cs × (proofs_from 0 pairs cs ≡ proofs)) (append-nil claims) (end [] tt (sym empty))
+    let end : Continues shapes proofs claims first [] left = subst (λ (ss : List Shape). Continues shapes proofs claims first ss left) none c in
+    subst (λ (cs : List CertPair). FitsPairs shapes cs × (proofs_from 0 shapes cs ≡ proofs)) (append-nil claims) (end [] tt (sym empty))
 
 -- ---- what is written is accepted
 
@@ -154,18 +139,18 @@ live-ascends n (false ∷ bs) =
     lower (k ∷ ks) a = (let h = a.0 in omega arith, a.1, a.2)
 
 -- the proofs of a table ascend
-pub inductive-ascends : (queries : List (List Tree)) (table : List Bool) (proofs : List Proved) → length table ≡ length queries → IsInductive queries table proofs → Ascend 0 (length queries) (proved_of proofs)
-inductive-ascends queries table proofs size i =
-    let e : 0 + length table ≡ length queries = omega (arith, size) in
-    subst (λ (ks : List ℕ). Ascend 0 (length queries) ks) (sym i.numbers) (subst (λ n. Ascend 0 n (live_from 0 table)) e (live-ascends 0 table))
+pub inductive-ascends : (queries : List (List Tree)) (count : ℕ) (table : List Bool) (proofs : List Proved) → length table ≡ count → IsInductive queries table proofs → Ascend 0 count (proved_of proofs)
+inductive-ascends queries count table proofs size i =
+    let e : 0 + length table ≡ count = omega (arith, size) in
+    subst (λ (ks : List ℕ). Ascend 0 count ks) (sym i.numbers) (subst (λ n. Ascend 0 n (live_from 0 table)) e (live-ascends 0 table))
 
-pub written-accepted : (pairs : List Straight) (digests : Digests) (proofs : List Proved) (bytes : List ℕ) (table : List Bool) → IsWritten pairs digests proofs bytes → length table ≡ length (queries_of pairs) → IsInductive (queries_of pairs) table proofs → Accepts pairs digests bytes table
-written-accepted pairs digests proofs bytes table w size i = record {
+pub written-accepted : (h : Held) (digests : Digests) (proofs : List Proved) (bytes : List ℕ) (table : List Bool) → IsWritten h digests proofs bytes → length table ≡ length (claims_in h) → IsInductive (queries_under h table) table proofs → Accepts h digests bytes table
+written-accepted h digests proofs bytes table w size i = record {
   certificate = w.certificate;
   form = w.form;
   text = w.text;
   same_digests = w.«of».same_digests;
   fits = w.«of».fits;
   size = size;
-  inductive = subst (λ (ps : List Proved). IsInductive (queries_of pairs) table ps) (sym w.«of».entries) i;
+  inductive = subst (λ (ps : List Proved). IsInductive (queries_under h table) table ps) (sym w.«of».entries) i;
 }

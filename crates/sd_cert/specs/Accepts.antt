@@ -1,23 +1,20 @@
--- Which bytes are accepted as a certificate of pairs, and with which table.
-use Rattle.std.specs.Prelude.{◌≡◌, ℕ, ◌+◌, ◌<◌, ◌≤◌, Bool, true, false, List, [], ◌∷◌, ◌++◌, map, length, if◌then◌else◌}
+-- Which bytes are accepted as a certificate of two programs, and with which table.
+use Rattle.std.specs.Prelude.{◌≡◌, ℕ, ◌+◌, ◌<◌, ◌≤◌, Bool, true, false, List, [], ◌∷◌, ◌++◌, map, length}
 use Rattle.sd_kernel.specs.declared.Proved.{Proved}
-use Rattle.sd_product.specs.declared.straight.Straight.{Straight}
-use Rattle.sd_product.specs.Straight.{queries_of}
+use Rattle.sd_product.specs.Work.{Held, claims_in, queries_under}
 use Rattle.sd_product.specs.Inductive.{proved_of, IsInductive}
 use Rattle.sd_cert.specs.declared.digest.Digests.{Digests}
 use Rattle.sd_cert.specs.declared.certificate.CertPair.{CertPair}
 use Rattle.sd_cert.specs.declared.certificate.Certificate.{Certificate}
+use Rattle.sd_cert.specs.declared.shape.Shape.{Shape}
 use Rattle.sd_cert.specs.declared.line.CertState.{CertState}
 use Rattle.sd_cert.specs.declared.line.CertState.TheVariants.{Open, Refused}
 use Rattle.sd_cert.specs.Certificates.{certificate_text, IsCertificate}
+use Rattle.sd_cert.specs.Shapes.{shapes_of}
 
 abbrev pub state_of : Bool → CertState
 state_of true = Refused
 state_of false = Open
-
--- how many candidates a pair has
-abbrev pub candidates_of : Straight → ℕ
-candidates_of s = if s.refused then 0 else length s.queries
 
 -- the numbers ascend, from a least one on, and stay below a bound
 abbrev pub Ascend : ℕ → ℕ → List ℕ → Type 0
@@ -25,11 +22,11 @@ Ascend least bound [] = Unit {0}
 Ascend least bound (k ∷ ks) = (least ≤ k) × (k < bound) × Ascend (k + 1) bound ks
 
 -- what a certificate says of a pair has the pair's state, and candidates that the pair has
-pub record FitsPair (s : Straight) (p : CertPair) : Type 0 where
+pub record FitsPair (s : Shape) (p : CertPair) : Type 0 where
   pub state : p.state ≡ state_of s.refused
-  pub numbers : Ascend 0 (candidates_of s) (proved_of p.proved)
+  pub numbers : Ascend 0 s.candidates (proved_of p.proved)
 
-abbrev pub FitsPairs : List Straight → List CertPair → Type 0
+abbrev pub FitsPairs : List Shape → List CertPair → Type 0
 FitsPairs [] [] = Unit {0}
 FitsPairs (s ∷ ss) (p ∷ ps) = FitsPair s p × FitsPairs ss ps
 FitsPairs _ _ = ⊥
@@ -39,17 +36,17 @@ abbrev pub numbered_from : ℕ → Proved → Proved
 numbered_from n p = record p { candidate = n + p.candidate }
 
 -- the entries of all pairs, whose candidates are numbered through from this number on
-abbrev pub proofs_from : ℕ → List Straight → List CertPair → List Proved
-proofs_from n (s ∷ ss) (p ∷ ps) = map (numbered_from n) p.proved ++ proofs_from (n + length s.queries) ss ps
+abbrev pub proofs_from : ℕ → List Shape → List CertPair → List Proved
+proofs_from n (s ∷ ss) (p ∷ ps) = map (numbered_from n) p.proved ++ proofs_from (n + s.candidates) ss ps
 proofs_from n _ _ = []
 
--- The bytes spell a certificate with these digests and the pair lines of these pairs, whose entries are proofs of the
--- live candidates of the table.
-pub record Accepts (pairs : List Straight) (digests : Digests) (bytes : List ℕ) (table : List Bool) : Type 0 where
+-- The bytes spell a certificate with these digests and the pair lines of these programs, whose entries are proofs of the
+-- live candidates of the table, under the table itself.
+pub record Accepts (h : Held) (digests : Digests) (bytes : List ℕ) (table : List Bool) : Type 0 where
   pub certificate : Certificate
   pub form : IsCertificate certificate
   pub text : bytes ≡ certificate_text certificate
   pub same_digests : certificate.digests ≡ digests
-  pub fits : FitsPairs pairs certificate.pairs
-  pub size : length table ≡ length (queries_of pairs)
-  pub inductive : IsInductive (queries_of pairs) table (proofs_from 0 pairs certificate.pairs)
+  pub fits : FitsPairs (shapes_of h) certificate.pairs
+  pub size : length table ≡ length (claims_in h)
+  pub inductive : IsInductive (queries_under h table) table (proofs_from 0 (shapes_of h) certificate.pairs)

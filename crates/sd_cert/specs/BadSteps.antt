@@ -8,12 +8,15 @@ use Rattle.sd_kernel.specs.declared.step.Verdict.TheVariants.{Accepted, Rejected
 use Rattle.sd_kernel.specs.declared.How.{How}
 use Rattle.sd_kernel.specs.declared.How.TheVariants.{Steps}
 use Rattle.sd_kernel.specs.declared.Proved.{Proved}
-use Rattle.sd_product.specs.declared.straight.Straight.{Straight}
+use Rattle.sd_product.specs.Work.{Held, queries_under}
+use Rattle.sd_cert.specs.declared.shape.Shape.{Shape}
 use Rattle.sd_cert.specs.declared.certificate.CertPair.{CertPair}
 use Rattle.sd_cert.specs.declared.fault.CertError.{CertError}
 use Rattle.sd_cert.specs.declared.fault.CertError.TheVariants.{NoMemory, Step as BadStep}
 use Rattle.sd_cert.specs.Certificates.{proved_lines}
 use Rattle.sd_cert.specs.Refusals.{or_next}
+use Rattle.sd_cert.specs.Shapes.{shapes_of}
+use Rattle.sd_cert.specs.Tables.{table_of}
 
 -- what is said of steps from this line on
 abbrev pub verdict_fault : ℕ → Verdict → Option CertError
@@ -23,21 +26,25 @@ verdict_fault line (Rejected n cause) = Some (BadStep (line + n) cause)
 abbrev pub how_fault : ℕ → List Tree → How → Option CertError
 how_fault line facts (Steps proof) = verdict_fault line (verdict facts proof.steps)
 
--- the first bad step of an entry whose candidate stands at this line
-abbrev pub entry_fault : List (List Tree) → ℕ → Proved → Option CertError
-entry_fault queries line p = how_fault (line + 1) (slice_index_or queries p.candidate []) p.how
+-- the first bad step of an entry whose candidate stands at this line, of a pair whose candidates are numbered from `first` on
+abbrev pub entry_fault : List (List Tree) → (first line : ℕ) → Proved → Option CertError
+entry_fault queries first line p = how_fault (line + 1) (slice_index_or queries (first + p.candidate) []) p.how
 
--- the first bad step of the entries from this line on
-abbrev pub entries_fault : List (List Tree) → ℕ → List Proved → Option CertError
-entries_fault queries line [] = None
-entries_fault queries line (p ∷ ps) =
-    or_next (entry_fault queries line p) (entries_fault queries (line + length (proved_lines p)) ps)
+-- the first bad step of the entries of such a pair from this line on
+abbrev pub entries_fault : List (List Tree) → (first line : ℕ) → List Proved → Option CertError
+entries_fault queries first line [] = None
+entries_fault queries first line (p ∷ ps) =
+    or_next (entry_fault queries first line p) (entries_fault queries first (line + length (proved_lines p)) ps)
 
--- the first bad step of the pairs from this line on
-abbrev pub pairs_fault : ℕ → List Straight → List CertPair → Option CertError
-pairs_fault line (s ∷ ss) (p ∷ ps) =
-    or_next (entries_fault s.queries (line + 1) p.proved) (pairs_fault (line + 1 + length (flat_map proved_lines p.proved)) ss ps)
-pairs_fault line _ _ = None
+-- the first bad step of the pairs from this line on, whose candidates are numbered from `first` on
+abbrev pub pairs_fault : List (List Tree) → (first line : ℕ) → List Shape → List CertPair → Option CertError
+pairs_fault queries first line (s ∷ ss) (p ∷ ps) =
+    or_next (entries_fault queries first (line + 1) p.proved) (pairs_fault queries (first + s.candidates) (line + 1 + length (flat_map proved_lines p.proved)) ss ps)
+pairs_fault queries first line _ _ = None
+
+-- The first bad step of a certificate with these pairs, under its own table. The first pair stands at line 6.
+abbrev pub step_fault : Held → List CertPair → Option CertError
+step_fault h pairs = pairs_fault (queries_under h (table_of (shapes_of h) pairs)) 0 6 (shapes_of h) pairs
 
 -- the result names the fault, if there is one, but for want of memory
 abbrev pub Names : {A : Type 0} → Option CertError → Result A CertError → Type 0

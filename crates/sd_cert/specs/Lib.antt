@@ -7,6 +7,7 @@ pub mod Certificates
 pub mod Phases
 pub mod Drafts
 pub mod Faults
+pub mod Shapes
 pub mod Accepts
 pub mod Refusals
 pub mod BadSteps

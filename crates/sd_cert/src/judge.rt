@@ -1,17 +1,21 @@
 //! The proofs of a certificate.
-ghost use Rattle.std.specs.Prelude.{◌≡◌, ◌<◌, ◌+◌, IfOk, length};
+ghost use Rattle.std.specs.Prelude.{◌≡◌, ◌<◌, ◌+◌, ◌-◌, ◌^◌, [], IfOk, length, slice_index_or};
 ghost use Rattle.std.specs.List.{flat_map};
 ghost use Rattle.sd_product.specs.Inductive.{proved_of};
+ghost use Rattle.sd_product.specs.Work.{claims_in, queries_under};
 ghost use Rattle.sd_cert.specs.Accepts.{FitsPairs, Ascend};
 ghost use Rattle.sd_cert.specs.Certificates.{proved_lines};
-ghost use Rattle.sd_cert.specs.BadSteps.{entry_fault, entries_fault, pairs_fault, Names};
+ghost use Rattle.sd_cert.specs.BadSteps.{how_fault, entries_fault, pairs_fault, Names};
+ghost use Rattle.sd_cert.specs.Shapes.{count_of};
 
 use crate::certificate::CertPair;
 use crate::fault::CertError;
+use crate::shape::Shape;
 use sd_base::NoMemory;
+use sd_cand::LiveTable;
 use sd_kernel::{How, Proved, Verdict, proves};
-use sd_product::Straight;
-use sd_term::Query;
+use sd_product::{Work, query};
+use std::alloc::Global;
 
 /// The line so many lines further. A text of 2^64 lines is out of memory.
 fn further(line: u64, count: u64) -> Result<u64, NoMemory>
@@ -23,13 +27,22 @@ fn further(line: u64, count: u64) -> Result<u64, NoMemory>
     }
 }
 
-/// Judges the entry whose candidate stands at this line.
-fn judge_entry(queries: &[Query], entry: &Proved, line: u64) -> Result<(), CertError>
-    requires { entry.now.candidate < length queries.now }
-    ensures { Names (entry_fault queries.now line entry.now) result }
+/// Judges an entry of the candidate with this number under the table. The candidate stands at this line.
+fn judge_entry(
+    alloc: Global,
+    work: &Work,
+    table: &LiveTable,
+    candidate: u32,
+    how: &How,
+    line: u64,
+) -> Result<(), CertError>
+    requires within { candidate < length (claims_in work.now) }
+    requires size { length table.now ≡ length (claims_in work.now) }
+    ensures { Names (how_fault (line + 1) (slice_index_or (queries_under work.now table.now) candidate []) how.now) result }
 {
-    let How::Steps(proof) = &entry.how;
-    match proves(&queries[entry.candidate as usize], proof)? {
+    let facts = query(alloc, work, table, candidate)?;
+    let How::Steps(proof) = how;
+    match proves(&facts, proof)? {
         Verdict::Accepted => Ok(()),
         Verdict::Rejected(bad, cause) => {
             let first = further(line, 1)?;
@@ -49,33 +62,53 @@ fn below_entry(entry: &Proved, line: u64) -> Result<u64, NoMemory>
     further(first, count)
 }
 
-/// Judges the entries of a pair from this line on, and answers the line below them.
-fn judge_entries(queries: &[Query], entries: &[Proved], line: u64) -> Result<u64, CertError>
-    requires { Ascend 0 (length queries.now) (proved_of entries.now) }
-    ensures fault { Names (entries_fault queries.now line entries.now) result }
+/// Judges the entries of a pair, whose candidates are numbered from `first` on, from this line on, and answers the line
+/// below them.
+fn judge_entries(
+    alloc: Global,
+    work: &Work,
+    table: &LiveTable,
+    entries: &[Proved],
+    first: u32,
+    line: u64,
+) -> Result<u64, CertError>
+    requires ascend { Ascend 0 (length (claims_in work.now) - first) (proved_of entries.now) }
+    requires size { length table.now ≡ length (claims_in work.now) }
+    requires small { length (claims_in work.now) < 2 ^ 32 }
+    ensures fault { Names (entries_fault (queries_under work.now table.now) first line entries.now) result }
     ensures line { IfOk result (λ l. l ≡ line + length (flat_map proved_lines entries.now)) }
 {
     let mut at = line;
     for entry in entries {
-        judge_entry(queries, entry, at)?;
+        let candidate = first + entry.candidate;
+        judge_entry(alloc, work, table, candidate, &entry.how, at)?;
         at = below_entry(entry, at)?;
     }
     Ok(at)
 }
 
-/// Judges the proofs of all pairs, the first of which stands at this line.
+/// Judges the proofs of all pairs under the table. The first pair stands at this line.
 pub(crate) fn judge_pairs(
-    pairs: &[Straight],
+    alloc: Global,
+    work: &Work,
+    table: &LiveTable,
+    shapes: &[Shape],
     claims: &[CertPair],
     line: u64,
 ) -> Result<(), CertError>
-    requires { FitsPairs pairs.now claims.now }
-    ensures { Names (pairs_fault line pairs.now claims.now) result }
+    requires fits { FitsPairs shapes.now claims.now }
+    requires count { count_of shapes.now ≡ length (claims_in work.now) }
+    requires size { length table.now ≡ length (claims_in work.now) }
+    requires small { length (claims_in work.now) < 2 ^ 32 }
+    ensures { Names (pairs_fault (queries_under work.now table.now) 0 line shapes.now claims.now) result }
 {
     let mut at = line;
+    let mut first = 0u32;
     for (i, claim) in claims.iter().enumerate() {
-        let first = further(at, 1)?;
-        at = judge_entries(pairs[i].queries.as_slice(), claim.proved.as_slice(), first)?;
+        let count = shapes[i].candidates;
+        let below = further(at, 1)?;
+        at = judge_entries(alloc, work, table, claim.proved.as_slice(), first, below)?;
+        first += count;
     }
     Ok(())
 }

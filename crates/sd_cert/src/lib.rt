@@ -14,6 +14,7 @@ mod line;
 mod reading;
 mod refusal;
 mod replaying;
+mod shape;
 mod spelling;
 mod table;
 mod text;
@@ -25,6 +26,7 @@ pub use fault::CertError;
 pub use line::{CertState, Line, read_line};
 pub use reading::read_certificate;
 pub use replaying::{Replayed, replay};
+pub use shape::{Shape, shapes_of};
 pub use spelling::spell_certificate;
 pub use writing::write_certificate;
 

@@ -1,11 +1,11 @@
-//! Lines that are not those of the pairs and digests.
+//! Lines that are not those of the shapes and digests.
 ghost use Rattle.std.specs.Prelude.{◌≡◌, ◌<◌, ◌^◌, ◌+◌, length, slice_get};
 ghost use Rattle.sd_cert.specs.Refusals.{unless, has_state, candidate_count, spot_after, refusal, first_spot, first_refusal};
 
 use crate::digest::Digests;
 use crate::fault::CertError;
 use crate::line::{CertState, Line};
-use sd_product::Straight;
+use crate::shape::Shape;
 
 /// Where a line stands: below the line of a pair, with the least number that its next candidate can have.
 #[derive(Clone, Copy, Debug)]
@@ -21,10 +21,10 @@ fn unless(holds: bool, fault: CertError) -> Option<CertError>
 }
 
 /// Whether the pair with this number has this state.
-fn has_state(pairs: &[Straight], pair: u32, state: CertState) -> bool
-    ensures { result ≡ has_state (slice_get pairs.now pair) state }
+fn has_state(shapes: &[Shape], pair: u32, state: CertState) -> bool
+    ensures { result ≡ has_state (slice_get shapes.now pair) state }
 {
-    match pairs.get(pair as usize) {
+    match shapes.get(pair as usize) {
         Some(found) => match state {
             CertState::Open => !found.refused,
             CertState::Refused => found.refused,
@@ -34,25 +34,19 @@ fn has_state(pairs: &[Straight], pair: u32, state: CertState) -> bool
 }
 
 /// How many candidates the pair with this number has.
-fn candidate_count(pairs: &[Straight], pair: u32) -> u64
-    ensures { result ≡ candidate_count (slice_get pairs.now pair) }
+fn candidate_count(shapes: &[Shape], pair: u32) -> u64
+    ensures { result ≡ candidate_count (slice_get shapes.now pair) }
 {
-    match pairs.get(pair as usize) {
-        Some(found) => {
-            if found.refused {
-                0
-            } else {
-                found.queries.len() as u64
-            }
-        }
+    match shapes.get(pair as usize) {
+        Some(found) => found.candidates as u64,
         None => 0,
     }
 }
 
 /// Why a line is refused.
-fn refusal(pairs: &[Straight], digests: &Digests, spot: Spot, line: Line) -> Option<CertError>
-    requires { length pairs.now < 2 ^ 32 }
-    ensures { result ≡ refusal pairs.now digests.now spot line }
+fn refusal(shapes: &[Shape], digests: &Digests, spot: Spot, line: Line) -> Option<CertError>
+    requires { length shapes.now < 2 ^ 32 }
+    ensures { result ≡ refusal shapes.now digests.now spot line }
 {
     match line {
         Line::Old(old) => unless(old == digests.old, CertError::OtherOld),
@@ -61,13 +55,13 @@ fn refusal(pairs: &[Straight], digests: &Digests, spot: Spot, line: Line) -> Opt
             unless(settings == digests.settings, CertError::OtherSettings)
         }
         Line::Pairs(count) => {
-            let own = pairs.len() as u64;
+            let own = shapes.len() as u64;
             unless(count == own, CertError::Pair(count.min(own) as u32))
         }
-        Line::Pair(pair, state) => unless(has_state(pairs, pair, state), CertError::Pair(pair)),
+        Line::Pair(pair, state) => unless(has_state(shapes, pair, state), CertError::Pair(pair)),
         Line::Candidate(candidate) => {
             let number = candidate as u64;
-            let count = candidate_count(pairs, spot.pair);
+            let count = candidate_count(shapes, spot.pair);
             unless(
                 spot.least <= number && number < count,
                 CertError::Pair(spot.pair),
@@ -92,16 +86,16 @@ fn spot_after(spot: Spot, line: Line) -> Spot
 
 /// Why the first of these lines that is refused is refused, if one is.
 pub(crate) fn first_refusal(
-    pairs: &[Straight],
+    shapes: &[Shape],
     digests: &Digests,
     lines: &[Line],
 ) -> Option<CertError>
-    requires { length pairs.now < 2 ^ 32 }
-    ensures { result ≡ first_refusal pairs.now digests.now first_spot lines.now }
+    requires { length shapes.now < 2 ^ 32 }
+    ensures { result ≡ first_refusal shapes.now digests.now first_spot lines.now }
 {
     let mut spot = Spot { pair: 0, least: 0 };
     for line in lines {
-        if let Some(fault) = refusal(pairs, digests, spot, *line) {
+        if let Some(fault) = refusal(shapes, digests, spot, *line) {
             return Some(fault);
         }
         spot = spot_after(spot, *line);

@@ -1,13 +1,14 @@
-//! Certificates against the pairs and digests that they are of.
+//! Certificates against the programs and digests that they are of.
 ghost use Rattle.std.specs.Prelude.{◌≡◌, ◌≢◌, ◌⊎◌, ◌-◌, ◌<◌, ◌^◌, None, Some, Bool, List, IfOk, IfErr, length, take};
-ghost use Rattle.sd_product.specs.Straight.{queries_of};
+ghost use Rattle.sd_product.specs.Work.{claims_in, queries_under};
 ghost use Rattle.sd_product.specs.Inductive.{IsInductive};
 ghost use Rattle.sd_cert.specs.declared.fault.CertError.TheVariants.{NoMemory as Memory};
 ghost use Rattle.sd_cert.specs.Accepts.{Accepts, FitsPairs, proofs_from};
-ghost use Rattle.sd_cert.specs.BadSteps.{pairs_fault};
+ghost use Rattle.sd_cert.specs.BadSteps.{step_fault};
 ghost use Rattle.sd_cert.specs.Certificates.{certificate_lines};
 ghost use Rattle.sd_cert.specs.Refusals.{first_fault};
 ghost use Rattle.sd_cert.specs.ReplayFaults.{IsCertificateFault, IsReplayFault};
+ghost use Rattle.sd_cert.specs.Shapes.{shapes_of};
 
 use crate::certificate::Certificate;
 use crate::digest::Digests;
@@ -16,10 +17,11 @@ use crate::judge::judge_pairs;
 use crate::line::Line;
 use crate::reading::read_certificate;
 use crate::refusal::first_refusal;
+use crate::shape::{Shape, shapes_of};
 use crate::table::list_live;
 use crate::text::read_lines;
 use sd_cand::LiveTable;
-use sd_product::Straight;
+use sd_product::Work;
 use std::alloc::Global;
 
 /// What a certificate that was accepted shows.
@@ -29,19 +31,22 @@ pub struct Replayed {
     pub table: LiveTable,
 }
 
-/// The table of a certificate that fits the pairs, if its proofs are good.
+/// The table of a certificate that fits the pairs, if its proofs are good under this table.
 fn accept(
     alloc: Global,
-    pairs: &[Straight],
+    work: &Work,
+    shapes: &[Shape],
     certificate: &Certificate,
 ) -> Result<Replayed, CertError>
-    requires { FitsPairs pairs.now certificate.now.pairs }
-    ensures size { IfOk result (λ r. length r.table ≡ length (queries_of pairs.now)) }
-    ensures inductive { IfOk result (λ r. IsInductive (queries_of pairs.now) r.table (proofs_from 0 pairs.now certificate.now.pairs)) }
-    ensures fault { IfErr result (λ e. (e ≡ Memory) ⊎ (pairs_fault 6 pairs.now certificate.now.pairs ≡ Some e)) }
+    requires shapes { shapes.now ≡ shapes_of work.now }
+    requires fits { FitsPairs shapes.now certificate.now.pairs }
+    ensures size { IfOk result (λ r. length r.table ≡ length (claims_in work.now)) }
+    ensures inductive { IfOk result (λ r. IsInductive (queries_under work.now r.table) r.table (proofs_from 0 (shapes_of work.now) certificate.now.pairs)) }
+    ensures fault { IfErr result (λ e. (e ≡ Memory) ⊎ (step_fault work.now certificate.now.pairs ≡ Some e)) }
 {
-    judge_pairs(pairs, certificate.pairs.as_slice(), 6)?;
-    let table = list_live(alloc, pairs, certificate.pairs.as_slice())?;
+    let pairs = certificate.pairs.as_slice();
+    let table = list_live(alloc, shapes, pairs)?;
+    judge_pairs(alloc, work, &table, shapes, pairs, 6)?;
     Ok(Replayed { table })
 }
 
@@ -58,13 +63,13 @@ fn lines_before(lines: &[Line], number: u64) -> &[Line]
 }
 
 /// Why a line before the bad one is refused, or else why the bad one is bad.
-fn first_fault(pairs: &[Straight], digests: &Digests, lines: &[Line], fault: CertError) -> CertError
-    requires { length pairs.now < 2 ^ 32 }
-    ensures { result ≡ first_fault pairs.now digests.now lines.now fault }
+fn first_fault(shapes: &[Shape], digests: &Digests, lines: &[Line], fault: CertError) -> CertError
+    requires { length shapes.now < 2 ^ 32 }
+    ensures { result ≡ first_fault shapes.now digests.now lines.now fault }
 {
     match fault {
         CertError::Line(number) => {
-            match first_refusal(pairs, digests, lines_before(lines, number)) {
+            match first_refusal(shapes, digests, lines_before(lines, number)) {
                 Some(first) => first,
                 None => fault,
             }
@@ -76,27 +81,29 @@ fn first_fault(pairs: &[Straight], digests: &Digests, lines: &[Line], fault: Cer
 /// The table of a certificate with these lines, if none of them is refused and its proofs are good.
 fn check(
     alloc: Global,
-    pairs: &[Straight],
+    work: &Work,
+    shapes: &[Shape],
     digests: &Digests,
     lines: &[Line],
     certificate: &Certificate,
 ) -> Result<Replayed, CertError>
-    requires count { length pairs.now < 2 ^ 32 }
+    requires shapes { shapes.now ≡ shapes_of work.now }
+    requires count { length shapes.now < 2 ^ 32 }
     requires lines { lines.now ≡ certificate_lines certificate.now }
     ensures digests { IfOk result (λ _. certificate.now.digests ≡ digests.now) }
-    ensures fits { IfOk result (λ _. FitsPairs pairs.now certificate.now.pairs) }
-    ensures size { IfOk result (λ r. length r.table ≡ length (queries_of pairs.now)) }
-    ensures inductive { IfOk result (λ r. IsInductive (queries_of pairs.now) r.table (proofs_from 0 pairs.now certificate.now.pairs)) }
-    ensures fault { IfErr result (IsCertificateFault pairs.now digests.now certificate.now) }
+    ensures fits { IfOk result (λ _. FitsPairs (shapes_of work.now) certificate.now.pairs) }
+    ensures size { IfOk result (λ r. length r.table ≡ length (claims_in work.now)) }
+    ensures inductive { IfOk result (λ r. IsInductive (queries_under work.now r.table) r.table (proofs_from 0 (shapes_of work.now) certificate.now.pairs)) }
+    ensures fault { IfErr result (IsCertificateFault work.now digests.now certificate.now) }
 {
-    match first_refusal(pairs, digests, lines) {
+    match first_refusal(shapes, digests, lines) {
         Some(fault) => Err(fault),
-        None => accept(alloc, pairs, certificate),
+        None => accept(alloc, work, shapes, certificate),
     }
 }
 
-/// The table that a certificate shows to stand on proofs, if it is one of these digests and pairs. It trusts nothing
-/// about who made the certificate, and its answer for the pairs doesn't rest on the digests.
+/// The table that a certificate shows to stand on proofs under the table itself, if it is one of these digests and
+/// programs. It trusts nothing about who made the certificate, and its answer for the programs doesn't rest on the digests.
 ///
 /// The first bad line is answered: `Version` and `Line` as `read_certificate` has them; `OtherOld`, `OtherNew` and
 /// `OtherSettings` for another digest; `Pair` for a number of pairs other than theirs, with the lesser of the two, and
@@ -104,20 +111,19 @@ fn check(
 /// pair's number. Only where no line is bad are the steps judged, and `Step` has the line of the first bad step.
 pub fn replay(
     alloc: Global,
-    pairs: &[Straight],
+    work: &Work,
     digests: &Digests,
     certificate: &[u8],
 ) -> Result<Replayed, CertError>
-    ensures accepted { IfOk result (λ r. Accepts pairs.now digests.now certificate.now r.table) }
-    ensures refused_only { IfErr result (λ e. e ≢ Memory → (t : List Bool) → Accepts pairs.now digests.now certificate.now t → ⊥) }
-    ensures refused { IfErr result (IsReplayFault pairs.now digests.now certificate.now) }
+    ensures accepted { IfOk result (λ r. Accepts work.now digests.now certificate.now r.table) }
+    ensures refused_only { IfErr result (λ e. e ≢ Memory → (t : List Bool) → Accepts work.now digests.now certificate.now t → ⊥) }
+    ensures refused { IfErr result (IsReplayFault work.now digests.now certificate.now) }
 {
-    if pairs.len() > u32::MAX as usize {
-        return Err(CertError::NoMemory);
-    }
+    let shapes = shapes_of(alloc, work)?;
+    let shapes = shapes.as_slice();
     let (lines, _) = read_lines(alloc, certificate)?;
     match read_certificate(alloc, certificate) {
-        Ok(read) => check(alloc, pairs, digests, lines.as_slice(), &read),
-        Err(fault) => Err(first_fault(pairs, digests, lines.as_slice(), fault)),
+        Ok(read) => check(alloc, work, shapes, digests, lines.as_slice(), &read),
+        Err(fault) => Err(first_fault(shapes, digests, lines.as_slice(), fault)),
     }
 }

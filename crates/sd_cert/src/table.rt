@@ -1,27 +1,24 @@
 //! The table of the candidates that a certificate lists.
 ghost use Rattle.std.specs.Prelude.{◌≡◌, ◌<◌, ◌≤◌, ◌+◌, ◌++◌, ◌^◌, IfOk, List, ℕ, length, map};
 ghost use Rattle.sd_product.specs.Inductive.{proved_of, live_from};
-ghost use Rattle.sd_product.specs.Straight.{queries_of};
 ghost use Rattle.sd_cert.specs.Accepts.{FitsPairs, Ascend, proofs_from};
+ghost use Rattle.sd_cert.specs.Shapes.{count_of};
 ghost use Rattle.sd_cert.specs.Tables.{IsDecided};
 
 use crate::certificate::CertPair;
+use crate::shape::Shape;
 use sd_base::NoMemory;
 use sd_cand::LiveTable;
 use sd_kernel::Proved;
-use sd_product::Straight;
 use std::alloc::Global;
 
 /// How many candidates there are. More than a table can have are out of memory.
-fn count_candidates(pairs: &[Straight]) -> Result<u32, NoMemory>
-    ensures { IfOk result (λ n. n ≡ length (queries_of pairs.now)) }
+fn count_candidates(shapes: &[Shape]) -> Result<u32, NoMemory>
+    ensures { IfOk result (λ n. n ≡ count_of shapes.now) }
 {
     let mut count = 0u32;
-    for pair in pairs {
-        let Ok(more) = u32::try_from(pair.queries.len()) else {
-            return Err(NoMemory);
-        };
-        let Some(sum) = count.checked_add(more) else {
+    for shape in shapes {
+        let Some(sum) = count.checked_add(shape.candidates) else {
             return Err(NoMemory);
         };
         count = sum;
@@ -67,22 +64,23 @@ fn list_entries(
     next
 }
 
-/// The table of these pairs in which just the listed candidates are live.
+/// The table of pairs with these shapes in which just the listed candidates are live.
 pub(crate) fn list_live(
     alloc: Global,
-    pairs: &[Straight],
+    shapes: &[Shape],
     claims: &[CertPair],
 ) -> Result<LiveTable, NoMemory>
-    requires { FitsPairs pairs.now claims.now }
-    ensures size { IfOk result (λ table. length table ≡ length (queries_of pairs.now)) }
-    ensures live { IfOk result (λ table. proved_of (proofs_from 0 pairs.now claims.now) ≡ live_from 0 table) }
+    requires { FitsPairs shapes.now claims.now }
+    ensures size { IfOk result (λ table. length table ≡ count_of shapes.now) }
+    ensures small { IfOk result (λ table. length table < 2 ^ 32) }
+    ensures live { IfOk result (λ table. proved_of (proofs_from 0 shapes.now claims.now) ≡ live_from 0 table) }
 {
-    let total = count_candidates(pairs)?;
+    let total = count_candidates(shapes)?;
     let mut table = LiveTable::full(alloc, total)?;
     let mut first = 0u32;
     let mut decided = 0u32;
     for (i, claim) in claims.iter().enumerate() {
-        let count = pairs[i].queries.len() as u32;
+        let count = shapes[i].candidates;
         decided = list_entries(&mut table, claim.proved.as_slice(), first, count, decided);
         first += count;
     }

@@ -1,17 +1,19 @@
 //! The certificate of live candidates and their proofs.
-ghost use Rattle.std.specs.Prelude.{◌≡◌, ◌≤◌, ◌+◌, ◌-◌, ◌++◌, ℕ, map, length, IfOk};
+ghost use Rattle.std.specs.Prelude.{◌≡◌, ◌≤◌, ◌<◌, ◌^◌, ◌+◌, ◌-◌, ◌++◌, ℕ, map, length, IfOk};
 ghost use Rattle.sd_product.specs.Inductive.{proved_of};
-ghost use Rattle.sd_product.specs.Straight.{queries_of};
+ghost use Rattle.sd_product.specs.Work.{claims_in};
 ghost use Rattle.sd_cert.specs.Accepts.{state_of, Ascend, numbered_from};
-ghost use Rattle.sd_cert.specs.Written.{RefusedAreEmpty, IsCertificateOf, IsWritten};
+ghost use Rattle.sd_cert.specs.Shapes.{shapes_of, count_of};
+ghost use Rattle.sd_cert.specs.Written.{IsCertificateOf, IsWritten};
 
 use crate::certificate::{CertPair, Certificate};
 use crate::digest::Digests;
 use crate::line::CertState;
+use crate::shape::{Shape, shapes_of};
 use crate::spelling::spell_certificate;
 use sd_base::NoMemory;
 use sd_kernel::{How, Proof, Proved};
-use sd_product::Straight;
+use sd_product::Work;
 use sqlite_items::Items;
 use std::alloc::Global;
 
@@ -52,10 +54,10 @@ fn entries_of(
     Ok((entries, left))
 }
 
-fn state_of(pair: &Straight) -> CertState
-    ensures { result ≡ state_of pair.now.refused }
+fn state_of(shape: Shape) -> CertState
+    ensures { result ≡ state_of shape.refused }
 {
-    if pair.refused {
+    if shape.refused {
         CertState::Refused
     } else {
         CertState::Open
@@ -63,38 +65,34 @@ fn state_of(pair: &Straight) -> CertState
 }
 
 /// The number below the candidates of a pair.
-fn end_of(pair: &Straight, first: u32) -> Result<u32, NoMemory>
-    ensures { IfOk result (λ end. end ≡ first + length pair.now.queries) }
+fn end_of(shape: Shape, first: u32) -> Result<u32, NoMemory>
+    ensures { IfOk result (λ end. end ≡ first + shape.candidates) }
 {
-    match u32::try_from(pair.queries.len()) {
-        Ok(count) => match first.checked_add(count) {
-            Some(end) => Ok(end),
-            None => Err(NoMemory),
-        },
-        Err(_) => Err(NoMemory),
+    match first.checked_add(shape.candidates) {
+        Some(end) => Ok(end),
+        None => Err(NoMemory),
     }
 }
 
-/// The certificate of these pairs and digests whose entries are these proofs.
-fn certificate_of(
+/// The certificate of pairs with these shapes and of these digests whose entries are these proofs.
+pub(crate) fn certificate_of(
     alloc: Global,
-    pairs: &[Straight],
+    shapes: &[Shape],
     digests: &Digests,
     proofs: &[Proved],
 ) -> Result<Certificate, NoMemory>
-    requires empty { RefusedAreEmpty pairs.now }
-    requires ascend { Ascend 0 (length (queries_of pairs.now)) (proved_of proofs.now) }
-    ensures count { IfOk result (λ c. length c.pairs ≡ length pairs.now) }
-    ensures certificate { IfOk result (IsCertificateOf pairs.now digests.now proofs.now) }
+    requires { Ascend 0 (count_of shapes.now) (proved_of proofs.now) }
+    ensures count { IfOk result (λ c. length c.pairs ≡ length shapes.now) }
+    ensures certificate { IfOk result (IsCertificateOf shapes.now digests.now proofs.now) }
 {
     let mut claims = Items::new(alloc);
     let mut first = 0u32;
     let mut left = proofs;
-    'pairs: for pair in pairs {
-        let end = end_of(pair, first)?;
+    'pairs: for shape in shapes {
+        let end = end_of(*shape, first)?;
         let (proved, rest) = entries_of(alloc, left, first, end)?;
         claims.push(CertPair {
-            state: state_of(pair),
+            state: state_of(*shape),
             proved,
         })?;
         first = end;
@@ -106,21 +104,32 @@ fn certificate_of(
     })
 }
 
-/// The text of the certificate of these pairs and digests whose live candidates are those of the proofs, which are
+/// The certificate of two programs with these digests whose entries are these proofs.
+fn certificate_of_work(
+    alloc: Global,
+    work: &Work,
+    digests: &Digests,
+    proofs: &[Proved],
+) -> Result<Certificate, NoMemory>
+    requires { Ascend 0 (length (claims_in work.now)) (proved_of proofs.now) }
+    ensures count { IfOk result (λ c. length c.pairs < 2 ^ 32) }
+    ensures certificate { IfOk result (IsCertificateOf (shapes_of work.now) digests.now proofs.now) }
+{
+    let shapes = shapes_of(alloc, work)?;
+    certificate_of(alloc, shapes.as_slice(), digests, proofs)
+}
+
+/// The text of the certificate of two programs with these digests whose live candidates are those of the proofs, which are
 /// numbered through all pairs.
 pub fn write_certificate(
     alloc: Global,
-    pairs: &[Straight],
+    work: &Work,
     digests: &Digests,
     proofs: &[Proved],
 ) -> Result<Vec<u8>, NoMemory>
-    requires empty { RefusedAreEmpty pairs.now }
-    requires ascend { Ascend 0 (length (queries_of pairs.now)) (proved_of proofs.now) }
-    ensures { IfOk result (λ text. IsWritten pairs.now digests.now proofs.now text.items) }
+    requires ascend { Ascend 0 (length (claims_in work.now)) (proved_of proofs.now) }
+    ensures { IfOk result (λ text. IsWritten work.now digests.now proofs.now text.items) }
 {
-    if pairs.len() > u32::MAX as usize {
-        return Err(NoMemory);
-    }
-    let certificate = certificate_of(alloc, pairs, digests, proofs)?;
+    let certificate = certificate_of_work(alloc, work, digests, proofs)?;
     spell_certificate(alloc, &certificate)
 }

@@ -4,5 +4,6 @@ pub mod Formed
 pub mod Meanings
 pub mod Failure
 pub mod Straight
+pub mod Boolean
 pub mod Same
 pub mod Becomes

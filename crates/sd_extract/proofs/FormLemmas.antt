@@ -13,8 +13,26 @@ use Rattle.sd_ast.specs.declared.tree.ExprKind.{Old, Unary, Binary, Select, Stor
 use Rattle.sd_ast.specs.declared.tree.BinOp.{BinOp}
 use Rattle.sd_ast.specs.declared.tree.UnOp.{UnOp}
 use Rattle.sd_ast.proofs.TreeLemmas.{old_is, unary_is, binary_is, select_is, store_is}
-use Rattle.sd_types.proofs.PhraseLemmas.{refuted, not_if_false}
 use Rattle.sd_extract.specs.Form.{HasNoNumber, HaveNoNumber, NoneHasNumber, IsStraight, AreStraight}
+
+-- ---- a test by its parts
+
+pub refuted : {P : Type 0} (r : Bool) → r ≡ false → (P → ⊥) → IsTrue r ↔ P
+refuted r e f = (λ t. absurd (let k : r ≡ true = t in cc), λ p. absurd (f p))
+
+pub not_if_false : {P : Type 0} (r : Bool) → (IsTrue r ↔ P) → r ≡ false → P → ⊥
+not_if_false r h e p = let k : r ≡ true = h.1 p in cc
+
+-- three facts by three tests, one after another
+module _ {P Q R : Type 0} (first : Bool) (is_first : IsTrue first ↔ P) where
+  pub three_last : (second third : Bool) → (IsTrue second ↔ Q) → (IsTrue third ↔ R) → first ≡ true → second ≡ true → IsTrue third ↔ (P × Q × R)
+  three_last second third h k e f = (λ t. (is_first.0 e, h.0 f, k.0 t), λ w. k.1 w.2)
+
+  pub three_first : first ≡ false → P × Q × R → ⊥
+  three_first e w = not_if_false first is_first e w.0
+
+  pub three_second : (second : Bool) → (IsTrue second ↔ Q) → second ≡ false → P × Q × R → ⊥
+  three_second second h e w = not_if_false second h e w.1
 
 -- ---- rows as lists
 

@@ -1,2 +1,11 @@
 pub mod PlaceLemmas
 pub mod SharedLemmas
+pub mod ListLemmas
+pub mod KeptLemmas
+pub mod TypeLemmas
+pub mod PartnerLemmas
+pub mod LeastLemmas
+pub mod SpotLemmas
+pub mod RefusalLemmas
+pub mod PairLemmas
+pub mod TestLemmas

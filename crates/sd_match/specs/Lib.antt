@@ -1,1 +1,4 @@
 pub mod Places
+pub mod Pairs
+pub mod Refusals
+pub mod Tables

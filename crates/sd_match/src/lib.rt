@@ -1,8 +1,22 @@
-//! Which procedures and globals of two programs belong together.
+//! Which procedures, loops and globals of two programs belong together.
 #![tactic(auto)]
 
+mod modified;
+mod pair;
+mod pairs;
+mod partners;
 mod procedures;
+mod refusal;
 mod shared;
+mod spots;
+mod state;
+mod tables;
+#[cfg(test)]
+mod tests;
+mod unmatched;
 
+pub use pair::{Pair, PairState, SpotPair};
+pub use pairs::{Pairs, pair_up};
 pub use procedures::Procedures;
+pub use refusal::MatchError;
 pub use shared::shared_globals;

@@ -13,7 +13,7 @@ use std::alloc::Global;
 use std::collections::HashMap;
 
 /// The places of these variables by their names.
-fn places_of(alloc: Global, vars: &[Var]) -> Result<HashMap<Name, usize>, NoMemory>
+pub(crate) fn places_of(alloc: Global, vars: &[Var]) -> Result<HashMap<Name, usize>, NoMemory>
     ensures { IfOk result (λ places. (f : Text) → get same_text places f ≡ place_from 0 (names_of vars.now) f) }
 {
     let mut places = HashMap::new(alloc);
@@ -26,7 +26,7 @@ fn places_of(alloc: Global, vars: &[Var]) -> Result<HashMap<Name, usize>, NoMemo
 }
 
 /// The place of the new global that has the old one's name and type.
-fn partner(places: &HashMap<Name, usize>, old: &Var, news: &[Var]) -> Option<usize>
+pub(crate) fn partner(places: &HashMap<Name, usize>, old: &Var, news: &[Var]) -> Option<usize>
     requires places { (f : Text) → get same_text places.now f ≡ place_from 0 (names_of news.now) f }
     requires distinct { IsDistinct same_text (names_of news.now) }
     ensures place { result ≡ failure.place_from 0 news.now old.now }

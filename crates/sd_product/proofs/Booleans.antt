@@ -1,184 +1,337 @@
--- The facts of a query are well-sorted, and about truth values alone.
-use Rattle.std.proofs.Common.{◌≡◌, ℕ, suc, ◌+◌, List, [], ◌∷◌, ◌++◌, length, get_or, refl, sym, subst, ◌∙◌}
-use Rattle.std.specs.Prelude.{Bool, true, false, Option, Some, None, if◌then◌else◌}
+-- The terms of a body over truth values are over truth values.
+use Rattle.std.proofs.Common.{◌≡◌, ℕ, zero, suc, ◌+◌, List, [], ◌∷◌, ◌++◌, length, get_or, sym, subst, ◌∙◌, refl}
+use Rattle.std.specs.Prelude.{Bool, true, false, Option, Some, None, map, set, slice_get}
 use Rattle.std.specs.List.{AllByRecursion}
-use Rattle.sd_base.specs.declared.Sort.{Sort, Bool as BoolSort}
+use Rattle.sd_base.specs.declared.Sort.{Sort, Int, Bool as BoolSort}
 use Rattle.sd_base.specs.declared.Var.{Var}
-use Rattle.sd_core.specs.declared.Shared.{Shared}
-use Rattle.sd_core.specs.Formed.{sorts_of}
-use Rattle.sd_core.specs.Failure.{shared_of}
-use Rattle.sd_core.specs.Straight.{AreTruths}
-use Rattle.sd_term.specs.declared.node.Head.{Head}
-use Rattle.sd_term.specs.declared.node.Head.TheVariants.{Sym, Start}
-use Rattle.sd_term.specs.Heads.{True, False, Not, And, Or, Ite}
-use Rattle.sd_term.specs.Tree.{Tree, leaf, call, head_of, parts_of, tree}
-use Rattle.sd_term.specs.Sorts.{sort_of, same_sort, is_truth_valued, IsWellSorted, AllWellSorted}
-use Rattle.sd_term.specs.Build.{part_or, not_by, not_of, constant_of, and_by, and_of, or_by, or_of, ite_by, ite_of, eq_of}
-use Rattle.sd_term.proofs.BuildSorts.{not-sort, and-sort, or-sort, ite-sort, not-well, and-well, or-well, eq-well, ite-well}
-use Rattle.sd_kernel.specs.OpenCube.{PartsBoolean, IsBoolean, AllBoolean}
-use Rattle.sd_vcgen.specs.Body.{State, constant, nothing}
-use Rattle.sd_product.specs.declared.pair.Candidate.{Candidate}
-use Rattle.sd_product.specs.declared.pair.Candidate.TheVariants.{NoCondition, EqualInputs}
-use Rattle.sd_product.specs.Query.{Side, symbols, ins_from, globals_from, count_of, body_from, equalities, shared_equalities, conditions_on, conditions, claim, denial, query_of}
-use Rattle.sd_product.specs.Laws.{IsSide}
-use Rattle.sd_product.proofs.Keep.{Closed, Holds, all-append, get-keeps, state_truths, body-keeps}
-use Rattle.sd_product.proofs.Sides.{side_straight, side_formed}
+use Rattle.sd_base.specs.Sorts.{MapOf}
+use Rattle.sd_core.specs.declared.Spot.{Spot}
+use Rattle.sd_core.specs.declared.Spot.TheVariants.{Slot, Global}
+use Rattle.sd_core.specs.declared.CoreOp.{CoreOp}
+use Rattle.sd_core.specs.declared.CoreOp.TheVariants as op
+use Rattle.sd_core.specs.declared.CoreExpr.{CoreExpr, Num, At, Const, Apply', Op', Row_of-CoreExpr, end_of-CoreExpr, more_of-CoreExpr}
+use Rattle.sd_core.specs.declared.CoreExpr.{Truth as Literal}
+use Rattle.sd_core.specs.declared.CoreStmt.{CoreStmt, Assign, If', Call, Assume, Fail, Return, Row_of-CoreStmt, end_of-CoreStmt, more_of-CoreStmt}
+use Rattle.sd_core.specs.declared.CoreProc.{CoreProc}
+use Rattle.sd_core.specs.declared.CoreProgram.{CoreProgram}
+use Rattle.sd_core.specs.declared.Function.{Function}
+use Rattle.sd_core.specs.Store.{Store, read, write, set_all}
+use Rattle.sd_core.specs.Formed.{sorts_of, state_sorts, sort_at, declared_as, Takes, HasType, HaveTypes, AllHaveTypes, IsFormed, AreFormed, AllFormed}
+use Rattle.sd_core.specs.Straight.{AreTruths, HasNoNumber, HaveNoNumber}
+use Rattle.sd_core.specs.Boolean as core
+use Rattle.sd_core.specs.Boolean.{IsBooleanProc, IsBooleanCore}
+use Rattle.sd_term.specs.declared.node.Head.TheVariants as head
+use Rattle.sd_term.specs.Tree.{Tree, leaf}
+use Rattle.sd_term.specs.Build.{not_of, and_of, or_of, eq_of, ite_of}
+use Rattle.sd_kernel.specs.OpenCube.{IsBoolean, AllBoolean}
+use Rattle.sd_kernel.proofs.Propositions.{not-boolean, and-boolean, or-boolean, ite-boolean}
+use Rattle.sd_vcgen.specs.Body.{Site, State, Context, constant, nothing, op_term, term_in, terms_in, guard_of, assign, symbols, site_flag, modified_sorts, changed, site_of, count, row_count, step, steps, all_steps, begun, body_of}
+use Rattle.sd_vcgen.specs.Body.{call as call_term}
+use Rattle.sd_vcgen.proofs.Truths.{all_push}
 
--- ---- building over truth values
+-- ---- building
 
-boolean-last : (ts : List Tree) (t : Tree) → AllBoolean ts → IsBoolean t → AllBoolean (ts ++ t ∷ [])
-boolean-last [] t a w = (w, tt)
-boolean-last (u ∷ ts) t a w = (a.0, boolean-last ts t a.1 w)
-
-parts-boolean : (t : Tree) → PartsBoolean t → AllBoolean (parts_of t)
-parts-boolean (leaf h) w = tt
-parts-boolean (call f x) w = boolean-last (parts_of f) x (parts-boolean f w.0) w.1
-
-part_or-boolean : (part whole : Tree) → IsBoolean part → IsBoolean whole → IsBoolean (part_or part whole)
-part_or-boolean part whole p w = go (is_truth_valued part)
-  where
-    go : (b : Bool) → IsBoolean (if b then part else whole)
-    go true = p
-    go false = w
-
-not-boolean : (a : Tree) → IsBoolean a → IsBoolean (not_of a)
-not-boolean a w = go (head_of a) (parts_of a) (parts-boolean a w.0)
-  where
-    whole : IsBoolean (tree Not (a ∷ []))
-    whole = ((tt, w), tt)
-
-    go : (h : Head) (ps : List Tree) → AllBoolean ps → IsBoolean (not_by h ps a)
-    go True ps p = (tt, tt)
-    go False ps p = (tt, tt)
-    go Not (x ∷ ps) p = part_or-boolean x (tree Not (a ∷ [])) p.0 whole
-    go Not [] p = whole
-    go _ ps p = whole
-
-and-boolean : (a b : Tree) → IsBoolean a → IsBoolean b → IsBoolean (and_of a b)
-and-boolean a b wa wb = go (constant_of a) (constant_of b)
-  where
-    whole : IsBoolean (tree And (a ∷ b ∷ []))
-    whole = (((tt, wa), wb), tt)
-
-    go : (p q : Option Bool) → IsBoolean (and_by p q a b)
-    go (Some true) q = part_or-boolean b (tree And (a ∷ b ∷ [])) wb whole
-    go (Some false) q = (tt, tt)
-    go None (Some true) = part_or-boolean a (tree And (a ∷ b ∷ [])) wa whole
-    go None (Some false) = (tt, tt)
-    go None None = whole
-
-or-boolean : (a b : Tree) → IsBoolean a → IsBoolean b → IsBoolean (or_of a b)
-or-boolean a b wa wb = go (constant_of a) (constant_of b)
-  where
-    whole : IsBoolean (tree Or (a ∷ b ∷ []))
-    whole = (((tt, wa), wb), tt)
-
-    go : (p q : Option Bool) → IsBoolean (or_by p q a b)
-    go (Some true) q = (tt, tt)
-    go (Some false) q = part_or-boolean b (tree Or (a ∷ b ∷ [])) wb whole
-    go None (Some true) = (tt, tt)
-    go None (Some false) = part_or-boolean a (tree Or (a ∷ b ∷ [])) wa whole
-    go None None = whole
-
-ite-boolean : (c a b : Tree) → IsBoolean c → IsBoolean a → IsBoolean b → IsBoolean (ite_of c a b)
-ite-boolean c a b wc wa wb = go (constant_of c)
-  where
-    whole : IsBoolean (tree Ite (c ∷ a ∷ b ∷ []))
-    whole = ((((tt, wc), wa), wb), tt)
-
-    chosen : (q : Bool) → IsBoolean (if q then b else tree Ite (c ∷ a ∷ b ∷ []))
-    chosen true = wb
-    chosen false = whole
-
-    go : (p : Option Bool) → IsBoolean (ite_by p c a b)
-    go (Some true) = wa
-    go (Some false) = chosen (same_sort (sort_of a) (sort_of b))
-    go None = whole
-
-constant-boolean : (b : Bool) → IsBoolean (constant b)
+pub constant-boolean : (b : Bool) → IsBoolean (constant b)
 constant-boolean true = (tt, tt)
 constant-boolean false = (tt, tt)
 
-eq-boolean : (a b : Tree) → IsBoolean a → IsBoolean b → IsBoolean (eq_of a b)
-eq-boolean a b wa wb = (((tt, wa), wb), tt)
+pub eq-boolean : (a b : Tree) → IsBoolean a → IsBoolean b → IsBoolean (eq_of a b)
+eq-boolean a b p q = (((tt, p), q), tt)
 
-booleans : Closed IsBoolean
-booleans = record { constants = constant-boolean; nots = not-boolean; ands = and-boolean; ors = or-boolean; eqs = eq-boolean; ites = ite-boolean }
+pub implies-boolean : (a b : Tree) → IsBoolean a → IsBoolean b → IsBoolean (or_of (not_of a) b)
+implies-boolean a b p q = or-boolean (not_of a) b (not-boolean a p) q
 
-abbrev IsSortedTruth : Tree → Type 0
-IsSortedTruth t = IsWellSorted t × (sort_of t ≡ BoolSort)
+-- ---- lists
 
-constant-sorted : (b : Bool) → IsSortedTruth (constant b)
-constant-sorted true = ((tt, refl), refl)
-constant-sorted false = ((tt, refl), refl)
+pub append-boolean : (ts us : List Tree) → AllBoolean ts → AllBoolean us → AllBoolean (ts ++ us)
+append-boolean [] us h k = k
+append-boolean (t ∷ ts) us h k = (h.0, append-boolean ts us h.1 k)
 
-sorted_truths : Closed IsSortedTruth
-sorted_truths = record {
-  constants = constant-sorted;
-  nots = λ a h. (not-well a h.0 h.1, not-sort a);
-  ands = λ a b h k. (and-well a b h.0 k.0 h.1 k.1, and-sort a b);
-  ors = λ a b h k. (or-well a b h.0 k.0 h.1 k.1, or-sort a b);
-  eqs = λ a b h k. (eq-well a b h.0 k.0 (h.1 ∙ sym k.1), refl);
-  ites = λ c a b h k l. (ite-well c a b h.0 k.0 l.0 h.1 (k.1 ∙ sym l.1), ite-sort c a b ∙ k.1);
+get-boolean : (ts : List Tree) (i : ℕ) → AllBoolean ts → IsBoolean (get_or ts i nothing)
+get-boolean [] i h = constant-boolean false
+get-boolean (t ∷ ts) zero h = h.0
+get-boolean (t ∷ ts) (suc i) h = get-boolean ts i h.1
+
+set-boolean : (ts : List Tree) (i : ℕ) (t : Tree) → AllBoolean ts → IsBoolean t → AllBoolean (set ts i t)
+set-boolean [] i t h k = tt
+set-boolean (u ∷ ts) zero t h k = (k, h.1)
+set-boolean (u ∷ ts) (suc i) t h k = (h.0, set-boolean ts i t h.1 k)
+
+set_all-boolean : (ts : List Tree) (ms : List ℕ) (us : List Tree) → AllBoolean ts → AllBoolean us → AllBoolean (set_all ts ms us)
+set_all-boolean ts [] us h k = h
+set_all-boolean ts (m ∷ ms) [] h k = h
+set_all-boolean ts (m ∷ ms) (u ∷ us) h k = set_all-boolean (set ts m u) ms us (set-boolean ts m u h k.0) k.1
+
+pub all-found : {A : Type 0} (K : A → Type 0) (xs : List A) (n : ℕ) (x : A) → AllByRecursion K xs → slice_get xs n ≡ Some x → K x
+all-found K [] n x h e = cc
+all-found K (y ∷ ys) zero x h e = let same : y ≡ x = cc in subst K same h.0
+all-found K (y ∷ ys) (suc n) x h e = all-found K ys n x h.1 e
+
+pub all-append : {A : Type 0} (K : A → Type 0) (xs ys : List A) → AllByRecursion K xs → AllByRecursion K ys → AllByRecursion K (xs ++ ys)
+all-append K [] ys h k = k
+all-append K (x ∷ xs) ys h k = (h.0, all-append K xs ys h.1 k)
+
+-- ---- types
+
+abbrev pub IsTruth : Sort → Type 0
+IsTruth s = s ≡ BoolSort
+
+pub truth-sorts : (xs : List Var) → AreTruths xs → AllByRecursion IsTruth (sorts_of xs)
+truth-sorts [] h = tt
+truth-sorts (x ∷ xs) h = (h.0, truth-sorts xs h.1)
+
+-- all spots are of truth values
+record StateTruths (S : Store Sort) : Type 0 where
+  slots : AllByRecursion IsTruth S.slots
+  globals : AllByRecursion IsTruth S.globals
+
+state-truths : (P : CoreProgram) (p : CoreProc) → AreTruths P.globals → IsBooleanProc p → StateTruths (state_sorts P p)
+state-truths P p g h = record {
+  slots = all-append IsTruth (sorts_of p.ins) (sorts_of p.outs ++ sorts_of p.locals) (truth-sorts p.ins h.ins)
+      (all-append IsTruth (sorts_of p.outs) (sorts_of p.locals) (truth-sorts p.outs h.outs) (truth-sorts p.locals h.locals));
+  globals = truth-sorts P.globals g;
 }
 
--- ---- queries
+truth-at : (S : Store Sort) (p : Spot) (s : Sort) → StateTruths S → sort_at S p ≡ Some s → IsTruth s
+truth-at S (Slot n) s h e = all-found IsTruth S.slots n s h.slots e
+truth-at S (Global n) s h e = all-found IsTruth S.globals n s h.globals e
 
-module _ (K : Tree → Type 0) (c : Closed K) (syms : (k : ℕ) → K (leaf (Sym k BoolSort))) (start : K (leaf (Start BoolSort))) where
-  symbols-keep : (k : ℕ) (xs : List Var) → AreTruths xs → AllByRecursion K (symbols k (sorts_of xs))
-  symbols-keep k [] h = tt
-  symbols-keep k (x ∷ xs) h = (subst (λ (s : Sort). K (leaf (Sym k s))) (sym h.0) (syms k), symbols-keep (suc k) xs h.1)
+get-truth : (ss : List Sort) (i : ℕ) → AllByRecursion IsTruth ss → IsTruth (get_or ss i BoolSort)
+get-truth [] i h = refl
+get-truth (s ∷ ss) zero h = h.0
+get-truth (s ∷ ss) (suc i) h = get-truth ss i h.1
 
-  ins-keep : (k : ℕ) (a : Side) → IsSide a → AllByRecursion K (ins_from k a)
-  ins-keep k a h = symbols-keep k a.proc.ins (side_straight a h).ins
+modified-truths : (P : CoreProgram) (ms : List ℕ) → AreTruths P.globals → AllByRecursion IsTruth (map (λ i. get_or (sorts_of P.globals) i BoolSort) ms)
+modified-truths P [] h = tt
+modified-truths P (m ∷ ms) h = (get-truth (sorts_of P.globals) m (truth-sorts P.globals h), modified-truths P ms h)
 
-  globals-keep : (k : ℕ) (a : Side) → IsSide a → AllByRecursion K (globals_from k a)
-  globals-keep k a h = symbols-keep (k + length a.proc.ins) a.program.globals h.taken.straight.globals
+pub none-declared : {A : Type 0} (F : List Function) (constant : Bool) (f : List ℕ) (g : Function) → F ≡ [] → declared_as constant F f ≡ Some g → A
+none-declared F constant f g none e =
+    let bad : ◌≡◌ {A = Option Function} None (Some g) = subst (λ (l : List Function). declared_as constant l f ≡ Some g) none e in
+    absurd (cc)
 
-  side-keeps : (k : ℕ) (a : Side) → IsSide a → Holds K (body_from k a)
-  side-keeps k a h =
-      let truths = state_truths a.program a.proc h.taken.straight.globals (side_straight a h) in
-      body-keeps K c a.program a.proc h.taken.straight.functions truths start (ins_from k a) (globals_from k a) (side_straight a h) (side_formed a h) (ins-keep k a h) (globals-keep k a h)
+pub symbols-boolean : (k : ℕ) (ss : List Sort) → AllByRecursion IsTruth ss → AllBoolean (symbols k ss)
+symbols-boolean k [] h = tt
+symbols-boolean k (s ∷ ss) h = (subst (λ (r : Sort). IsBoolean (leaf (head.Sym k r))) (sym h.0) (tt, tt), symbols-boolean (suc k) ss h.1)
 
-  equalities-keep : (xs ys : List Tree) → AllByRecursion K xs → AllByRecursion K ys → AllByRecursion K (equalities xs ys)
-  equalities-keep [] ys h k = tt
-  equalities-keep (x ∷ xs) [] h k = tt
-  equalities-keep (x ∷ xs) (y ∷ ys) h k = (c.eqs x y h.0 k.0, equalities-keep xs ys h.1 k.1)
+flag-boolean : (quiet : Bool) (k : ℕ) → IsBoolean (site_flag quiet k)
+flag-boolean true k = (tt, tt)
+flag-boolean false k = (tt, tt)
 
-  shared-keep : (olds news : List Tree) (shared : List Shared) → AllByRecursion K olds → AllByRecursion K news → AllByRecursion K (shared_equalities olds news shared)
-  shared-keep olds news [] h k = tt
-  shared-keep olds news (s ∷ ss) h k =
-      (c.eqs (get_or olds s.old nothing) (get_or news s.new nothing) (get-keeps K c olds s.old h) (get-keeps K c news s.new k), shared-keep olds news ss h k)
+-- ---- states
 
-  conditions-keep : (d : Candidate) (ins ins' globals globals' : List Tree) (shared : List Shared) → AllByRecursion K ins → AllByRecursion K ins' → AllByRecursion K globals → AllByRecursion K globals' → AllByRecursion K (conditions_on d ins ins' globals globals' shared)
-  conditions-keep NoCondition ins ins' globals globals' shared h h' k k' = tt
-  conditions-keep EqualInputs ins ins' globals globals' shared h h' k k' =
-      all-append K (equalities ins ins') (shared_equalities globals globals' shared) (equalities-keep ins ins' h h') (shared-keep globals globals' shared k k')
+pub record BooleanStore (st : Store Tree) : Type 0 where
+  pub slots : AllBoolean st.slots
+  pub globals : AllBoolean st.globals
 
-  denial-keeps : (old new : State) → Holds K old → Holds K new → AllByRecursion K (denial old new)
-  denial-keeps old new h k =
-      let claimed = c.ors (not_of new.flag) old.flag (c.nots new.flag k.flag) h.flag in
-      let last = c.nots (claim old.flag new.flag) claimed in
-      all-append K old.assumes _ h.assumes (all-append K new.assumes (_ ∷ []) k.assumes (last, tt))
+pub read-boolean : (st : Store Tree) (p : Spot) → BooleanStore st → IsBoolean (read nothing st p)
+read-boolean st (Slot i) h = get-boolean st.slots i h.slots
+read-boolean st (Global i) h = get-boolean st.globals i h.globals
 
-  query-keeps : (d : Candidate) (a b : Side) → IsSide a → IsSide b → AllByRecursion K (query_of d a b)
-  query-keeps d a b h k =
-      let m = count_of a in
-      let first = conditions-keep d (ins_from 0 a) (ins_from m b) (globals_from 0 a) (globals_from m b) (shared_of a.program.globals b.program.globals)
-      (ins-keep 0 a h) (ins-keep m b k) (globals-keep 0 a h) (globals-keep m b k) in
-      all-append K (conditions d a b) (denial (body_from 0 a) (body_from m b)) first
-      (denial-keeps (body_from 0 a) (body_from m b) (side-keeps 0 a h) (side-keeps m b k))
+pub reads-boolean : (st : Store Tree) (ps : List Spot) → BooleanStore st → AllBoolean (map (read nothing st) ps)
+reads-boolean st [] h = tt
+reads-boolean st (p ∷ ps) h = (read-boolean st p h, reads-boolean st ps h)
 
-all-boolean : (ts : List Tree) → AllByRecursion IsBoolean ts → AllBoolean ts
-all-boolean [] h = tt
-all-boolean (t ∷ ts) h = (h.0, all-boolean ts h.1)
+write-boolean : (st : Store Tree) (p : Spot) (t : Tree) → BooleanStore st → IsBoolean t → BooleanStore (write st p t)
+write-boolean st (Slot i) t h k = record { slots = set-boolean st.slots i t h.slots k; globals = h.globals }
+write-boolean st (Global i) t h k = record { slots = h.slots; globals = set-boolean st.globals i t h.globals k }
 
-all-sorted : (ts : List Tree) → AllByRecursion IsSortedTruth ts → AllWellSorted ts
-all-sorted [] h = tt
-all-sorted (t ∷ ts) h = (h.0.0, all-sorted ts h.1)
+assign-boolean : (g : Tree) (ps : List Spot) (ts : List Tree) (st : Store Tree) → IsBoolean g → AllBoolean ts → BooleanStore st → BooleanStore (assign g st ps ts)
+assign-boolean g [] ts st c a h = h
+assign-boolean g (p ∷ ps) [] st c a h = h
+assign-boolean g (p ∷ ps) (t ∷ ts) st c a h =
+    let old = read nothing st p in
+    let new = ite_of g t old in
+    assign-boolean g ps ts (write st p new) c a.1 (write-boolean st p new h (ite-boolean g t old c a.0 (read-boolean st p h)))
 
-pub query-boolean : (c : Candidate) (a b : Side) → IsSide a → IsSide b → AllBoolean (query_of c a b)
-query-boolean c a b h k = all-boolean (query_of c a b) (query-keeps IsBoolean booleans (λ n. (tt, tt)) (tt, tt) c a b h k)
+-- a call over truth values
+pub record BooleanSite (a : Site) : Type 0 where
+  pub guard : IsBoolean a.guard
+  pub args : AllBoolean a.args
+  pub before : AllBoolean a.before
+  pub outs : AllBoolean a.outs
+  pub after : AllBoolean a.after
+  pub flag : IsBoolean a.flag
 
-pub query-sorted : (c : Candidate) (a b : Side) → IsSide a → IsSide b → AllWellSorted (query_of c a b)
-query-sorted c a b h k = all-sorted (query_of c a b) (query-keeps IsSortedTruth sorted_truths (λ n. ((tt, refl), refl)) ((tt, refl), refl) c a b h k)
+pub record BooleanState (s : State) : Type 0 where
+  pub store : BooleanStore s.store
+  pub flag : IsBoolean s.flag
+  pub gone : IsBoolean s.gone
+  pub assumes : AllBoolean s.assumes
+  pub sites : AllByRecursion BooleanSite s.sites
+
+-- ---- expressions
+
+-- An operator over truth values gives one.
+operator-boolean : (o : CoreOp) (ts : List Tree) (ss : List Sort) (s : Sort) → AllBoolean ts → AllByRecursion IsTruth ss → Takes o ss s → IsBoolean (op_term o ts) × IsTruth s
+operator-boolean op.Not (a ∷ []) ss s h t k = (not-boolean a h.0, k.1)
+operator-boolean op.Not [] ss s h t k = (constant-boolean false, k.1)
+operator-boolean op.Not (a ∷ b ∷ ts) ss s h t k = (constant-boolean false, k.1)
+operator-boolean op.And (a ∷ b ∷ []) ss s h t k = (and-boolean a b h.0 h.1.0, k.1)
+operator-boolean op.And [] ss s h t k = (constant-boolean false, k.1)
+operator-boolean op.And (a ∷ []) ss s h t k = (constant-boolean false, k.1)
+operator-boolean op.And (a ∷ b ∷ d ∷ ts) ss s h t k = (constant-boolean false, k.1)
+operator-boolean op.Or (a ∷ b ∷ []) ss s h t k = (or-boolean a b h.0 h.1.0, k.1)
+operator-boolean op.Or [] ss s h t k = (constant-boolean false, k.1)
+operator-boolean op.Or (a ∷ []) ss s h t k = (constant-boolean false, k.1)
+operator-boolean op.Or (a ∷ b ∷ d ∷ ts) ss s h t k = (constant-boolean false, k.1)
+operator-boolean op.Eq (a ∷ b ∷ []) ss s h t k = (eq-boolean a b h.0 h.1.0, k.1)
+operator-boolean op.Eq [] ss s h t k = (constant-boolean false, k.1)
+operator-boolean op.Eq (a ∷ []) ss s h t k = (constant-boolean false, k.1)
+operator-boolean op.Eq (a ∷ b ∷ d ∷ ts) ss s h t k = (constant-boolean false, k.1)
+operator-boolean op.Le ts ss s h t k = let bad : Int ≡ BoolSort = (subst (AllByRecursion IsTruth) k.0 t).0 in absurd (cc)
+operator-boolean op.Add ts ss s h t k = let bad : Int ≡ BoolSort = (subst (AllByRecursion IsTruth) k.0 t).0 in absurd (cc)
+operator-boolean op.Sub ts ss s h t k = let bad : Int ≡ BoolSort = (subst (AllByRecursion IsTruth) k.0 t).0 in absurd (cc)
+operator-boolean op.Mul ts ss s h t k = let bad : Int ≡ BoolSort = (subst (AllByRecursion IsTruth) k.0 t).0 in absurd (cc)
+operator-boolean op.Neg ts ss s h t k = let bad : Int ≡ BoolSort = (subst (AllByRecursion IsTruth) k.0 t).0 in absurd (cc)
+operator-boolean op.Read ts ss s h t k = let bad : MapOf k.0 s ≡ BoolSort = (subst (AllByRecursion IsTruth) k.1 t).0 in absurd (cc)
+operator-boolean op.Write ts ss s h t k = let bad : MapOf k.0 k.1 ≡ BoolSort = (subst (AllByRecursion IsTruth) k.3 t).0 in absurd (cc)
+
+module _ (F : List Function) (none : F ≡ []) (S : Store Sort) (truths : StateTruths S) (st : Store Tree) (h : BooleanStore st) where
+  mutual
+    term-boolean : (e : CoreExpr) (s : Sort) → HasNoNumber e → HasType F S e s → IsBoolean (term_in F st e) × IsTruth s
+    term-boolean (Num n) s m t = absurd m
+    term-boolean (Literal b) s m t = (constant-boolean b, t)
+    term-boolean (At p) s m t = (read-boolean st p h, truth-at S p s truths t)
+    term-boolean (Const f) s m t = none-declared F true f t.0 none t.1
+    term-boolean (Apply' f n es) s m t = none-declared F false f t.0 none t.1
+    term-boolean (Op' o n es) s m t =
+        let k = terms-boolean es t.0 m t.1 in
+        operator-boolean o (terms_in F st es) t.0 s k.0 k.1 t.2
+
+    terms-boolean : {n : _} → (es : Row_of-CoreExpr n) (ss : List Sort) → HaveNoNumber es → HaveTypes F S es ss → AllBoolean (terms_in F st es) × AllByRecursion IsTruth ss
+    terms-boolean end_of-CoreExpr ss m t = (tt, subst (AllByRecursion IsTruth) (sym t) tt)
+    terms-boolean (more_of-CoreExpr e es) [] m t = absurd t
+    terms-boolean (more_of-CoreExpr e es) (s ∷ ss) m t =
+        let one = term-boolean e s m.0 t.0 in
+        let more = terms-boolean es ss m.1 t.1 in
+        ((one.0, more.0), (one.1, more.1))
+
+  all-boolean : (es : List CoreExpr) (ss : List Sort) → AllByRecursion HasNoNumber es → AllHaveTypes F S es ss → AllBoolean (map (term_in F st) es)
+  all-boolean [] ss m t = tt
+  all-boolean (e ∷ es) [] m t = absurd t
+  all-boolean (e ∷ es) (s ∷ ss) m t = ((term-boolean e s m.0 t.0).0, all-boolean es ss m.1 t.1)
+
+-- ---- statements
+
+guard-boolean : (path : Tree) (s : State) → IsBoolean path → BooleanState s → IsBoolean (guard_of path s)
+guard-boolean path s c h = and-boolean path (not_of s.gone) c (not-boolean s.gone h.gone)
+
+module _ (C : Context) (truths : IsBooleanCore C.program) (p : CoreProc) (own : IsBooleanProc p) where
+  abbrev P : CoreProgram
+  P = C.program
+
+  abbrev F : List Function
+  F = P.functions
+
+  abbrev S : Store Sort
+  S = state_sorts P p
+
+  args-boolean : (s : State) (es : List CoreExpr) (ss : List Sort) → AllByRecursion HasNoNumber es → AllHaveTypes F S es ss → BooleanState s → AllBoolean (map (term_in F s.store) es)
+  args-boolean s es ss m t h = all-boolean F truths.functions S (state-truths P p truths.globals own) s.store h.store es ss m t
+
+  test-boolean : (s : State) (e : CoreExpr) → HasNoNumber e → HasType F S e BoolSort → BooleanState s → IsBoolean (term_in F s.store e)
+  test-boolean s e m t h = (term-boolean F truths.functions S (state-truths P p truths.globals own) s.store h.store e BoolSort m t).0
+
+  changed-boolean : (k : ℕ) (callee : CoreProc) → AllBoolean (changed P k callee)
+  changed-boolean k callee = symbols-boolean (k + length callee.outs) (modified_sorts P callee) (modified-truths P callee.modifies truths.globals)
+
+  call-boolean : (q : ℕ) (callee : CoreProc) (ps : List Spot) (es : List CoreExpr) → IsBooleanProc callee → AllByRecursion HasNoNumber es → AllHaveTypes F S es (sorts_of callee.ins)
+      → (k : ℕ) (path : Tree) (s : State) → IsBoolean path → BooleanState s → BooleanState (call_term C k path (Some callee) ps q es s)
+  call-boolean q callee ps es there m ins k path s c h =
+      let site = site_of C k path callee q es s in
+      let guard : IsBoolean site.guard = guard-boolean path s c h in
+      let flag : IsBoolean site.flag = flag-boolean (C.quiet q) (k + (length callee.outs + length callee.modifies)) in
+      let up : IsBoolean (and_of site.guard site.flag) = and-boolean site.guard site.flag guard flag in
+      let outs : AllBoolean site.outs = symbols-boolean k (sorts_of callee.outs) (truth-sorts callee.outs there.outs) in
+      let news : AllBoolean (changed P k callee) = changed-boolean k callee in
+      let globals : BooleanStore (assign site.guard s.store (map Global callee.modifies) (changed P k callee)) = assign-boolean site.guard (map Global callee.modifies) (changed P k callee) s.store guard news h.store in
+      record {
+        store = assign-boolean site.guard ps site.outs (assign site.guard s.store (map Global callee.modifies) (changed P k callee)) guard outs globals;
+        flag = or-boolean s.flag (and_of site.guard site.flag) h.flag up;
+        gone = or-boolean s.gone (and_of site.guard site.flag) h.gone up;
+        assumes = h.assumes;
+        sites = all_push BooleanSite s.sites site h.sites (record {
+          guard = guard;
+          args = args-boolean s es (sorts_of callee.ins) m ins h;
+          before = h.store.globals;
+          outs = outs;
+          after = set_all-boolean s.store.globals callee.modifies (changed P k callee) h.store.globals news;
+          flag = flag;
+        });
+      }
+
+  mutual
+    step-boolean : (t : CoreStmt) → core.IsBoolean t → IsFormed P p t → (k : ℕ) (path : Tree) (s : State) → IsBoolean path → BooleanState s → BooleanState (step C t k path s)
+    step-boolean (Assign ps es) m is k path s c h = record {
+      store = assign-boolean (guard_of path s) ps (map (term_in F s.store) es) s.store (guard-boolean path s c h) (args-boolean s es is.0 m is.1 h) h.store;
+      flag = h.flag;
+      gone = h.gone;
+      assumes = h.assumes;
+      sites = h.sites;
+    }
+    step-boolean (If' e n a l b) m is k path s c h =
+        let t = term_in F s.store e in
+        let test : IsBoolean t = test-boolean s e m.0 is.0 h in
+        row-boolean b m.2 is.2 (k + row_count C a) (and_of path (not_of t)) (steps C a k (and_of path t) s) (and-boolean path (not_of t) c (not-boolean t test))
+        (row-boolean a m.1 is.1 k (and_of path t) s (and-boolean path t c test) h)
+    step-boolean (Call ps q es) m is k path s c h =
+        subst (λ (o : Option CoreProc). BooleanState (call_term C k path o ps q es s)) (sym is.found)
+        (call-boolean q is.callee ps es (all-found IsBooleanProc P.procs q is.callee truths.procs is.found) m is.ins k path s c h)
+    step-boolean (Assume e) m is k path s c h =
+        let t = term_in F s.store e in
+        let new = implies-boolean (guard_of path s) t (guard-boolean path s c h) (test-boolean s e m is h) in
+        record {
+          store = h.store;
+          flag = h.flag;
+          gone = h.gone;
+          assumes = append-boolean s.assumes (or_of (not_of (guard_of path s)) t ∷ []) h.assumes (new, tt);
+          sites = h.sites;
+        }
+    step-boolean Fail m is k path s c h =
+        let guard = guard-boolean path s c h in
+        record {
+          store = h.store;
+          flag = or-boolean s.flag (guard_of path s) h.flag guard;
+          gone = or-boolean s.gone (guard_of path s) h.gone guard;
+          assumes = h.assumes;
+          sites = h.sites;
+        }
+    step-boolean Return m is k path s c h = record {
+      store = h.store;
+      flag = h.flag;
+      gone = or-boolean s.gone (guard_of path s) h.gone (guard-boolean path s c h);
+      assumes = h.assumes;
+      sites = h.sites;
+    }
+
+    row-boolean : {n : _} (ts : Row_of-CoreStmt n) → core.AreBoolean ts → AreFormed P p ts → (k : ℕ) (path : Tree) (s : State) → IsBoolean path → BooleanState s → BooleanState (steps C ts k path s)
+    row-boolean end_of-CoreStmt m is k path s c h = h
+    row-boolean (more_of-CoreStmt t ts) m is k path s c h = row-boolean ts m.1 is.1 (k + count C t) path (step C t k path s) c (step-boolean t m.0 is.0 k path s c h)
+
+  steps-boolean : (ts : List CoreStmt) → AllByRecursion core.IsBoolean ts → AllFormed P p ts → (k : ℕ) (path : Tree) (s : State) → IsBoolean path → BooleanState s → BooleanState (all_steps C ts k path s)
+  steps-boolean [] m is k path s c h = h
+  steps-boolean (t ∷ ts) m is k path s c h = steps-boolean ts m.1 is.1 (k + count C t) path (step C t k path s) c (step-boolean t m.0 is.0 k path s c h)
+
+-- ---- bodies
+
+starts-boolean : (vs : List Var) → AreTruths vs → AllBoolean (map (λ v. leaf (head.Start v.sort)) vs)
+starts-boolean [] h = tt
+starts-boolean (v ∷ vs) h = (subst (λ (s : Sort). IsBoolean (leaf (head.Start s))) (sym h.0) (tt, tt), starts-boolean vs h.1)
+
+begun-boolean : (p : CoreProc) (ins globals : List Tree) → IsBooleanProc p → AllBoolean ins → AllBoolean globals → BooleanState (begun p ins globals)
+begun-boolean p ins globals own h k =
+    let outs = map (λ v. leaf (head.Start v.sort)) p.outs in
+    let locals = map (λ v. leaf (head.Start v.sort)) p.locals in
+    record {
+      store = record { slots = append-boolean ins (outs ++ locals) h (append-boolean outs locals (starts-boolean p.outs own.outs) (starts-boolean p.locals own.locals)); globals = k };
+      flag = constant-boolean false;
+      gone = constant-boolean false;
+      assumes = tt;
+      sites = tt;
+    }
+
+pub body-boolean : (C : Context) (p : CoreProc) → IsBooleanCore C.program → IsBooleanProc p → AllFormed C.program p p.body
+    → (k : ℕ) (ins globals : List Tree) → AllBoolean ins → AllBoolean globals → BooleanState (body_of C p k ins globals)
+body-boolean C p truths own formed k ins globals h g =
+    steps-boolean C truths p own p.body own.body formed k (constant true) (begun p ins globals) (constant-boolean true) (begun-boolean p ins globals own h g)

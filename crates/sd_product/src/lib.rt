@@ -1,9 +1,15 @@
 //! Queries about pairs of procedures, and what they are good for.
 #![tactic(auto)]
 
+mod apart;
+mod calls;
+mod facts;
 pub mod laws;
-mod pair;
-mod straight;
+mod queries;
+mod relations;
+mod sides;
+mod tables;
+mod work;
 
-pub use pair::{Candidate, Side, pair_query};
-pub use straight::{Straight, straight_pairs};
+pub use queries::query;
+pub use work::{Work, WorkError};

@@ -1,34 +1,28 @@
--- One candidate more is settled.
-use Rattle.std.proofs.Common.{◌≡◌, ◌≢◌, ◌∙◌, sym, ap, refl, subst, ℕ, suc, zero, ◌+◌, ◌<◌, ◌≤◌, Bool, true, false, List, [], ◌∷◌, ◌++◌, length, get_or, set, take, append_assoc, length-append, arith}
-use Rattle.std.specs.Prelude.{Option, Some, None, map, replicate, slice_get, Contains}
+-- How one candidate is judged.
+use Rattle.std.proofs.Common.{◌≡◌, ◌≢◌, ◌∙◌, sym, ap, refl, subst, ℕ, suc, zero, ◌+◌, ◌<◌, ◌≤◌, Bool, true, false, List, [], ◌∷◌, ◌++◌, length, set, take, append_assoc, length-append, arith}
+use Rattle.std.specs.Prelude.{Some, Result, Ok, Err, IfOk, MatchBool, ◌||◌, replicate, slice_get, Contains}
 use Rattle.std.specs.List.{AllByRecursion}
-use Rattle.std.proofs.lemmas.List.{map-append, take_more, take_more_set, take-set, get_or-replicate, length-take}
+use Rattle.std.proofs.lemmas.List.{map-append, take_more, take_all, get_or-replicate, length-take-le}
 use Rattle.std.proofs.lemmas.Option.{slice_get_within, slice_get-get_or, get_or_from_slice_get}
 use Rattle.std.proofs.Math.ListN.{length-set, length-replicate}
 use Rattle.sd_term.specs.Tree.{Tree}
-use Rattle.sd_term.specs.declared.Cube.{Cube}
+use Rattle.sd_term.specs.declared.cube.Cube.{Cube}
 use Rattle.sd_kernel.specs.OpenCube.{IsOpenCube}
 use Rattle.sd_kernel.specs.Proof.{Proves}
-use Rattle.sd_kernel.specs.declared.Proof.{Proof}
-use Rattle.sd_kernel.specs.declared.proved.How.TheVariants.{Steps}
 use Rattle.sd_kernel.specs.declared.proved.Proved.{Proved}
+use Rattle.sd_search.specs.declared.search.Outcome.{Outcome}
+use Rattle.sd_search.specs.declared.search.Outcome.TheVariants.{Refuted, Open as Undecided}
+use Rattle.sd_search.specs.Outcome.{IfRefuted, IfOpen}
 use Rattle.sd_cand.specs.Words.{words_of}
+use Rattle.sd_product.specs.Work.{Held, claims_in, queries_under}
 use Rattle.sd_rounds.specs.declared.settle.Cause.{Cause}
 use Rattle.sd_rounds.specs.declared.settle.Cause.TheVariants.{Open}
 use Rattle.sd_rounds.specs.declared.settle.Death.{Death}
-use Rattle.sd_rounds.specs.Table.{cleared, live_from, HoldAllBut}
-use Rattle.sd_rounds.specs.Settled.{dead_of, proved_of, IsCause, IsLegalDeath, AreLegal, IsProved, IsInductive, AreSettled}
+use Rattle.sd_rounds.specs.Table.{cleared, live_from}
+use Rattle.sd_rounds.specs.Settled.{dead_of, IsCause, IsLegalDeath, AreLegal, IsProved, IsInductive, IsSettled}
+use Rattle.sd_rounds.specs.Sweep.{IsOpenAt, IsFinding, AreDead, AreProvedBelow, GoesOn}
 
 -- ---- lists
-
-slice_get-append : {X : Type 0} (xs ys : List X) (i : ℕ) (x : X) → slice_get xs i ≡ Some x → slice_get (xs ++ ys) i ≡ Some x
-slice_get-append [] ys i x e = absurd (cc)
-slice_get-append (y ∷ xs) ys zero x e = e
-slice_get-append (y ∷ xs) ys (suc i) x e = slice_get-append xs ys i x e
-
-slice_get-last : {X : Type 0} (xs : List X) (x : X) → slice_get (xs ++ x ∷ []) (length xs) ≡ Some x
-slice_get-last [] x = refl
-slice_get-last (y ∷ xs) x = slice_get-last xs x
 
 slice_get-set_other : (t : List Bool) (c i : ℕ) (b : Bool) → i ≢ c → slice_get (set t c b) i ≡ slice_get t i
 slice_get-set_other [] c i b ne = refl
@@ -52,9 +46,11 @@ all-append : {X : Type 0} (P : X → Type 0) (xs ys : List X) → AllByRecursion
 all-append P [] ys a b = b
 all-append P (x ∷ xs) ys a b = (a.0, all-append P xs ys a.1 b)
 
-all-map : {X : Type 0} (P Q : X → Type 0) → ((x : X) → P x → Q x) → (xs : List X) → AllByRecursion P xs → AllByRecursion Q xs
-all-map P Q f [] a = tt
-all-map P Q f (x ∷ xs) a = (f x a.0, all-map P Q f xs a.1)
+-- what holds of all holds of one
+pub all_at : {X : Type 0} (P : X → Type 0) (xs : List X) (i : ℕ) (x : X) → AllByRecursion P xs → slice_get xs i ≡ Some x → P x
+all_at P [] i x a e = absurd (cc)
+all_at P (y ∷ xs) zero x a e = let same : y ≡ x = cc in subst P same a.0
+all_at P (y ∷ xs) (suc i) x a e = all_at P xs i x a.1 e
 
 -- ---- tables
 
@@ -62,15 +58,33 @@ cleared-snoc : (t : List Bool) (cs : List ℕ) (c : ℕ) → cleared t (cs ++ c 
 cleared-snoc t [] c = refl
 cleared-snoc t (d ∷ cs) c = cleared-snoc (set t d false) cs c
 
-length-cleared : (t : List Bool) (cs : List ℕ) → length (cleared t cs) ≡ length t
-length-cleared t [] = refl
-length-cleared t (c ∷ cs) = length-cleared (set t c false) cs ∙ length-set t c false
-
 cleared-other : (t : List Bool) (cs : List ℕ) (i : ℕ) → (Contains cs i → ⊥) → slice_get (cleared t cs) i ≡ slice_get t i
 cleared-other t [] i none = refl
 cleared-other t (c ∷ cs) i none =
     cleared-other (set t c false) cs i (λ h. none (contains_tail c cs i h))
     ∙ slice_get-set_other t c i false (λ e. none (subst (λ (k : ℕ). Contains (c ∷ cs) k) (sym e) (contains_head c cs)))
+
+not_set : (t : List Bool) (c : ℕ) → slice_get (set t c false) c ≡ Some true → ⊥
+not_set [] c e = cc
+not_set (x ∷ xs) zero e = cc
+not_set (x ∷ xs) (suc c) e = not_set xs c e
+
+live_before_set : (t : List Bool) (c i : ℕ) → slice_get (set t c false) i ≡ Some true → slice_get t i ≡ Some true
+live_before_set [] c i e = e
+live_before_set (x ∷ xs) zero zero e = absurd (cc)
+live_before_set (x ∷ xs) zero (suc i) e = e
+live_before_set (x ∷ xs) (suc c) zero e = e
+live_before_set (x ∷ xs) (suc c) (suc i) e = live_before_set xs c i e
+
+live_before : (t : List Bool) (cs : List ℕ) (i : ℕ) → slice_get (cleared t cs) i ≡ Some true → slice_get t i ≡ Some true
+live_before t [] i e = e
+live_before t (c ∷ cs) i e = live_before_set t c i (live_before (set t c false) cs i e)
+
+-- a live candidate isn't among those that were cleared
+not_cleared : (t : List Bool) (cs : List ℕ) (i : ℕ) → slice_get (cleared t cs) i ≡ Some true → Contains cs i → ⊥
+not_cleared t [] i e (k, within, is) = omega arith
+not_cleared t (c ∷ cs) i e (zero, within, is) = not_set t c (subst (λ (k : ℕ). slice_get (set t c false) k ≡ Some true) (sym is) (live_before (set t c false) cs i e))
+not_cleared t (c ∷ cs) i e (suc k, within, is) = not_cleared (set t c false) cs i e (k, omega arith, is)
 
 live_from-true : (n : ℕ) (bs : List Bool) → live_from n (bs ++ true ∷ []) ≡ live_from n bs ++ (n + length bs) ∷ []
 live_from-true n [] = let e : n ≡ n + 0 = omega arith in ap (λ k. k ∷ []) e
@@ -86,103 +100,154 @@ live_from-false n [] = refl
 live_from-false n (true ∷ bs) = ap (λ ks. n ∷ ks) (live_from-false (suc n) bs)
 live_from-false n (false ∷ bs) = live_from-false (suc n) bs
 
+-- all of a full table are live
+length-live_from-full : (n k : ℕ) → length (live_from n (replicate k true)) ≡ k
+length-live_from-full n zero = refl
+length-live_from-full n (suc k) = ap suc (length-live_from-full (suc n) k)
+
+-- one is live less after a live one was cleared
+length-live_from-set : (n : ℕ) (t : List Bool) (c : ℕ) → slice_get t c ≡ Some true → length (live_from n t) ≡ suc (length (live_from n (set t c false)))
+length-live_from-set n [] c e = absurd (cc)
+length-live_from-set n (true ∷ t) zero e = refl
+length-live_from-set n (false ∷ t) zero e = absurd (cc)
+length-live_from-set n (true ∷ t) (suc c) e = ap suc (length-live_from-set (suc n) t c e)
+length-live_from-set n (false ∷ t) (suc c) e = length-live_from-set (suc n) t c e
+
 -- ---- deaths
 
-legal-more : (queries : List (List Tree)) (facts : List Tree) (count : ℕ) (before : List ℕ) (ds : List Death) → AreLegal queries count before ds → AreLegal (queries ++ facts ∷ []) count before ds
-legal-more queries facts count before [] a = tt
-legal-more queries facts count before (d ∷ ds) a = (
-  record { facts = a.0.facts; query = slice_get-append queries (facts ∷ []) d.candidate a.0.facts a.0.query; once = a.0.once; seen = a.0.seen; cause = a.0.cause },
-  legal-more queries facts count (before ++ d.candidate ∷ []) ds a.1,
-)
-
-legal-snoc : (queries : List (List Tree)) (count : ℕ) (before : List ℕ) (ds : List Death) (d : Death) → AreLegal queries count before ds → IsLegalDeath queries count (before ++ dead_of ds) d → AreLegal queries count before (ds ++ d ∷ [])
-legal-snoc queries count before [] d a is = (subst (λ (b : List ℕ). IsLegalDeath queries count b d) (append_nil before) is, tt)
+legal-snoc : (h : Held) (before : List ℕ) (ds : List Death) (d : Death) → AreLegal h before ds → IsLegalDeath h (before ++ dead_of ds) d → AreLegal h before (ds ++ d ∷ [])
+legal-snoc h before [] d a is = (subst (λ (b : List ℕ). IsLegalDeath h b d) (append_nil before) is, tt)
   where
     append_nil : (xs : List ℕ) → xs ++ [] ≡ xs
     append_nil [] = refl
     append_nil (x ∷ xs) = ap (λ ys. x ∷ ys) (append_nil xs)
-legal-snoc queries count before (e ∷ ds) d a is =
-    (a.0, legal-snoc queries count (before ++ e.candidate ∷ []) ds d a.1 (subst (λ (b : List ℕ). IsLegalDeath queries count b d) (sym (append_assoc before (e.candidate ∷ []) (dead_of ds))) is))
+legal-snoc h before (e ∷ ds) d a is =
+    (a.0, legal-snoc h (before ++ e.candidate ∷ []) ds d a.1 (subst (λ (b : List ℕ). IsLegalDeath h b d) (sym (append_assoc before (e.candidate ∷ []) (dead_of ds))) is))
 
--- those that died have queries
-dead_below : (queries : List (List Tree)) (count : ℕ) (before : List ℕ) (ds : List Death) → AreLegal queries count before ds → (c : ℕ) → Contains (dead_of ds) c → c < length queries
-dead_below queries count before [] a c (k, within, is) = absurd (omega arith)
-dead_below queries count before (d ∷ ds) a c (zero, within, is) =
-    let below : d.candidate < length queries = slice_get_within queries d.candidate a.0.facts a.0.query in
-    omega (arith, is)
-dead_below queries count before (d ∷ ds) a c (suc k, within, is) = dead_below queries count (before ++ d.candidate ∷ []) ds a.1 c (k, omega arith, is)
+-- before the first sweep
+pub none_dead : (h : Held) (table : List Bool) (deaths : List Death) → table ≡ replicate (length (claims_in h)) true → deaths ≡ [] → AreDead h table deaths
+none_dead h table deaths full none =
+    subst (λ (ds : List Death). AreDead h table ds) (sym none)
+    (subst (λ (t : List Bool). AreDead h t []) (sym full)
+    (record { size = length-replicate (length (claims_in h)) true; table_is = refl; legal = tt; counted = let e = length-live_from-full 0 (length (claims_in h)) in omega (arith, e) }))
 
-not_dead : (queries : List (List Tree)) (count : ℕ) (ds : List Death) → AreLegal queries count [] ds → Contains (dead_of ds) (length queries) → ⊥
-not_dead queries count ds a h = let below : length queries < length queries = dead_below queries count [] ds a (length queries) h in omega arith
+-- A live candidate dies of an open cube.
+pub cube_kills : (h : Held) (table table' : List Bool) (deaths deaths' : List Death) (d : Death) (cube : Cube) → AreDead h table deaths → slice_get table d.candidate ≡ Some true
+    → IsOpenAt (queries_under h table) d.candidate cube → d.cause ≡ Open cube → d.seen.items ≡ words_of table → table' ≡ set table d.candidate false → deaths' ≡ deaths ++ d ∷ [] → AreDead h table' deaths'
+cube_kills h table table' deaths deaths' d cube dead alive undecided caused seen cut added =
+    subst (λ (ds : List Death). AreDead h table' ds) (sym added)
+    (subst (λ (t : List Bool). AreDead h t (deaths ++ d ∷ [])) (sym cut)
+    (record {
+      size = length-set table d.candidate false ∙ dead.size;
+      table_is =
+          ap (λ t. set t d.candidate false) dead.table_is
+          ∙ (sym (cleared-snoc (replicate (length (claims_in h)) true) (dead_of deaths) d.candidate)
+          ∙ ap (cleared (replicate (length (claims_in h)) true)) (sym (map-append (λ x. x.candidate) deaths (d ∷ []))));
+      legal = legal-snoc h [] deaths d dead.legal death;
+      counted =
+          let more = length-append deaths (d ∷ []) in
+          let less = length-live_from-set 0 table d.candidate alive in
+          let same = dead.counted in
+          omega (arith, more, less, same);
+    }))
+  where
+    death : IsLegalDeath h (dead_of deaths) d
+    death = record {
+      seen = table;
+      words = seen;
+      held = record {
+        size = dead.size;
+        held = λ c below none. ap (λ t. slice_get t c) dead.table_is ∙ (cleared-other (replicate (length (claims_in h)) true) (dead_of deaths) c none ∙ slice_get-replicate (length (claims_in h)) c below);
+      };
+      facts = undecided.facts;
+      query = undecided.query;
+      once = not_cleared (replicate (length (claims_in h)) true) (dead_of deaths) d.candidate (ap (λ t. slice_get t d.candidate) (sym dead.table_is) ∙ alive);
+      cause = subst (λ (x : Cause). IsCause undecided.facts x) (sym caused) undecided.is_open;
+    }
 
--- ---- a candidate more
+-- ---- proofs
 
-proved-more : (queries : List (List Tree)) (facts : List Tree) (p : Proved) → IsProved queries p → IsProved (queries ++ facts ∷ []) p
-proved-more queries facts p a = record { facts = a.facts; query = slice_get-append queries (facts ∷ []) p.candidate a.facts a.query; how = a.how }
+module _ (queries : List (List Tree)) (table : List Bool) (n : ℕ) (proofs : List Proved) where
+  -- before a sweep
+  pub none_proved : n ≡ 0 → proofs ≡ [] → IsInductive queries (take n table) proofs
+  none_proved start none =
+      subst (λ (ps : List Proved). IsInductive queries (take n table) ps) (sym none)
+      (record { numbers = ap (λ k. live_from 0 (take k table)) (sym start); proved = tt })
 
-module _ (count : ℕ) (queries : List (List Tree)) (table : List Bool) (deaths : List Death) (proofs : List Proved) (candidate : ℕ) (facts : List Tree) (is : candidate ≡ length queries) (size : length table ≡ count) (within : candidate < length table) (settled : AreSettled count queries table deaths proofs) where
-  alive : slice_get table candidate ≡ Some true
-  alive =
-      let here : length queries < count = omega arith in
-      ap (λ k. slice_get table k) is
-      ∙ (ap (λ t. slice_get t (length queries)) settled.table_is
-      ∙ (cleared-other (replicate count true) (dead_of deaths) (length queries) (not_dead queries count deaths settled.legal) ∙ slice_get-replicate count (length queries) here))
+  -- after it
+  pub all_proved : n ≡ length table → IsInductive queries (take n table) proofs → IsInductive queries table proofs
+  all_proved ends proved =
+      let within : length table ≤ n = omega (arith, ends) in
+      subst (λ (t : List Bool). IsInductive queries t proofs) (take_all n table within) proved
 
-  front : length (take candidate table) ≡ candidate
-  front = let e = length-take candidate table in omega (arith, e)
+  -- a dead candidate
+  pub dead_passed : slice_get table n ≡ Some false → IsInductive queries (take n table) proofs → IsInductive queries (take (n + 1) table) proofs
+  dead_passed dead proved =
+      let within : n < length table = slice_get_within table n false dead in
+      let grown : take (n + 1) table ≡ take n table ++ false ∷ [] = take_more table n false within ∙ ap (λ b. take n table ++ b ∷ []) (get_or_from_slice_get table n false false dead) in
+      record { numbers = proved.numbers ∙ sym (ap (live_from 0) grown ∙ live_from-false 0 (take n table)); proved = proved.proved }
 
-  more_queries : length (queries ++ facts ∷ []) ≡ candidate + 1
-  more_queries = let e = length-append queries (facts ∷ []) in omega (arith, e)
+  -- a live one
+  pub live_passed : (p : Proved) (proofs' : List Proved) → p.candidate ≡ n → slice_get table n ≡ Some true → IsProved queries p → proofs' ≡ proofs ++ p ∷ [] → IsInductive queries (take n table) proofs → IsInductive queries (take (n + 1) table) proofs'
+  live_passed p proofs' named alive one added proved =
+      let within : n < length table = slice_get_within table n true alive in
+      let grown : take (n + 1) table ≡ take n table ++ true ∷ [] = take_more table n false within ∙ ap (λ b. take n table ++ b ∷ []) (get_or_from_slice_get table n true false alive) in
+      let front : length (take n table) ≡ n = length-take-le n table (omega arith) in
+      let place : p.candidate ≡ 0 + length (take n table) = omega (arith, front, named) in
+      subst (λ (ps : List Proved). IsInductive queries (take (n + 1) table) ps) (sym added)
+      (record {
+        numbers =
+            map-append (λ x. x.candidate) proofs (p ∷ [])
+            ∙ (ap (λ ks. ks ++ p.candidate ∷ []) proved.numbers
+            ∙ (ap (λ k. live_from 0 (take n table) ++ k ∷ []) place
+            ∙ sym (ap (live_from 0) grown ∙ live_from-true 0 (take n table))));
+        proved = all-append (IsProved queries) proofs (p ∷ []) proved.proved (one, tt);
+      })
 
-  pub proof_settles : (proof : Proof) (proofs' : List Proved) → Proves facts proof.steps → proofs' ≡ proofs ++ record { candidate = candidate; how = Steps proof } ∷ [] → AreSettled count (queries ++ facts ∷ []) table deaths proofs'
-  proof_settles proof proofs' proves added =
-      let one : Proved = record { candidate = candidate; how = Steps proof } in
-      let grown : take (length (queries ++ facts ∷ [])) table ≡ take candidate table ++ true ∷ [] =
-      ap (λ n. take n table) more_queries ∙ (take_more table candidate false within ∙ ap (λ b. take candidate table ++ b ∷ []) (get_or_from_slice_get table candidate true false alive)) in
-      let numbers : proved_of (proofs ++ one ∷ []) ≡ live_from 0 (take candidate table ++ true ∷ []) =
-      map-append (λ p. p.candidate) proofs (one ∷ [])
-      ∙ (ap (λ ks. ks ++ candidate ∷ []) (settled.inductive.numbers ∙ ap (λ n. live_from 0 (take n table)) (sym is))
-      ∙ sym (live_from-true 0 (take candidate table) ∙ ap (λ n. live_from 0 (take candidate table) ++ n ∷ []) (let e = front in omega (arith, e)))) in
-      record {
-        table_is = settled.table_is;
-        legal = legal-more queries facts count [] deaths settled.legal;
-        inductive = record {
-          numbers = ap proved_of added ∙ (numbers ∙ ap (live_from 0) (sym grown));
-          proved = subst (λ (ps : List Proved). AllByRecursion (IsProved (queries ++ facts ∷ [])) ps) (sym added)
-              (all-append (IsProved (queries ++ facts ∷ [])) proofs (one ∷ []) (all-map (IsProved queries) (IsProved (queries ++ facts ∷ [])) (proved-more queries facts) proofs settled.inductive.proved)
-              (record { facts = facts; query = ap (λ k. slice_get (queries ++ facts ∷ []) k) is ∙ slice_get-last queries facts; how = proves }, tt));
-        };
-      }
+-- ---- judging a candidate
 
-  pub cube_settles : (d : Death) (cube : Cube) (table' : List Bool) (deaths' : List Death) → d.candidate ≡ candidate → d.cause ≡ Open cube → d.seen.items ≡ words_of table → IsOpenCube facts cube → table' ≡ set table candidate false → deaths' ≡ deaths ++ d ∷ []
-      → AreSettled count (queries ++ facts ∷ []) table' deaths' proofs
-  cube_settles d cube table' deaths' named caused seen «open» cut added = record {
-    table_is =
-        cut ∙ (ap (λ t. set t candidate false) settled.table_is
-        ∙ (sym (cleared-snoc (replicate count true) (dead_of deaths) candidate)
-        ∙ ap (cleared (replicate count true)) (sym (ap dead_of added ∙ (map-append (λ x. x.candidate) deaths (d ∷ []) ∙ ap (λ k. dead_of deaths ++ k ∷ []) named)))));
-    legal = subst (λ (ds : List Death). AreLegal (queries ++ facts ∷ []) count [] ds) (sym added)
-        (legal-snoc (queries ++ facts ∷ []) count [] deaths d (legal-more queries facts count [] deaths settled.legal) death);
-    inductive = record {
-      numbers =
-          settled.inductive.numbers ∙ (ap (λ n. live_from 0 (take n table)) (sym is)
-          ∙ sym (ap (λ t. live_from 0 (take (length (queries ++ facts ∷ [])) t)) cut
-          ∙ (ap (λ n. live_from 0 (take n (set table candidate false))) more_queries
-          ∙ (ap (live_from 0) (take_more_set table candidate false within) ∙ live_from-false 0 (take candidate table)))));
-      proved = all-map (IsProved queries) (IsProved (queries ++ facts ∷ [])) (proved-more queries facts) proofs settled.inductive.proved;
-    };
-  }
-    where
-      death : IsLegalDeath (queries ++ facts ∷ []) count (dead_of deaths) d
-      death = record {
-        facts = facts;
-        query = ap (λ k. slice_get (queries ++ facts ∷ []) k) (named ∙ is) ∙ slice_get-last queries facts;
-        once = λ h. not_dead queries count deaths settled.legal (subst (λ (k : ℕ). Contains (dead_of deaths) k) (named ∙ is) h);
-        seen = record {
-          table = table;
-          words_are = seen;
-          size = size;
-          held = λ c below none. ap (λ t. slice_get t c) settled.table_is ∙ (cleared-other (replicate count true) (dead_of deaths) c none ∙ slice_get-replicate count c below);
-        };
-        cause = subst (λ (x : Cause). IsCause facts x) (sym caused) «open»;
-      }
+-- what the search found
+pub found : {E : Type 0} (queries : List (List Tree)) (n : ℕ) (facts : List Tree) (r : Result Outcome E) → slice_get queries n ≡ Some facts
+    → IfOk r (λ o. IfRefuted o (λ proof. Proves facts proof.steps)) → IfOk r (λ o. IfOpen o (λ cube. IsOpenCube facts cube)) → IfOk r (IsFinding queries n)
+found queries n facts (Err e) query refuted undecided = tt
+found queries n facts (Ok (Refuted proof)) query refuted undecided = record { facts = facts; query = query; how = refuted }
+found queries n facts (Ok (Undecided cube)) query refuted undecided = record { facts = facts; query = query; is_open = undecided }
+
+-- a dead candidate
+pub passes_dead : (h : Held) (n : ℕ) (table : List Bool) (deaths : List Death) (proofs : List Proved) → slice_get table n ≡ Some false → GoesOn h n table table deaths deaths proofs proofs
+passes_dead h n table deaths proofs dead = record { table_stays = refl; deaths_stay = refl; proved = dead_passed (queries_under h table) table n proofs dead }
+
+-- a live one with a proof
+pub passes_live : (h : Held) (n : ℕ) (table : List Bool) (deaths : List Death) (proofs proofs' : List Proved) (p : Proved) → p.candidate ≡ n → slice_get table n ≡ Some true
+    → IsProved (queries_under h table) p → proofs' ≡ proofs ++ p ∷ [] → GoesOn h n table table deaths deaths proofs proofs'
+passes_live h n table deaths proofs proofs' p named alive one added = record { table_stays = refl; deaths_stay = refl; proved = live_passed (queries_under h table) table n proofs p proofs' named alive one added }
+
+-- ---- a sweep
+
+module _ (h : Held) (n start : ℕ) (table table' : List Bool) (deaths deaths' : List Death) (proofs proofs' : List Proved) where
+  -- there are no fewer deaths afterwards
+  pub grows : (b : Bool) → start ≤ length deaths → MatchBool b (length deaths' ≡ length deaths + 1) (GoesOn h n table table' deaths deaths' proofs proofs') → start ≤ length deaths'
+  grows true below died = omega arith
+  grows false below goes = let e = ap length goes.deaths_stay in omega (arith, e)
+
+  -- one candidate further
+  pub sweeps_on : (a b : Bool) → start ≤ length deaths → MatchBool a (start < length deaths) (AreProvedBelow h n table proofs) → MatchBool b (length deaths' ≡ length deaths + 1) (GoesOn h n table table' deaths deaths' proofs proofs')
+      → MatchBool (a || b) (start < length deaths') (AreProvedBelow h (n + 1) table' proofs')
+  sweeps_on true true below grown died = omega arith
+  sweeps_on true false below grown goes = let e = ap length goes.deaths_stay in omega (arith, e)
+  sweeps_on false true below proved died = omega arith
+  sweeps_on false false below proved goes = subst (λ (t : List Bool). AreProvedBelow h (n + 1) t proofs') (sym goes.table_stays) (goes.proved proved)
+
+-- at its end
+pub swept : (h : Held) (n : ℕ) (table : List Bool) (proofs : List Proved) (b : Bool) (P : Type 0) → n ≡ length table → MatchBool b P (AreProvedBelow h n table proofs) → MatchBool b P (IsInductive (queries_under h table) table proofs)
+swept h n table proofs true P ends grown = grown
+swept h n table proofs false P ends proved = all_proved (queries_under h table) table n proofs ends proved
+
+-- fewer are live where more have died
+pub fewer_live : (h : Held) (table table' : List Bool) (deaths deaths' : List Death) → AreDead h table deaths → AreDead h table' deaths' → length deaths < length deaths' → length (live_from 0 table') < length (live_from 0 table)
+fewer_live h table table' deaths deaths' before after more = let a = before.counted in let b = after.counted in omega (arith, a, b)
+
+-- ---- what is settled
+
+pub are_settled : (h : Held) (table : List Bool) (deaths : List Death) (proofs : List Proved) → AreDead h table deaths → IsInductive (queries_under h table) table proofs → IsSettled h table deaths proofs
+are_settled h table deaths proofs dead proved = record { size = dead.size; table_is = dead.table_is; legal = dead.legal; inductive = proved }

@@ -1,14 +1,15 @@
--- What a settled table is: each candidate that isn't live died lawfully, and each live one is proved.
-use Rattle.std.specs.Prelude.{◌≡◌, ℕ, Bool, true, List, [], ◌∷◌, ◌++◌, Some, map, length, replicate, slice_get, take, Contains}
-use Rattle.std.specs.List.{AllByRecursion}
+-- What a settled table is: each candidate that isn't live died lawfully, and each live one is proved under this same table.
+use Rattle.std.specs.Prelude.{◌≡◌, ℕ, Bool, true, List, [], ◌∷◌, ◌++◌, Some, map, length, replicate, slice_get, Contains}
 use Rattle.sd_term.specs.Tree.{Tree}
+use Rattle.sd_cand.specs.Words.{words_of}
 use Rattle.sd_kernel.specs.OpenCube.{IsOpenCube}
 use Rattle.sd_kernel.specs.declared.proved.Proved.{Proved}
+use Rattle.sd_product.specs.Work.{Held, claims_in, queries_under}
 use Rattle.sd_rounds.specs.declared.settle.Cause.{Cause}
 use Rattle.sd_rounds.specs.declared.settle.Cause.TheVariants.{Open}
 use Rattle.sd_rounds.specs.declared.settle.Death.{Death}
 pub use Rattle.sd_product.specs.Inductive.{proved_of, IsHow, IsProved, IsInductive}
-use Rattle.sd_rounds.specs.Table.{cleared, HoldAllBut}
+use Rattle.sd_rounds.specs.Table.{cleared, HoldsAllBut}
 
 -- the candidates of deaths
 abbrev pub dead_of : List Death → List ℕ
@@ -18,25 +19,25 @@ dead_of = map (λ d. d.candidate)
 abbrev pub IsCause : List Tree → Cause → Type 0
 IsCause facts (Open cube) = IsOpenCube facts cube
 
--- The candidate did not die before, and its query isn't refuted. The words that were seen hold all that had not died.
-pub record IsLegalDeath (queries : List (List Tree)) (count : ℕ) (before : List ℕ) (d : Death) : Type 0 where
+-- The candidate did not die before, and under the table that was seen its query isn't refuted. That table held all that had not died.
+pub record IsLegalDeath (h : Held) (before : List ℕ) (d : Death) : Type 0 where
+  pub seen : List Bool
+  pub words : d.seen.items ≡ words_of seen
+  pub held : HoldsAllBut (length (claims_in h)) before seen
   pub facts : List Tree
-  pub query : slice_get queries d.candidate ≡ Some facts
+  pub query : slice_get (queries_under h seen) d.candidate ≡ Some facts
   pub once : Contains before d.candidate → ⊥
-  pub seen : HoldAllBut count before d.seen.items
   pub cause : IsCause facts d.cause
 
 -- deaths in order, of which the first comes after these
-abbrev pub AreLegal : List (List Tree) → ℕ → List ℕ → List Death → Type 0
-AreLegal queries count before [] = Unit {0}
-AreLegal queries count before (d ∷ ds) = IsLegalDeath queries count before d × AreLegal queries count (before ++ d.candidate ∷ []) ds
+abbrev pub AreLegal : Held → List ℕ → List Death → Type 0
+AreLegal h before [] = Unit {0}
+AreLegal h before (d ∷ ds) = IsLegalDeath h before d × AreLegal h (before ++ d.candidate ∷ []) ds
 
--- The first candidates, which have these queries, are settled in a table of so many candidates.
-pub record AreSettled (count : ℕ) (queries : List (List Tree)) (table : List Bool) (deaths : List Death) (proofs : List Proved) : Type 0 where
-  pub table_is : table ≡ cleared (replicate count true) (dead_of deaths)
-  pub legal : AreLegal queries count [] deaths
-  pub inductive : IsInductive queries (take (length queries) table) proofs
-
--- all candidates are settled
-abbrev pub IsSettled : List (List Tree) → List Bool → List Death → List Proved → Type 0
-IsSettled queries table deaths proofs = (length table ≡ length queries) × AreSettled (length queries) queries table deaths proofs
+-- The table is the full one less the candidates of the deaths, which are legal, and each live candidate has a proof of its query under
+-- this table.
+pub record IsSettled (h : Held) (table : List Bool) (deaths : List Death) (proofs : List Proved) : Type 0 where
+  pub size : length table ≡ length (claims_in h)
+  pub table_is : table ≡ cleared (replicate (length (claims_in h)) true) (dead_of deaths)
+  pub legal : AreLegal h [] deaths
+  pub inductive : IsInductive (queries_under h table) table proofs

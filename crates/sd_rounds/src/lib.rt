@@ -3,4 +3,4 @@
 
 mod settle;
 
-pub use settle::{Cause, Death, Settled, settle_straight};
+pub use settle::{Cause, Death, Settled, settle_one};

@@ -1,17 +1,16 @@
-ghost use Rattle.std.specs.Prelude.{◌≡◌, ◌<◌, ◌≤◌, ◌+◌, ◌++◌, [], ◌∷◌, IfOk, OnOk, List, length};
-ghost use Rattle.std.specs.List.{AllByRecursion};
-ghost use Rattle.sd_term.specs.Tree.{Tree};
-ghost use Rattle.sd_kernel.specs.OpenCube.{AllBoolean};
-ghost use Rattle.sd_product.specs.Straight.{queries_of};
-ghost use Rattle.sd_rounds.specs.Settled.{AreSettled, IsSettled};
+ghost use Rattle.std.specs.Prelude.{◌≡◌, ◌<◌, ◌≤◌, ◌+◌, suc, IfOk, OnOk, MatchBool, length};
+ghost use Rattle.sd_product.specs.Boolean.{AreBoolean};
+ghost use Rattle.sd_product.specs.Work.{claims_in, queries_under};
+ghost use Rattle.sd_rounds.specs.Settled.{IsInductive, IsSettled};
+ghost use Rattle.sd_rounds.specs.Sweep.{AreDead, GoesOn, IsFinding};
 
 use sd_base::NoMemory;
 use sd_cand::LiveTable;
 use sd_kernel::{How, Proved};
-use sd_product::Straight;
+use sd_product::laws::queries_are_boolean;
+use sd_product::{Work, query};
 use sd_search::{Outcome, refute};
-use sd_term::{Cube, Query};
-use sqlite_items::Items;
+use sd_term::Cube;
 use std::alloc::Global;
 
 /// Why a candidate was dropped.
@@ -35,52 +34,49 @@ pub struct Settled {
     pub table: LiveTable,
     pub deaths: Vec<Death>,
     pub proofs: Vec<Proved>,
+    /// How many sweeps there were, the last of which dropped nothing.
+    pub sweeps: u32,
 }
 
-/// How many candidates the pairs have.
-fn count_of(pairs: &[Straight]) -> Result<u32, NoMemory>
-    ensures { IfOk result (λ count. count ≡ length (queries_of pairs.now)) }
+/// Looks for a proof of a candidate's query under the table.
+fn judge(alloc: Global, work: &Work, table: &LiveTable, candidate: u32) -> Result<Outcome, NoMemory>
+    requires boolean { AreBoolean work.now }
+    requires within { candidate < length (claims_in work.now) }
+    requires size { length table.now ≡ length (claims_in work.now) }
+    ensures { IfOk result (IsFinding (queries_under work.now table.now) candidate) }
 {
-    let mut count: u32 = 0;
-    'pairs: for pair in pairs {
-        count = add(count, pair.queries.len())?;
-    }
-    Ok(count)
+    let query = query(alloc, work, table, candidate)?;
+    work.is_held();
+    queries_are_boolean();
+    refute(alloc, &query)
 }
 
-/// The sum, where it is a number of candidates.
-fn add(count: u32, more: usize) -> Result<u32, NoMemory>
-    ensures { IfOk result (λ sum. sum ≡ count + more) }
-{
-    match u32::try_from(more) {
-        Ok(more) => match count.checked_add(more) {
-            Some(sum) => Ok(sum),
-            None => Err(NoMemory),
-        },
-        Err(_) => Err(NoMemory),
-    }
-}
-
-/// Judges the candidate with this number and this query.
-fn judge(
+/// Judges a candidate, if it is live, and drops it, if its query isn't refuted. True where it was dropped.
+fn visit(
     alloc: Global,
+    work: &Work,
     settled: &mut Settled,
     candidate: u32,
-    query: &Query,
-) -> Result<(), NoMemory>
-    requires boolean { AllBoolean query.now }
-    requires within { candidate < length settled.old.table }
-    ensures size { OnOk result (length settled.new.table ≡ length settled.old.table) }
-    ensures judged { OnOk result ((queries : List (List Tree)) → candidate ≡ length queries
-        → AreSettled (length settled.old.table) queries settled.old.table settled.old.deaths.items settled.old.proofs.items
-        → AreSettled (length settled.old.table) (queries ++ query.now ∷ []) settled.new.table settled.new.deaths.items settled.new.proofs.items) }
+) -> Result<bool, NoMemory>
+    requires boolean { AreBoolean work.now }
+    requires within { candidate < length (claims_in work.now) }
+    requires dead { AreDead work.now settled.old.table settled.old.deaths.items }
+    ensures dead { OnOk result (AreDead work.now settled.new.table settled.new.deaths.items) }
+    ensures sweeps { settled.new.sweeps ≡ settled.old.sweeps }
+    ensures dropped { IfOk result (λ dropped. MatchBool dropped
+        (length settled.new.deaths.items ≡ length settled.old.deaths.items + 1)
+        (GoesOn work.now candidate settled.old.table settled.new.table settled.old.deaths.items settled.new.deaths.items settled.old.proofs.items settled.new.proofs.items)) }
 {
-    match refute(alloc, query)? {
+    if !settled.table.get(candidate) {
+        return Ok(false);
+    }
+    match judge(alloc, work, &settled.table, candidate)? {
         Outcome::Refuted(proof) => {
             settled.proofs.push(Proved {
                 candidate,
                 how: How::Steps(proof),
             })?;
+            Ok(false)
         }
         Outcome::Open(cube) => {
             let seen = settled.table.words(alloc)?;
@@ -90,48 +86,56 @@ fn judge(
                 cause: Cause::Open(cube),
             })?;
             settled.table.clear(candidate);
+            Ok(true)
         }
     }
-    Ok(())
 }
 
-/// Judges the candidates of a pair, of which the first has this number.
-fn judge_pair(
-    alloc: Global,
-    settled: &mut Settled,
-    first: u32,
-    queries: &Items<Query>,
-) -> Result<u32, NoMemory>
-    requires boolean { AllByRecursion AllBoolean queries.now }
-    requires within { first + length queries.now ≤ length settled.old.table }
-    ensures next { IfOk result (λ next. next ≡ first + length queries.now) }
-    ensures size { OnOk result (length settled.new.table ≡ length settled.old.table) }
-    ensures judged { OnOk result ((before : List (List Tree)) → first ≡ length before
-        → AreSettled (length settled.old.table) before settled.old.table settled.old.deaths.items settled.old.proofs.items
-        → AreSettled (length settled.old.table) (before ++ queries.now) settled.new.table settled.new.deaths.items settled.new.proofs.items) }
+/// Judges the live candidates in ascending order, each under the table as it stands then. True where one was dropped; else
+/// the proofs are those of the live candidates.
+fn sweep(alloc: Global, work: &Work, settled: &mut Settled) -> Result<bool, NoMemory>
+    requires boolean { AreBoolean work.now }
+    requires dead { AreDead work.now settled.old.table settled.old.deaths.items }
+    ensures dead { OnOk result (AreDead work.now settled.new.table settled.new.deaths.items) }
+    ensures sweeps { settled.new.sweeps ≡ settled.old.sweeps }
+    ensures dropped { IfOk result (λ dropped. MatchBool dropped
+        (length settled.old.deaths.items < length settled.new.deaths.items)
+        (IsInductive (queries_under work.now settled.new.table) settled.new.table settled.new.proofs.items)) }
+    ensures grown { OnOk result (length settled.old.deaths.items ≤ length settled.new.deaths.items) }
 {
-    let mut candidate = first;
-    'queries: for query in queries.as_slice() {
-        judge(alloc, settled, candidate, query)?;
-        candidate = add(candidate, 1)?;
+    settled.proofs.clear();
+    let mut dropped = false;
+    'candidates: for candidate in 0..work.count() {
+        dropped |= visit(alloc, work, settled, candidate)?;
     }
-    Ok(candidate)
+    Ok(dropped)
 }
 
-/// Settles the candidates of pairs without calls. A query doesn't depend on the table then, so one sweep does.
-pub fn settle_straight(alloc: Global, pairs: &[Straight]) -> Result<Settled, NoMemory>
-    requires { AllByRecursion AllBoolean (queries_of pairs.now) }
-    ensures { IfOk result (λ settled. IsSettled (queries_of pairs.now) settled.table settled.deaths.items settled.proofs.items) }
+/// One more, where that is a number of sweeps.
+fn one_more(sweeps: u32) -> Result<u32, NoMemory>
+    ensures { IfOk result (λ more. more ≡ sweeps + 1) }
 {
-    let count = count_of(pairs)?;
+    match sweeps.checked_add(1) {
+        Some(more) => Ok(more),
+        None => Err(NoMemory),
+    }
+}
+
+/// Settles the candidates of two programs: sweeps over them, from all on, until a sweep drops none. More sweeps than a
+/// `u32` holds are out of memory.
+pub fn settle_one(alloc: Global, work: &Work) -> Result<Settled, NoMemory>
+    requires { AreBoolean work.now }
+    ensures settled { IfOk result (λ s. IsSettled work.now s.table s.deaths.items s.proofs.items) }
+    ensures sweeps { IfOk result (λ s. (s.sweeps ≤ suc (length s.deaths.items)) × (1 ≤ s.sweeps)) }
+{
     let mut settled = Settled {
-        table: LiveTable::full(alloc, count)?,
+        table: LiveTable::full(alloc, work.count())?,
         deaths: Vec::new(alloc),
         proofs: Vec::new(alloc),
+        sweeps: 1,
     };
-    let mut next = 0;
-    'pairs: for pair in pairs {
-        next = judge_pair(alloc, &mut settled, next, &pair.queries)?;
+    'sweeps: while sweep(alloc, work, &mut settled)? {
+        settled.sweeps = one_more(settled.sweeps)?;
     }
     Ok(settled)
 }

@@ -7,8 +7,4 @@ pub mod TypingLemmas
 pub mod ScopeLemmas
 pub mod TableLemmas
 pub mod SortTests
-pub mod SameLemmas
-pub mod LoopLemmas
-pub mod PhraseLemmas
-pub mod BodyLemmas
 pub mod TypedBodyLemmas

@@ -1,5 +1,4 @@
 pub mod Names
-pub mod Connective
 pub mod Answer
 pub mod Tables
 pub mod Scopes

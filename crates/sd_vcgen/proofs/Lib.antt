@@ -3,7 +3,14 @@ pub mod Numbers
 pub mod Loops
 pub mod Rows
 pub mod Bodies
+pub mod Calls
 pub mod Typed
+pub mod Symbols
 pub mod Sorted
 pub mod Values
-pub mod Adequate
+pub mod Truths
+pub mod Agrees
+pub mod Logs
+pub mod Runs
+pub mod Valuations
+pub mod WellSorted

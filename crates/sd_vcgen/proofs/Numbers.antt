@@ -1,5 +1,5 @@
 -- What numbers stand for in a bank that grows.
-use Rattle.std.proofs.Common.{◌≡◌, ℕ, ◌<◌, List, length, get_or, refl, sym, ap, subst, ◌∙◌, arith}
+use Rattle.std.proofs.Common.{◌≡◌, ℕ, ◌<◌, List, [], ◌∷◌, ◌++◌, length, get_or, refl, sym, ap, subst, ◌∙◌, arith}
 use Rattle.std.specs.Prelude.{None, All, map}
 use Rattle.sd_core.specs.declared.Spot.{Spot}
 use Rattle.sd_core.specs.declared.Spot.TheVariants.{Slot, Global}
@@ -10,8 +10,9 @@ use Rattle.sd_term.specs.Build.{Extends, not_of, and_of, or_of}
 use Rattle.sd_term.proofs.Trees.{map_at-same}
 use Rattle.sd_vcgen.specs.Body.{State, nothing, guard_of}
 use Rattle.sd_vcgen.specs.Body as spec
-use Rattle.sd_vcgen.specs.Numbers.{Denotes, DenoteAll, numbers_of, held, store_of, AreWithin, Stands, state_of, IsWithin}
+use Rattle.sd_vcgen.specs.Numbers.{Denotes, DenoteAll, DenotesSite, DenoteSites, site_at, IsSiteWithin, numbers_of, held, store_of, AreWithin, Stands, state_of, IsWithin}
 use Rattle.sd_vcgen.specs.declared.body.BodyState.{BodyState}
+use Rattle.sd_vcgen.specs.declared.call.Site.{Site}
 use Rattle.sd_vcgen.specs.declared.spots.Spots.{Spots}
 use Rattle.sd_vcgen.proofs.Stores.{write_map, map_absent}
 
@@ -57,6 +58,53 @@ pub held_store : (a b : List Tree) (n after : Spots) (s : Spot) (id : ℕ) (t : 
 held_store a b n after s id t w h e is =
     ap (map_store (tree_at b)) e ∙ write_map (tree_at b) (numbers_of n) s id ∙ (λ i. write (store_later a b n h w i) s (is i))
 
+-- ---- calls
+
+pub site_later : (a b : List Tree) (n : Site) (s : spec.Site) → Extends a b → DenotesSite a n s → DenotesSite b n s
+site_later a b n s h d = record {
+  callee = d.callee;
+  guard = denotes_later a b n.guard s.guard h d.guard;
+  args = denote_all_later a b n.args s.args h d.args;
+  before = denote_all_later a b n.before s.before h d.before;
+  outs = denote_all_later a b n.outs s.outs h d.outs;
+  after = denote_all_later a b n.after s.after h d.after;
+  flag = denotes_later a b n.flag s.flag h d.flag;
+}
+
+pub sites_later : (a b : List Tree) (ns : List Site) (ss : List spec.Site) → Extends a b → DenoteSites a ns ss → DenoteSites b ns ss
+sites_later a b [] [] h d = tt
+sites_later a b [] (s ∷ ss) h d = absurd d
+sites_later a b (n ∷ ns) [] h d = absurd d
+sites_later a b (n ∷ ns) (s ∷ ss) h d = (site_later a b n s h d.0, sites_later a b ns ss h d.1)
+
+-- what a record of numbers stands for
+pub site_for : (bank : List Tree) (n : Site) (s : spec.Site) → DenotesSite bank n s → site_at bank n ≡ s
+site_for bank n s d = λ i. record {
+  callee = d.callee i;
+  guard = d.guard.tree i;
+  args = d.args.trees i;
+  before = d.before.trees i;
+  outs = d.outs.trees i;
+  after = d.after.trees i;
+  flag = d.flag.tree i;
+}
+
+pub sites_for : (bank : List Tree) (ns : List Site) (ss : List spec.Site) → DenoteSites bank ns ss → map (site_at bank) ns ≡ ss
+sites_for bank [] [] d = refl
+sites_for bank [] (s ∷ ss) d = absurd d
+sites_for bank (n ∷ ns) [] d = absurd d
+sites_for bank (n ∷ ns) (s ∷ ss) d = λ i. site_for bank n s d.0 i ∷ sites_for bank ns ss d.1 i
+
+pub is_site_within : (bank : List Tree) (n : Site) (s : spec.Site) → DenotesSite bank n s → IsSiteWithin bank n
+is_site_within bank n s d = subst (DenotesSite bank n) (sym (site_for bank n s d)) d
+
+-- one more record
+pub sites_push : (bank : List Tree) (ns : List Site) (ss : List spec.Site) (n : Site) (s : spec.Site) → DenoteSites bank ns ss → DenotesSite bank n s → DenoteSites bank (ns ++ n ∷ []) (ss ++ s ∷ [])
+sites_push bank [] [] n s d e = (e, tt)
+sites_push bank [] (x ∷ ss) n s d e = absurd d
+sites_push bank (m ∷ ns) [] n s d e = absurd d
+sites_push bank (m ∷ ns) (x ∷ ss) n s d e = (d.0, sites_push bank ns ss n s d.1 e)
+
 -- ---- states
 
 pub stands_later : (a b : List Tree) (n : BodyState) (s : State) → Extends a b → Stands a n s → Stands b n s
@@ -66,11 +114,12 @@ stands_later a b n s h k = record {
   flag = denotes_later a b n.flag s.flag h k.flag;
   gone = denotes_later a b n.gone s.gone h k.gone;
   assumes = denote_all_later a b n.assumes s.assumes h k.assumes;
+  sites = sites_later a b n.sites s.sites h k.sites;
 }
 
 -- what a state of numbers stands for
 pub stands_for : (bank : List Tree) (n : BodyState) (s : State) → Stands bank n s → state_of bank n ≡ s
-stands_for bank n s k = λ i. record { store = k.store i; flag = k.flag.tree i; gone = k.gone.tree i; assumes = k.assumes.trees i }
+stands_for bank n s k = λ i. record { store = k.store i; flag = k.flag.tree i; gone = k.gone.tree i; assumes = k.assumes.trees i; sites = sites_for bank n.sites s.sites k.sites i }
 
 pub is_within : (bank : List Tree) (n : BodyState) (s : State) → Stands bank n s → IsWithin bank n
 is_within bank n s k = subst (Stands bank n) (sym (stands_for bank n s k)) k
@@ -86,14 +135,14 @@ guarded a b c n path guard w lt h d =
     d.tree ∙ (λ i. and_of (h.kept path lt i) (not_of (h.kept n.gone w.gone.within i)))
 
 pub leave_stands : (old new : List Tree) (n : BodyState) (g id : ℕ) → IsWithin old n → Extends old new → id < length new → tree_at new id ≡ or_of (tree_at old n.gone) (tree_at old g)
-    → Stands new (record { spots = n.spots; flag = n.flag; gone = id; assumes = n.assumes }) (spec.leave (tree_at old g) (state_of old n))
+    → Stands new (record { spots = n.spots; flag = n.flag; gone = id; assumes = n.assumes; sites = n.sites; next = n.next }) (spec.leave (tree_at old g) (state_of old n))
 leave_stands old new n g id w h lt e =
     let k = stands_later old new n (state_of old n) h w in
-    record { within = k.within; store = k.store; flag = k.flag; gone = record { within = lt; tree = e }; assumes = k.assumes }
+    record { within = k.within; store = k.store; flag = k.flag; gone = record { within = lt; tree = e }; assumes = k.assumes; sites = k.sites }
 
 pub fail_stands : (old mid new : List Tree) (n : BodyState) (g flag gone : ℕ) → IsWithin old n → g < length old → Extends old mid → flag < length mid → tree_at mid flag ≡ or_of (tree_at old n.flag) (tree_at old g)
     → Extends mid new → gone < length new → tree_at new gone ≡ or_of (tree_at mid n.gone) (tree_at mid g)
-    → Stands new (record { spots = n.spots; flag = flag; gone = gone; assumes = n.assumes }) (spec.fail (tree_at old g) (state_of old n))
+    → Stands new (record { spots = n.spots; flag = flag; gone = gone; assumes = n.assumes; sites = n.sites; next = n.next }) (spec.fail (tree_at old g) (state_of old n))
 fail_stands old mid new n g flag gone w gl h lt e h' lt' e' =
     let k = stands_later old new n (state_of old n) (extends_then old mid new h h') w in
     record {
@@ -102,4 +151,5 @@ fail_stands old mid new n g flag gone w gl h lt e h' lt' e' =
       flag = denotes_later mid new flag _ h' (record { within = lt; tree = e });
       gone = record { within = lt'; tree = e' ∙ (λ i. or_of (h.kept n.gone w.gone.within i) (h.kept g gl i)) };
       assumes = k.assumes;
+      sites = k.sites;
     }

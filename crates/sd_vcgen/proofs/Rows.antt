@@ -1,5 +1,5 @@
 -- Rows of expressions and of statements as code sees them.
-use Rattle.std.proofs.Common.{◌≡◌, List, ◌∷◌, refl, ap, ◌∙◌}
+use Rattle.std.proofs.Common.{◌≡◌, ℕ, ◌+◌, List, ◌∷◌, refl, ap, ◌∙◌}
 use Rattle.std.specs.Prelude.{false, map}
 use Rattle.sd_base.specs.Value.{Text}
 use Rattle.sd_core.specs.declared.CoreOp.{CoreOp}
@@ -13,7 +13,7 @@ use Rattle.sd_core.specs.Store.{Store}
 use Rattle.sd_term.specs.declared.node.Head.TheVariants as head
 use Rattle.sd_term.specs.Tree.{Tree, tree}
 use Rattle.sd_term.specs.Build.{and_of, not_of}
-use Rattle.sd_vcgen.specs.Body.{State, result_of, op_term, term_in, terms_in, step, steps, all_steps}
+use Rattle.sd_vcgen.specs.Body.{State, Context, result_of, op_term, term_in, terms_in, count, row_count, count_all, step, steps, all_steps}
 
 terms_row : (F : List Function) (st : Store Tree) {n : _} (es : Row_of-CoreExpr n) → terms_in F st es ≡ map (term_in F st) (items-the_row-CoreExpr n es)
 terms_row F st end_of-CoreExpr = refl
@@ -28,16 +28,27 @@ apply_term F st f es = ap (tree (head.App f (result_of (declared_as false F f)))
 pub operator_term : (F : List Function) (st : Store Tree) (o : CoreOp) (es : List CoreExpr) → term_in F st (Op o es) ≡ op_term o (map (term_in F st) es)
 operator_term F st o es = ap (op_term o) (terms_hidden F st es)
 
-row_is_list : (F : List Function) {n : _} (ks : Row_of-CoreStmt n) (path : Tree) (s : State) → steps F ks path s ≡ all_steps F (items-the_row-CoreStmt n ks) path s
-row_is_list F end_of-CoreStmt path s = refl
-row_is_list F (more_of-CoreStmt k ks) path s = row_is_list F ks path (step F k path s)
+row_is_list : (C : Context) {n : _} (ks : Row_of-CoreStmt n) (k : ℕ) (path : Tree) (s : State) → steps C ks k path s ≡ all_steps C (items-the_row-CoreStmt n ks) k path s
+row_is_list C end_of-CoreStmt k path s = refl
+row_is_list C (more_of-CoreStmt t ts) k path s = row_is_list C ts (k + count C t) path (step C t k path s)
 
-hidden_is_list : (F : List Function) (ks : List CoreStmt) (path : Tree) (s : State) → steps F (hidden-the_row-CoreStmt-0 ks) path s ≡ all_steps F ks path s
-hidden_is_list F ks path s = row_is_list F (hidden-the_row-CoreStmt-0 ks) path s ∙ ap (λ l. all_steps F l path s) (items_hidden-the_row-CoreStmt-0 ks)
+hidden_is_list : (C : Context) (ks : List CoreStmt) (k : ℕ) (path : Tree) (s : State) → steps C (hidden-the_row-CoreStmt-0 ks) k path s ≡ all_steps C ks k path s
+hidden_is_list C ks k path s = row_is_list C (hidden-the_row-CoreStmt-0 ks) k path s ∙ ap (λ l. all_steps C l k path s) (items_hidden-the_row-CoreStmt-0 ks)
+
+row_counts : (C : Context) {n : _} (ks : Row_of-CoreStmt n) → row_count C ks ≡ count_all C (items-the_row-CoreStmt n ks)
+row_counts C end_of-CoreStmt = refl
+row_counts C (more_of-CoreStmt t ts) = ap (λ (m : ℕ). count C t + m) (row_counts C ts)
+
+hidden_counts : (C : Context) (ks : List CoreStmt) → row_count C (hidden-the_row-CoreStmt-0 ks) ≡ count_all C ks
+hidden_counts C ks = row_counts C (hidden-the_row-CoreStmt-0 ks) ∙ ap (count_all C) (items_hidden-the_row-CoreStmt-0 ks)
 
 -- a choice between two lists
-pub if_step : (F : List Function) (e : CoreExpr) (x y : List CoreStmt) (path : Tree) (s : State)
-    → step F (If e x y) path s ≡ all_steps F y (and_of path (not_of (term_in F s.store e))) (all_steps F x (and_of path (term_in F s.store e)) s)
-if_step F e x y path s =
-    hidden_is_list F y (and_of path (not_of (term_in F s.store e))) (steps F (hidden-the_row-CoreStmt-0 x) (and_of path (term_in F s.store e)) s)
-    ∙ ap (all_steps F y (and_of path (not_of (term_in F s.store e)))) (hidden_is_list F x (and_of path (term_in F s.store e)) s)
+pub if_count : (C : Context) (e : CoreExpr) (x y : List CoreStmt) → count C (If e x y) ≡ count_all C x + count_all C y
+if_count C e x y = λ i. hidden_counts C x i + hidden_counts C y i
+
+pub if_step : (C : Context) (e : CoreExpr) (x y : List CoreStmt) (k : ℕ) (path : Tree) (s : State)
+    → step C (If e x y) k path s ≡ all_steps C y (k + count_all C x) (and_of path (not_of (term_in C.program.functions s.store e))) (all_steps C x k (and_of path (term_in C.program.functions s.store e)) s)
+if_step C e x y k path s =
+    let F = C.program.functions in
+    hidden_is_list C y (k + row_count C (hidden-the_row-CoreStmt-0 x)) (and_of path (not_of (term_in F s.store e))) (steps C (hidden-the_row-CoreStmt-0 x) k (and_of path (term_in F s.store e)) s)
+    ∙ (λ i. all_steps C y (k + hidden_counts C x i) (and_of path (not_of (term_in F s.store e))) (hidden_is_list C x k (and_of path (term_in F s.store e)) s i))

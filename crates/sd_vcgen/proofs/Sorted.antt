@@ -1,63 +1,108 @@
 -- The terms of a body have the types of what they stand for.
-use Rattle.std.proofs.Common.{◌≡◌, ℕ, suc, List, [], ◌∷◌, ◌++◌, length, get_or, refl, sym, ap, ◌∙◌, arith}
-use Rattle.std.specs.Prelude.{map}
+use Rattle.std.proofs.Common.{◌≡◌, ℕ, suc, ◌+◌, List, [], ◌∷◌, ◌++◌, length, get_or, refl, sym, ap, subst, ◌∙◌, arith}
+use Rattle.std.specs.Prelude.{map, slice_get, Option, Some, true}
 use Rattle.std.specs.List.{AllByRecursion}
 use Rattle.std.proofs.lemmas.List.{map-append, append_assoc, length-append}
 use Rattle.sd_base.specs.declared.Sort.{Sort, Bool as BoolSort}
 use Rattle.sd_base.specs.declared.Var.{Var}
 use Rattle.sd_core.specs.declared.Spot.{Spot}
+use Rattle.sd_core.specs.declared.Spot.TheVariants.{Global}
+use Rattle.sd_core.specs.declared.CoreExpr.{CoreExpr}
 use Rattle.sd_core.specs.declared.CoreStmt.{CoreStmt, Assign, If', Call, Assume, Fail, Return, Row_of-CoreStmt, end_of-CoreStmt, more_of-CoreStmt}
 use Rattle.sd_core.specs.declared.CoreProc.{CoreProc}
 use Rattle.sd_core.specs.declared.CoreProgram.{CoreProgram}
+use Rattle.sd_core.specs.declared.Function.{Function}
 use Rattle.sd_core.specs.Store.{Store, read, map_store}
 use Rattle.sd_core.specs.Run.{slots_from, out_spots}
-use Rattle.sd_core.specs.Formed.{sorts_of, state_sorts, IsFormed, AreFormed, AllFormed}
+use Rattle.sd_core.specs.Formed.{WellFormed, sorts_of, state_sorts, AllHaveTypes, AreSpotsOf, IsFormed, AreFormed, AllFormed}
 use Rattle.sd_term.specs.declared.node.Head.TheVariants as head
 use Rattle.sd_term.specs.Tree.{Tree, leaf}
 use Rattle.sd_term.specs.Sorts.{sort_of}
 use Rattle.sd_term.specs.Build.{and_of, not_of}
-use Rattle.sd_term.proofs.BuildSorts.{or-sort}
-use Rattle.sd_vcgen.specs.Body.{State, nothing, term_in, guard_of, step, steps, all_steps, begun, body_of, outs_of}
-use Rattle.sd_vcgen.specs.Law.{BodiesAreSorted}
+use Rattle.sd_term.proofs.BuildSorts.{and-sort, or-sort}
+use Rattle.sd_vcgen.specs.Body.{State, Context, nothing, constant, term_in, guard_of, assign, symbols, modified_sorts, changed, site_of, call, count, row_count, step, steps, all_steps, begun, body_of, outs_of}
+use Rattle.sd_vcgen.specs.Law.{IsSortedSite, BodiesAreSorted}
 use Rattle.sd_vcgen.proofs.Stores.{read_map}
+use Rattle.sd_vcgen.proofs.Truths.{all_push}
 use Rattle.sd_vcgen.proofs.Typed.{assign-sorts, all-sorts}
+use Rattle.sd_vcgen.proofs.Symbols.{symbols-sort, flag-sort, modified-spots, after-sort}
 
-record Fits (S : Store Sort) (s : State) : Type 0 where
-  store : map_store sort_of s.store ≡ S
+record Fits (P : CoreProgram) (p : CoreProc) (s : State) : Type 0 where
+  store : map_store sort_of s.store ≡ state_sorts P p
   flag : sort_of s.flag ≡ BoolSort
   assumes : AllByRecursion (λ t. sort_of t ≡ BoolSort) s.assumes
+  sites : AllByRecursion (IsSortedSite P) s.sites
 
-all_push : (Q : Tree → Type 0) (ts : List Tree) (t : Tree) → AllByRecursion Q ts → Q t → AllByRecursion Q (ts ++ t ∷ [])
-all_push Q [] t h k = (k, tt)
-all_push Q (u ∷ ts) t h k = (h.0, all_push Q ts t h.1 k)
+module _ (C : Context) (formed : WellFormed C.program) (p : CoreProc) where
+  abbrev P : CoreProgram
+  P = C.program
 
-module _ (P : CoreProgram) (p : CoreProc) where
+  abbrev F : List Function
+  F = P.functions
+
+  -- the store after a call, first with what the callee changed
+  pub changed-sorts : (k : ℕ) (g : Tree) (q : ℕ) (callee : CoreProc) (st : Store Tree) → slice_get P.procs q ≡ Some callee → map_store sort_of st ≡ state_sorts P p
+      → map_store sort_of (assign g st (map Global callee.modifies) (changed P k callee)) ≡ state_sorts P p
+  changed-sorts k g q callee st found e =
+      assign-sorts (state_sorts P p) g (map Global callee.modifies) (changed P k callee) (modified_sorts P callee) st
+      (modified-spots P p callee.modifies (formed.procs q callee found).modifies) (symbols-sort (k + length callee.outs) (modified_sorts P callee)) e
+
+  pub call-sorts : (k : ℕ) (g : Tree) (q : ℕ) (callee : CoreProc) (ps : List Spot) (st : Store Tree) → slice_get P.procs q ≡ Some callee → AreSpotsOf (state_sorts P p) ps (sorts_of callee.outs) → map_store sort_of st ≡ state_sorts P p
+      → map_store sort_of (assign g (assign g st (map Global callee.modifies) (changed P k callee)) ps (symbols k (sorts_of callee.outs))) ≡ state_sorts P p
+  call-sorts k g q callee ps st found spots e =
+      assign-sorts (state_sorts P p) g ps (symbols k (sorts_of callee.outs)) (sorts_of callee.outs) (assign g st (map Global callee.modifies) (changed P k callee)) spots (symbols-sort k (sorts_of callee.outs))
+      (changed-sorts k g q callee st found e)
+
+  call-fits : (q : ℕ) (callee : CoreProc) (ps : List Spot) (es : List CoreExpr) → slice_get P.procs q ≡ Some callee → AllHaveTypes F (state_sorts P p) es (sorts_of callee.ins) → AreSpotsOf (state_sorts P p) ps (sorts_of callee.outs)
+      → (k : ℕ) (path : Tree) (s : State) → Fits P p s → Fits P p (call C k path (Some callee) ps q es s)
+  call-fits q callee ps es found ins spots k path s h =
+      let site = site_of C k path callee q es s in
+      let before : map sort_of s.store.globals ≡ sorts_of P.globals = ap (λ (S : Store Sort). S.globals) h.store in
+      record {
+        store = call-sorts k site.guard q callee ps s.store found spots h.store;
+        flag = or-sort s.flag (and_of site.guard site.flag);
+        assumes = h.assumes;
+        sites = all_push (IsSortedSite P) s.sites site h.sites (record {
+          callee = callee;
+          found = found;
+          guard = and-sort path (not_of s.gone);
+          args = all-sorts F (state_sorts P p) s.store es (sorts_of callee.ins) h.store ins;
+          before = before;
+          outs = symbols-sort k (sorts_of callee.outs);
+          after = after-sort P k callee s.store.globals before;
+          flag = flag-sort (C.quiet q) (k + (length callee.outs + length callee.modifies));
+        });
+      }
+
   mutual
-    step-fits : (k : CoreStmt) → IsFormed P p k → (path : Tree) (s : State) → Fits (state_sorts P p) s → Fits (state_sorts P p) (step P.functions k path s)
-    step-fits (Assign ps es) formed path s h = record {
-      store = assign-sorts (state_sorts P p) (guard_of path s) ps (map (term_in P.functions s.store) es) formed.0 s.store formed.2.sorts (all-sorts P.functions (state_sorts P p) s.store es formed.0 h.store formed.1) h.store;
+    step-fits : (t : CoreStmt) → IsFormed P p t → (k : ℕ) (path : Tree) (s : State) → Fits P p s → Fits P p (step C t k path s)
+    step-fits (Assign ps es) is k path s h = record {
+      store = assign-sorts (state_sorts P p) (guard_of path s) ps (map (term_in F s.store) es) is.0 s.store is.2.sorts (all-sorts F (state_sorts P p) s.store es is.0 h.store is.1) h.store;
       flag = h.flag;
       assumes = h.assumes;
+      sites = h.sites;
     }
-    step-fits (If' c n a m b) formed path s h =
-        let t = term_in P.functions s.store c in
-        row-fits b formed.2 (and_of path (not_of t)) (steps P.functions a (and_of path t) s) (row-fits a formed.1 (and_of path t) s h)
-    step-fits (Call ps q es) formed path s h = h
-    step-fits (Assume c) formed path s h = record {
+    step-fits (If' c n a m b) is k path s h =
+        let t = term_in F s.store c in
+        row-fits b is.2 (k + row_count C a) (and_of path (not_of t)) (steps C a k (and_of path t) s) (row-fits a is.1 k (and_of path t) s h)
+    step-fits (Call ps q es) is k path s h =
+        subst (λ (o : Option CoreProc). Fits P p (call C k path o ps q es s)) (sym is.found) (call-fits q is.callee ps es is.found is.ins is.outs.sorts k path s h)
+    step-fits (Assume c) is k path s h = record {
       store = h.store;
       flag = h.flag;
-      assumes = all_push (λ t. sort_of t ≡ BoolSort) s.assumes _ h.assumes (or-sort (not_of (guard_of path s)) (term_in P.functions s.store c));
+      assumes = all_push (λ t. sort_of t ≡ BoolSort) s.assumes _ h.assumes (or-sort (not_of (guard_of path s)) (term_in F s.store c));
+      sites = h.sites;
     }
-    step-fits Fail formed path s h = record { store = h.store; flag = or-sort s.flag (guard_of path s); assumes = h.assumes }
-    step-fits Return formed path s h = record { store = h.store; flag = h.flag; assumes = h.assumes }
+    step-fits Fail is k path s h = record { store = h.store; flag = or-sort s.flag (guard_of path s); assumes = h.assumes; sites = h.sites }
+    step-fits Return is k path s h = record { store = h.store; flag = h.flag; assumes = h.assumes; sites = h.sites }
 
-    row-fits : {n : _} (ks : Row_of-CoreStmt n) → AreFormed P p ks → (path : Tree) (s : State) → Fits (state_sorts P p) s → Fits (state_sorts P p) (steps P.functions ks path s)
-    row-fits end_of-CoreStmt formed path s h = h
-    row-fits (more_of-CoreStmt k ks) formed path s h = row-fits ks formed.1 path (step P.functions k path s) (step-fits k formed.0 path s h)
+    row-fits : {n : _} (ts : Row_of-CoreStmt n) → AreFormed P p ts → (k : ℕ) (path : Tree) (s : State) → Fits P p s → Fits P p (steps C ts k path s)
+    row-fits end_of-CoreStmt is k path s h = h
+    row-fits (more_of-CoreStmt t ts) is k path s h = row-fits ts is.1 (k + count C t) path (step C t k path s) (step-fits t is.0 k path s h)
 
-  all-fits : (ks : List CoreStmt) → AllFormed P p ks → (path : Tree) (s : State) → Fits (state_sorts P p) s → Fits (state_sorts P p) (all_steps P.functions ks path s)
-  all-fits [] formed path s h = h
-  all-fits (k ∷ ks) formed path s h = all-fits ks formed.1 path (step P.functions k path s) (step-fits k formed.0 path s h)
+  all-fits : (ts : List CoreStmt) → AllFormed P p ts → (k : ℕ) (path : Tree) (s : State) → Fits P p s → Fits P p (all_steps C ts k path s)
+  all-fits [] is k path s h = h
+  all-fits (t ∷ ts) is k path s h = all-fits ts is.1 (k + count C t) path (step C t k path s) (step-fits t is.0 k path s h)
 
 -- ---- the beginning
 
@@ -103,12 +148,13 @@ outs-sort P p s h =
     sorts-long (v ∷ vs) = ap suc (sorts-long vs)
 
 pub bodies-are-sorted : BodiesAreSorted
-bodies-are-sorted P p formed straight ins globals hi hg =
-    let start : Fits (state_sorts P p) (begun p ins globals) = record { store = begun-sorts P p ins globals hi hg; flag = refl; assumes = tt } in
-    let end = all-fits P p p.body formed _ (begun p ins globals) start in
+bodies-are-sorted C q p formed found k ins globals fit =
+    let start : Fits C.program p (begun p ins globals) = record { store = begun-sorts C.program p ins globals fit.ins_sorted fit.globals_sorted; flag = refl; assumes = tt; sites = tt } in
+    let end = all-fits C formed p p.body (formed.procs q p found).body k (constant true) (begun p ins globals) start in
     record {
-      outs = outs-sort P p (body_of P.functions p ins globals) end.store;
+      outs = outs-sort C.program p (body_of C p k ins globals) end.store;
       globals = ap (λ (S : Store Sort). S.globals) end.store;
       flag = end.flag;
       assumes = end.assumes;
+      sites = end.sites;
     }

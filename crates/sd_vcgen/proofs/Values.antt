@@ -74,7 +74,7 @@ operator-value v op.Neg ts ss s e t = by_one ts Int (Follows v op.Neg) (e ∙ t.
 operator-value v op.Read ts ss s e t = by_two ts (MapOf t.0 s) t.0 (Follows v op.Read) (e ∙ t.1) (λ x y p q. read-value v x y t.0 s p q)
 operator-value v op.Write ts ss s e t = by_three ts (MapOf t.0 t.1) t.0 t.1 (Follows v op.Write) (e ∙ t.3) (λ x y z p q r. write-value v x y z t.0 t.1 t.2 p q r)
 
-have-sorts : (v : Valuation) (ts : List Tree) (ss : List Sort) → map sort_of ts ≡ ss → HaveSorts ss (map (value v) ts)
+pub have-sorts : (v : Valuation) (ts : List Tree) (ss : List Sort) → map sort_of ts ≡ ss → HaveSorts ss (map (value v) ts)
 have-sorts v ts ss e = subst (λ (l : List Sort). HaveSorts l (map (value v) ts)) e (go ts)
   where
     go : (us : List Tree) → HaveSorts (map sort_of us) (map (value v) us)

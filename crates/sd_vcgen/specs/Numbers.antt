@@ -1,5 +1,5 @@
 -- Which trees the numbers that a body is run with stand for.
-use Rattle.std.specs.Prelude.{◌≡◌, ℕ, ◌<◌, List, All, map, length, Option, slice_get}
+use Rattle.std.specs.Prelude.{◌≡◌, ℕ, ◌<◌, false, List, [], ◌∷◌, All, map, length, get_or, Option, slice_get}
 use Rattle.sd_core.specs.declared.CoreProc.{CoreProc}
 use Rattle.sd_core.specs.declared.Spot.{Spot}
 use Rattle.sd_core.specs.declared.Spot.TheVariants.{Slot, Global}
@@ -7,8 +7,11 @@ use Rattle.sd_core.specs.Store.{Store, map_store}
 use Rattle.sd_term.specs.Tree.{Tree}
 use Rattle.sd_term.specs.Bank.{tree_at}
 use Rattle.sd_vcgen.specs.Body.{State, outs_of}
+use Rattle.sd_vcgen.specs.Body as spec
 use Rattle.sd_vcgen.specs.declared.body.BodyTerms.{BodyTerms}
 use Rattle.sd_vcgen.specs.declared.body.BodyState.{BodyState}
+use Rattle.sd_vcgen.specs.declared.call.Context.{Context}
+use Rattle.sd_vcgen.specs.declared.call.Site.{Site}
 use Rattle.sd_vcgen.specs.declared.spots.Spots.{Spots}
 
 -- the number is one of the bank, and stands for the tree
@@ -21,12 +24,34 @@ pub record DenoteAll (bank : List Tree) (ids : List ℕ) (ts : List Tree) : Type
   pub within : All (λ id. id < length bank) ids
   pub trees : map (tree_at bank) ids ≡ ts
 
+-- the record of a call stands for this one
+pub record DenotesSite (bank : List Tree) (n : Site) (s : spec.Site) : Type 0 where
+  pub callee : n.callee ≡ s.callee
+  pub guard : Denotes bank n.guard s.guard
+  pub args : DenoteAll bank n.args s.args
+  pub before : DenoteAll bank n.before s.before
+  pub outs : DenoteAll bank n.outs s.outs
+  pub after : DenoteAll bank n.after s.after
+  pub flag : Denotes bank n.flag s.flag
+
+-- one by one
+abbrev pub DenoteSites : List Tree → List Site → List spec.Site → Type 0
+DenoteSites bank [] [] = Unit {0}
+DenoteSites bank [] (s ∷ ss) = ⊥
+DenoteSites bank (n ∷ ns) [] = ⊥
+DenoteSites bank (n ∷ ns) (s ∷ ss) = DenotesSite bank n s × DenoteSites bank ns ss
+
 -- the terms of a body, which ended in this state
 pub record AreTermsOf (bank : List Tree) (terms : BodyTerms) (p : CoreProc) (s : State) : Type 0 where
   pub outs : DenoteAll bank terms.outs (outs_of p s)
   pub globals : DenoteAll bank terms.globals s.store.globals
   pub flag : Denotes bank terms.flag s.flag
   pub assumes : DenoteAll bank terms.assumes s.assumes
+  pub sites : DenoteSites bank terms.sites s.sites
+
+-- what a body is run in
+abbrev pub context_of : Context → spec.Context
+context_of c = record { program = c.program.now; quiet = λ q. get_or c.quiet.now q false }
 
 -- ---- while it runs
 
@@ -55,6 +80,23 @@ pub record Stands (bank : List Tree) (n : BodyState) (s : State) : Type 0 where
   pub flag : Denotes bank n.flag s.flag
   pub gone : Denotes bank n.gone s.gone
   pub assumes : DenoteAll bank n.assumes s.assumes
+  pub sites : DenoteSites bank n.sites s.sites
+
+-- the record of trees that a record of numbers stands for
+abbrev pub site_at : List Tree → Site → spec.Site
+site_at bank n = record {
+  callee = n.callee;
+  guard = tree_at bank n.guard;
+  args = map (tree_at bank) n.args;
+  before = map (tree_at bank) n.before;
+  outs = map (tree_at bank) n.outs;
+  after = map (tree_at bank) n.after;
+  flag = tree_at bank n.flag;
+}
+
+-- its numbers are in the bank
+abbrev pub IsSiteWithin : List Tree → Site → Type 0
+IsSiteWithin bank n = DenotesSite bank n (site_at bank n)
 
 -- the state of trees that it stands for
 abbrev pub state_of : List Tree → BodyState → State
@@ -63,6 +105,7 @@ state_of bank n = record {
   flag = tree_at bank n.flag;
   gone = tree_at bank n.gone;
   assumes = map (tree_at bank) n.assumes;
+  sites = map (site_at bank) n.sites;
 }
 
 -- its numbers are in the bank

@@ -1,5 +1,5 @@
 //! The statements of a body run on terms, under a path that says when they are reached.
-ghost use Rattle.std.specs.Prelude.{◌≡◌, ◌<◌, [], ◌∷◌, ◌++◌, IfOk, OnOk, All, length, map};
+ghost use Rattle.std.specs.Prelude.{◌≡◌, ◌<◌, ◌+◌, [], ◌∷◌, ◌++◌, IfOk, OnOk, All, length, map};
 ghost use Rattle.sd_core.specs.declared.CoreStmt.{Assign, Assume};
 ghost use Rattle.sd_core.specs.Run.{out_spots};
 ghost use Rattle.sd_core.specs.Store.{read};
@@ -8,60 +8,74 @@ ghost use Rattle.sd_term.specs.Tree.{leaf};
 ghost use Rattle.sd_term.specs.Bank.{tree_at};
 ghost use Rattle.sd_term.specs.Build.{Extends, not_of, and_of};
 ghost use Rattle.sd_vcgen.specs.Body as spec;
-ghost use Rattle.sd_vcgen.specs.Body.{nothing, term_in, guard_of, assign, step, all_steps, begun};
-ghost use Rattle.sd_vcgen.specs.Numbers.{Denotes, DenoteAll, AreWithin, store_of, AreTermsOf, Stands, state_of, IsWithin};
+ghost use Rattle.sd_vcgen.specs.Body.{nothing, term_in, guard_of, assign, step, all_steps, begun, count, count_all};
+ghost use Rattle.sd_vcgen.specs.Numbers.{Denotes, DenoteAll, AreWithin, store_of, AreTermsOf, Stands, state_of, IsWithin, context_of};
 
+use crate::call::{Context, Site, run_call};
 use crate::expression::{put_expression, put_expressions};
 use crate::spots::{Spots, hold, put_slot, put_spot, put_truth};
 use sd_base::{CloneOf, NoMemory, Var};
-use sd_core::{CoreExpr, CoreProc, CoreStmt, Function, Spot};
+use sd_core::{CoreExpr, CoreProc, CoreStmt, Spot};
 use sd_term::{Bank, Head, TermId};
 use sqlite_items::Items;
 use std::alloc::Global;
 
-/// The terms of a body: what its out-parameters and the globals hold at its end, where it fails an assertion, and what it assumes.
+/// The terms of a body: what its out-parameters and the globals hold at its end, where it fails an assertion, what it assumes, and its calls.
 #[derive(Drop)]
 pub struct BodyTerms {
     pub outs: Items<TermId>,
     pub globals: Items<TermId>,
     pub flag: TermId,
     pub assumes: Items<TermId>,
+    pub sites: Items<Site>,
+    /// The number after those of its symbols.
+    pub next: u32,
 }
 
-/// What the spots hold, whether an assertion has failed, whether the body has ended, and what it assumes.
+/// What the spots hold, whether an assertion has failed, whether the body has ended, what it assumes, its calls, and the number of
+/// its next symbol.
 #[derive(Drop)]
 pub(crate) struct BodyState {
-    spots: Spots,
-    flag: TermId,
-    gone: TermId,
-    assumes: Items<TermId>,
+    pub(crate) spots: Spots,
+    pub(crate) flag: TermId,
+    pub(crate) gone: TermId,
+    pub(crate) assumes: Items<TermId>,
+    pub(crate) sites: Items<Site>,
+    pub(crate) next: u32,
 }
 
-/// The terms of a procedure's body, from these terms of its in-parameters and of the globals.
+/// The terms of a procedure's body, from these terms of its in-parameters and of the globals, with symbols by ascending number from
+/// `first` on. Where no `u32` holds the next number, it is answered as want of memory.
 ///
 /// A statement counts where its path is taken, which joins the conditions of the choices around it, and where the body
-/// hasn't ended before it. An assignment keeps the old term elsewhere (Lahiri and others 2012).
+/// hasn't ended before it. An assignment keeps the old term elsewhere (Lahiri and others 2012). What a call leaves in the outs of its
+/// callee and in the globals that the callee modifies are symbols, and so is its flag where the callee isn't quiet (Hawblitzel and
+/// others 2013).
 pub fn body_of(
     alloc: Global,
     bank: &mut Bank,
-    functions: &[Function],
+    context: &Context<'_>,
     procedure: &CoreProc,
+    first: u32,
     ins: &[TermId],
     globals: &[TermId],
 ) -> Result<BodyTerms, NoMemory>
     requires ins { All (λ id. id < length bank.old) ins.now }
     requires globals { All (λ id. id < length bank.old) globals.now }
-    ensures terms { IfOk result (λ terms. AreTermsOf bank.new terms procedure.now (spec.body_of functions.now procedure.now (map (tree_at bank.old) ins.now) (map (tree_at bank.old) globals.now))) }
+    ensures terms { IfOk result (λ terms. AreTermsOf bank.new terms procedure.now (spec.body_of (context_of context.now) procedure.now first (map (tree_at bank.old) ins.now) (map (tree_at bank.old) globals.now))) }
+    ensures next { IfOk result (λ terms. terms.next ≡ first + count_all (context_of context.now) procedure.now.body) }
     ensures kept { OnOk result (Extends bank.old bank.new) }
 {
-    let mut state = begin(alloc, bank, procedure, ins, globals)?;
+    let mut state = begin(alloc, bank, procedure, first, ins, globals)?;
     let path = put_truth(bank, true)?;
-    run_statements(bank, functions, &mut state, path, procedure.body.as_slice())?;
+    run_statements(bank, context, &mut state, path, procedure.body.as_slice())?;
     let outs = put_outs(alloc, bank, &state.spots, procedure)?;
     let BodyState {
         spots,
         flag,
         assumes,
+        sites,
+        next,
         ..
     } = state;
     Ok(BodyTerms {
@@ -69,6 +83,8 @@ pub fn body_of(
         globals: spots.globals,
         flag,
         assumes,
+        sites,
+        next,
     })
 }
 
@@ -77,12 +93,14 @@ fn begin(
     alloc: Global,
     bank: &mut Bank,
     procedure: &CoreProc,
+    first: u32,
     ins: &[TermId],
     globals: &[TermId],
 ) -> Result<BodyState, NoMemory>
     requires ins { All (λ id. id < length bank.old) ins.now }
     requires globals { All (λ id. id < length bank.old) globals.now }
     ensures state { IfOk result (λ s. Stands bank.new s (begun procedure.now (map (tree_at bank.old) ins.now) (map (tree_at bank.old) globals.now))) }
+    ensures next { IfOk result (λ s. s.next ≡ first) }
     ensures kept { OnOk result (Extends bank.old bank.new) }
 {
     let flag = put_truth(bank, false)?;
@@ -96,6 +114,8 @@ fn begin(
         flag,
         gone,
         assumes: Items::new(alloc),
+        sites: Items::new(alloc),
+        next: first,
     })
 }
 
@@ -142,7 +162,7 @@ fn put_outs(
 // ---- statements
 
 /// The term that is true where a statement on the path counts.
-fn put_guard(bank: &mut Bank, gone: TermId, path: TermId) -> Result<TermId, NoMemory>
+pub(crate) fn put_guard(bank: &mut Bank, gone: TermId, path: TermId) -> Result<TermId, NoMemory>
     requires gone { gone < length bank.old }
     requires path { path < length bank.old }
     ensures term { IfOk result (λ id. Denotes bank.new id (and_of (tree_at bank.old path) (not_of (tree_at bank.old gone)))) }
@@ -154,7 +174,7 @@ fn put_guard(bank: &mut Bank, gone: TermId, path: TermId) -> Result<TermId, NoMe
 }
 
 /// Each target takes its new term where the guard is true.
-fn assign(
+pub(crate) fn assign(
     bank: &mut Bank,
     spots: &mut Spots,
     guard: TermId,
@@ -196,7 +216,7 @@ fn assign_one(
 
 fn run_assignment(
     bank: &mut Bank,
-    functions: &[Function],
+    context: &Context<'_>,
     state: &mut BodyState,
     path: TermId,
     targets: &[Spot],
@@ -204,9 +224,11 @@ fn run_assignment(
 ) -> Result<(), NoMemory>
     requires state { IsWithin bank.old state.old }
     requires path { path < length bank.old }
-    ensures state { OnOk result (Stands bank.new state.new (step functions.now (Assign targets.now rights.now) (tree_at bank.old path) (state_of bank.old state.old))) }
+    ensures state { OnOk result (Stands bank.new state.new (step (context_of context.now) (Assign targets.now rights.now) state.old.next (tree_at bank.old path) (state_of bank.old state.old))) }
+    ensures next { OnOk result (state.new.next ≡ state.old.next) }
     ensures kept { OnOk result (Extends bank.old bank.new) }
 {
+    let functions = context.program.functions.as_slice();
     let news = put_expressions(bank, functions, &state.spots, rights)?;
     let guard = put_guard(bank, state.gone, path)?;
     assign(bank, &mut state.spots, guard, targets, news.as_slice())?;
@@ -215,16 +237,18 @@ fn run_assignment(
 
 fn run_assumption(
     bank: &mut Bank,
-    functions: &[Function],
+    context: &Context<'_>,
     state: &mut BodyState,
     path: TermId,
     condition: &CoreExpr,
 ) -> Result<(), NoMemory>
     requires state { IsWithin bank.old state.old }
     requires path { path < length bank.old }
-    ensures state { OnOk result (Stands bank.new state.new (step functions.now (Assume condition.now) (tree_at bank.old path) (state_of bank.old state.old))) }
+    ensures state { OnOk result (Stands bank.new state.new (step (context_of context.now) (Assume condition.now) state.old.next (tree_at bank.old path) (state_of bank.old state.old))) }
+    ensures next { OnOk result (state.new.next ≡ state.old.next) }
     ensures kept { OnOk result (Extends bank.old bank.new) }
 {
+    let functions = context.program.functions.as_slice();
     let holds = put_expression(bank, functions, &state.spots, condition)?;
     let guard = put_guard(bank, state.gone, path)?;
     let elsewhere = bank.not(guard)?;
@@ -234,10 +258,11 @@ fn run_assumption(
 }
 
 /// The body ends where the guard is true, with its flag up.
-fn fail(bank: &mut Bank, state: &mut BodyState, guard: TermId) -> Result<(), NoMemory>
+pub(crate) fn fail(bank: &mut Bank, state: &mut BodyState, guard: TermId) -> Result<(), NoMemory>
     requires state { IsWithin bank.old state.old }
     requires guard { guard < length bank.old }
     ensures state { OnOk result (Stands bank.new state.new (spec.fail (tree_at bank.old guard) (state_of bank.old state.old))) }
+    ensures next { OnOk result (state.new.next ≡ state.old.next) }
     ensures kept { OnOk result (Extends bank.old bank.new) }
 {
     let flag = bank.or(state.flag, guard)?;
@@ -252,6 +277,7 @@ fn leave(bank: &mut Bank, state: &mut BodyState, guard: TermId) -> Result<(), No
     requires state { IsWithin bank.old state.old }
     requires guard { guard < length bank.old }
     ensures state { OnOk result (Stands bank.new state.new (spec.leave (tree_at bank.old guard) (state_of bank.old state.old))) }
+    ensures next { OnOk result (state.new.next ≡ state.old.next) }
     ensures kept { OnOk result (Extends bank.old bank.new) }
 {
     state.gone = bank.or(state.gone, guard)?;
@@ -262,6 +288,7 @@ fn run_failure(bank: &mut Bank, state: &mut BodyState, path: TermId) -> Result<(
     requires state { IsWithin bank.old state.old }
     requires path { path < length bank.old }
     ensures state { OnOk result (Stands bank.new state.new (spec.fail (guard_of (tree_at bank.old path) (state_of bank.old state.old)) (state_of bank.old state.old))) }
+    ensures next { OnOk result (state.new.next ≡ state.old.next) }
     ensures kept { OnOk result (Extends bank.old bank.new) }
 {
     let guard = put_guard(bank, state.gone, path)?;
@@ -272,6 +299,7 @@ fn run_return(bank: &mut Bank, state: &mut BodyState, path: TermId) -> Result<()
     requires state { IsWithin bank.old state.old }
     requires path { path < length bank.old }
     ensures state { OnOk result (Stands bank.new state.new (spec.leave (guard_of (tree_at bank.old path) (state_of bank.old state.old)) (state_of bank.old state.old))) }
+    ensures next { OnOk result (state.new.next ≡ state.old.next) }
     ensures kept { OnOk result (Extends bank.old bank.new) }
 {
     let guard = put_guard(bank, state.gone, path)?;
@@ -287,18 +315,19 @@ struct Branches {
 
 fn put_branches(
     bank: &mut Bank,
-    functions: &[Function],
+    context: &Context<'_>,
     state: &BodyState,
     path: TermId,
     condition: &CoreExpr,
 ) -> Result<Branches, NoMemory>
     requires state { IsWithin bank.old state.now }
     requires path { path < length bank.old }
-    ensures then_path { IfOk result (λ b. Denotes bank.new b.then_path (and_of (tree_at bank.old path) (term_in functions.now (state_of bank.old state.now).store condition.now))) }
-    ensures else_path { IfOk result (λ b. Denotes bank.new b.else_path (and_of (tree_at bank.old path) (not_of (term_in functions.now (state_of bank.old state.now).store condition.now)))) }
+    ensures then_path { IfOk result (λ b. Denotes bank.new b.then_path (and_of (tree_at bank.old path) (term_in context.now.program.now.functions (state_of bank.old state.now).store condition.now))) }
+    ensures else_path { IfOk result (λ b. Denotes bank.new b.else_path (and_of (tree_at bank.old path) (not_of (term_in context.now.program.now.functions (state_of bank.old state.now).store condition.now)))) }
     ensures state { OnOk result (IsWithin bank.new state.now) }
     ensures kept { OnOk result (Extends bank.old bank.new) }
 {
+    let functions = context.program.functions.as_slice();
     let holds = put_expression(bank, functions, &state.spots, condition)?;
     let then_path = bank.and(path, holds)?;
     let fails = bank.not(holds)?;
@@ -312,34 +341,42 @@ fn put_branches(
 #[cycle(statement)]
 fn run_statement(
     bank: &mut Bank,
-    functions: &[Function],
+    context: &Context<'_>,
     state: &mut BodyState,
     path: TermId,
     statement: &CoreStmt,
 ) -> Result<(), NoMemory>
     requires state { IsWithin bank.old state.old }
     requires path { path < length bank.old }
-    ensures state { OnOk result (Stands bank.new state.new (step functions.now statement.now (tree_at bank.old path) (state_of bank.old state.old))) }
+    ensures state { OnOk result (Stands bank.new state.new (step (context_of context.now) statement.now state.old.next (tree_at bank.old path) (state_of bank.old state.old))) }
+    ensures next { OnOk result (state.new.next ≡ state.old.next + count (context_of context.now) statement.now) }
     ensures within { OnOk result (IsWithin bank.new state.new) }
     ensures kept { OnOk result (Extends bank.old bank.new) }
 {
     match statement {
         CoreStmt::Assign(targets, rights) => run_assignment(
             bank,
-            functions,
+            context,
             state,
             path,
             targets.as_slice(),
             rights.as_slice(),
         ),
         CoreStmt::If(condition, yes, no) => {
-            let paths = put_branches(bank, functions, state, path, condition)?;
-            run_statements(bank, functions, state, paths.then_path, yes.as_slice())?;
-            run_statements(bank, functions, state, paths.else_path, no.as_slice())
+            let paths = put_branches(bank, context, state, path, condition)?;
+            run_statements(bank, context, state, paths.then_path, yes.as_slice())?;
+            run_statements(bank, context, state, paths.else_path, no.as_slice())
         }
-        // Calls aren't turned into terms yet.
-        CoreStmt::Call(..) => Ok(()),
-        CoreStmt::Assume(condition) => run_assumption(bank, functions, state, path, condition),
+        CoreStmt::Call(receivers, callee, args) => run_call(
+            bank,
+            context,
+            state,
+            path,
+            receivers.as_slice(),
+            *callee,
+            args.as_slice(),
+        ),
+        CoreStmt::Assume(condition) => run_assumption(bank, context, state, path, condition),
         CoreStmt::Fail => run_failure(bank, state, path),
         CoreStmt::Return => run_return(bank, state, path),
     }
@@ -348,19 +385,20 @@ fn run_statement(
 #[cycle(statement)]
 fn run_statements(
     bank: &mut Bank,
-    functions: &[Function],
+    context: &Context<'_>,
     state: &mut BodyState,
     path: TermId,
     statements: &[CoreStmt],
 ) -> Result<(), NoMemory>
     requires state { IsWithin bank.old state.old }
     requires path { path < length bank.old }
-    ensures state { OnOk result (Stands bank.new state.new (all_steps functions.now statements.now (tree_at bank.old path) (state_of bank.old state.old))) }
+    ensures state { OnOk result (Stands bank.new state.new (all_steps (context_of context.now) statements.now state.old.next (tree_at bank.old path) (state_of bank.old state.old))) }
+    ensures next { OnOk result (state.new.next ≡ state.old.next + count_all (context_of context.now) statements.now) }
     ensures within { OnOk result (IsWithin bank.new state.new) }
     ensures kept { OnOk result (Extends bank.old bank.new) }
 {
     for statement in statements {
-        run_statement(bank, functions, state, path, statement)?;
+        run_statement(bank, context, state, path, statement)?;
     }
     Ok(())
 }

@@ -69,7 +69,7 @@ pub(crate) fn hold(spots: &mut Spots, spot: Spot, term: TermId)
     }
 }
 
-fn set_at(terms: &mut Items<TermId>, place: usize, term: TermId)
+pub(crate) fn set_at(terms: &mut Items<TermId>, place: usize, term: TermId)
     ensures { terms.new ≡ slice_set terms.old place term }
 {
     if place < terms.len() {

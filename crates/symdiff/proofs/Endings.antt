@@ -13,9 +13,10 @@ use Rattle.symdiff.specs.declared.text.TextRefusal.TheVariants.{Reading, Typing,
 use Rattle.symdiff.specs.TextRefusals.{refusal_status}
 use Rattle.symdiff.specs.Words.{JobNames, verify, job_of}
 use Rattle.symdiff.specs.Report.{is_safe}
+use Rattle.sd_product.specs.Work.{Held}
 use Rattle.symdiff.specs.Texts.{Texts}
 use Rattle.symdiff.specs.Outcome.{Outcome, message, status_of, IsCertified}
-use Rattle.symdiff.specs.Answer.{Answer, no_job, old_refused, new_refused, compared, too_long, certificate_refused, replayed, Headline, UnknownIsFailure, CertificateWriteRose}
+use Rattle.symdiff.specs.Answer.{Answer, no_job, old_refused, new_refused, clashing, compared, too_long, certificate_refused, replayed, Headline, UnknownIsFailure, CertificateWriteRose}
 use Rattle.symdiff.specs.Writing.{outcome, IsBroken, FilesAfter, FileRose}
 use Rattle.symdiff.proofs.Rows.{row_known, row_headline, row_unknown}
 
@@ -51,6 +52,7 @@ module _ (words : List (List ℕ)) (held : List ℕ → Option (List ℕ)) (o : 
   row_apart (no_job a is) h = status_apart o 2 _ is (λ e. omega arith) (λ e. omega arith) h
   row_apart (old_refused job r a b is) h = refusal_apart r o.status (sym (ap (λ (p : Outcome). p.status) is)) h
   row_apart (new_refused job old r a b c is) h = refusal_apart r o.status (sym (ap (λ (p : Outcome). p.status) is)) h
+  row_apart (clashing job t r a b c is) h = status_apart o 4 _ is (λ e. omega arith) (λ e. omega arith) h
   row_apart (compared job t name a b c r) h = zero_one_apart (list_all (λ v. is_safe v.state) o.pairs) o.status r.told.status h
   row_apart (too_long job t name a b c d is) h = status_apart o 9 _ is (λ e. omega arith) (λ e. omega arith) h
   row_apart (certificate_refused job t name bytes e a b c d r is) h = status_apart o 5 _ is (λ e. omega arith) (λ e. omega arith) h
@@ -69,17 +71,18 @@ module _ (words : List (List ℕ)) (held : List ℕ → Option (List ℕ)) (o : 
   message_file : (file : List ℕ × List ℕ) (code : ℕ) (text : List ℕ) → o ≡ message code text → o.certificate ≡ Some file → ⊥
   message_file file code text is some = no_file file o.certificate (ap (λ (p : Outcome). p.certificate) is) some
 
-  certified_file : (t : Texts) (live : List Bool) (name : Option (List ℕ)) (certificate : Option (List ℕ × List ℕ)) (file : List ℕ × List ℕ) → IsCertified t live name certificate → certificate ≡ Some file → name ≡ Some file.0
-  certified_file t live None None file h e = absurd (no_file file None refl e)
-  certified_file t live (Some name) (Some made) file h e = let same : made ≡ file = cc in ap Some (sym h.0 ∙ ap (λ (f : List ℕ × List ℕ). f.0) same)
-  certified_file t live None (Some made) file h e = absurd h
-  certified_file t live (Some name) None file h e = absurd h
+  certified_file : (t : Texts) (w : Held) (live : List Bool) (name : Option (List ℕ)) (certificate : Option (List ℕ × List ℕ)) (file : List ℕ × List ℕ) → IsCertified t w live name certificate → certificate ≡ Some file → name ≡ Some file.0
+  certified_file t w live None None file h e = absurd (no_file file None refl e)
+  certified_file t w live (Some name) (Some made) file h e = let same : made ≡ file = cc in ap Some (sym h.0 ∙ ap (λ (f : List ℕ × List ℕ). f.0) same)
+  certified_file t w live None (Some made) file h e = absurd h
+  certified_file t w live (Some name) None file h e = absurd h
 
   row_file : (file : List ℕ × List ℕ) → Answer words held o → o.certificate ≡ Some file → NamesFile file
   row_file file (no_job a is) e = absurd (message_file file 2 _ is e)
   row_file file (old_refused job r a b is) e = absurd (message_file file (refusal_status r) _ is e)
   row_file file (new_refused job old r a b c is) e = absurd (message_file file (refusal_status r) _ is e)
-  row_file file (compared job t name a b c r) e = record { job = job; named = a; task = b ∙ ap verify (certified_file t r.live name o.certificate file r.certified e) }
+  row_file file (clashing job t r a b c is) e = absurd (message_file file 4 _ is e)
+  row_file file (compared job t name a b c r) e = record { job = job; named = a; task = b ∙ ap verify (certified_file t r.work r.live name o.certificate file r.certified e) }
   row_file file (too_long job t name a b c d is) e = absurd (message_file file 9 _ is e)
   row_file file (certificate_refused job t name bytes x a b c d r is) e = absurd (message_file file 5 _ is e)
   row_file file (replayed job t name bytes a b c d r) e = absurd (no_file file o.certificate r.no_certificate e)

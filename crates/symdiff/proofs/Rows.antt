@@ -6,33 +6,37 @@ use Rattle.sd_base.specs.Causes.{Rose}
 use Rattle.sd_base.specs.Outside.{WhereTold}
 use Rattle.sd_ast.specs.declared.Program.{Program}
 use Rattle.symdiff.specs.declared.verdict.PairVerdict.{PairVerdict}
-use Rattle.symdiff.specs.Words.{JobNames, replay, job_of}
+use Rattle.symdiff.specs.Words.{Task, JobNames, verify, replay, job_of}
 use Rattle.symdiff.specs.Report.{is_safe}
 use Rattle.sd_parse.specs.declared.answer.ReadError.TheVariants as read
 use Rattle.symdiff.specs.declared.text.TextRefusal.{TextRefusal}
 use Rattle.symdiff.specs.declared.text.TextRefusal.TheVariants.{Reading, Typing, NotYet}
-use Rattle.symdiff.specs.declared.extracted.Text.{Text}
+use Rattle.symdiff.specs.declared.text.Text.{Text}
 use Rattle.symdiff.specs.declared.text.TextFault.{TextFault}
 use Rattle.symdiff.specs.declared.text.TextFault.TheVariants.{Memory, Failed, Refused}
 use Rattle.symdiff.specs.TextRefusals.{IsTaken, IsTextRefusal, refusal_status}
-use Rattle.symdiff.specs.Texts.{Holds, Texts, AreRead}
+use Rattle.sd_extract.specs.Form.{IsStraightProgram}
+use Rattle.sd_match.specs.Refusals.{Refusal, Answers, global_types, function_signatures}
+use Rattle.sd_match.specs.declared.refusal.MatchError.{MatchError}
+use Rattle.sd_match.specs.declared.refusal.MatchError.TheVariants as matching
+use Rattle.symdiff.specs.Texts.{Holds, Texts, AreRead, AreMatched, clash_of}
 use Rattle.symdiff.specs.Outcome.{Outcome, message, status_of}
-use Rattle.symdiff.specs.Replies.{IsTextReply, IsReplayReply}
+use Rattle.symdiff.specs.Replies.{IsTextReply, IsClashReply, IsTextsReply, IsReplayReply}
 use Rattle.symdiff.specs.Verdicts.{NoNewFailure, AreNewFailures}
-use Rattle.symdiff.specs.Answer.{Answer, no_job, old_refused, new_refused, compared, too_long, certificate_refused, replayed, ForPrograms, Headline, UnknownIsFailure}
+use Rattle.symdiff.specs.Answer.{Answer, no_job, old_refused, new_refused, clashing, compared, too_long, certificate_refused, replayed, ForPrograms, Headline, UnknownIsFailure, CertificateRose}
 use Rattle.symdiff.proofs.Comparison.{compared_right, replayed_right, right_safe, right_unknown, one_taken}
 
 abbrev codes_known : List ℕ
-codes_known = 0 ∷ 1 ∷ 2 ∷ 3 ∷ 5 ∷ 6 ∷ 7 ∷ 8 ∷ 9 ∷ []
+codes_known = 0 ∷ 1 ∷ 2 ∷ 3 ∷ 4 ∷ 5 ∷ 6 ∷ 7 ∷ 8 ∷ 9 ∷ []
 
 pub six_known : Contains codes_known 6
-six_known = (5, omega arith, refl)
+six_known = (6, omega arith, refl)
 
 pub seven_known : Contains codes_known 7
-seven_known = (6, omega arith, refl)
+seven_known = (7, omega arith, refl)
 
 pub eight_known : Contains codes_known 8
-eight_known = (7, omega arith, refl)
+eight_known = (8, omega arith, refl)
 
 pub known_by : (code m : ℕ) → code ≡ m → Contains codes_known m → Contains codes_known code
 known_by code m e h = subst (λ (n : ℕ). Contains codes_known n) (sym e) h
@@ -45,7 +49,7 @@ three_known : Contains codes_known 3
 three_known = (3, omega arith, refl)
 
 nine_known : Contains codes_known 9
-nine_known = (8, omega arith, refl)
+nine_known = (9, omega arith, refl)
 
 refusal_known : (r : TextRefusal) → Contains codes_known (refusal_status r)
 refusal_known (Reading read.TooLong) = nine_known
@@ -67,9 +71,10 @@ module _ (words : List (List ℕ)) (held : List ℕ → Option (List ℕ)) (o : 
   row_known (no_job a is) = known_by o.status 2 (status_is o 2 _ is) (2, omega arith, refl)
   row_known (old_refused job r a b is) = known_by o.status (refusal_status r) (status_is o (refusal_status r) _ is) (refusal_known r)
   row_known (new_refused job old r a b c is) = known_by o.status (refusal_status r) (status_is o (refusal_status r) _ is) (refusal_known r)
+  row_known (clashing job t r a b c is) = known_by o.status 4 (status_is o 4 _ is) (4, omega arith, refl)
   row_known (compared job t name a b c r) = known_by o.status (status_of o.pairs) r.told.status (zero_or_one (list_all (λ v. is_safe v.state) o.pairs))
-  row_known (too_long job t name a b c d is) = known_by o.status 9 (status_is o 9 _ is) (8, omega arith, refl)
-  row_known (certificate_refused job t name bytes e a b c d r is) = known_by o.status 5 (status_is o 5 _ is) (4, omega arith, refl)
+  row_known (too_long job t name a b c d is) = known_by o.status 9 (status_is o 9 _ is) nine_known
+  row_known (certificate_refused job t name bytes e a b c d r is) = known_by o.status 5 (status_is o 5 _ is) (5, omega arith, refl)
   row_known (replayed job t name bytes a b c d r) = known_by o.status (status_of o.pairs) r.told.status (zero_or_one (list_all (λ v. is_safe v.state) o.pairs))
 
   same_job : (a b : JobNames) → job_of words ≡ Some a → job_of words ≡ Some b → a ≡ b
@@ -95,24 +100,29 @@ module _ (words : List (List ℕ)) (held : List ℕ → Option (List ℕ)) (o : 
   row_headline (no_job a is) = silent_for NoNewFailure (λ P Q. tt) 2 _ is
   row_headline (old_refused job r a b is) = silent_for NoNewFailure (λ P Q. tt) (refusal_status r) _ is
   row_headline (new_refused job old r a b c is) = silent_for NoNewFailure (λ P Q. tt) (refusal_status r) _ is
+  row_headline (clashing job t r a b c is) = silent_for NoNewFailure (λ P Q. tt) 4 _ is
   row_headline (compared job t name a b c r) =
-      texts_for NoNewFailure (λ P Q. tt) job t a c (right_safe t c.old_read c.new_read o.pairs (compared_right t c.old_read c.new_read name o r))
+      let s = c.are_read in texts_for NoNewFailure (λ P Q. tt) job t a s (right_safe t s.old_read s.new_read o.pairs (compared_right t s.old_read s.new_read name o r))
   row_headline (too_long job t name a b c d is) = silent_for NoNewFailure (λ P Q. tt) 9 _ is
   row_headline (certificate_refused job t name bytes e a b c d r is) = silent_for NoNewFailure (λ P Q. tt) 5 _ is
   row_headline (replayed job t name bytes a b c d r) =
-      texts_for NoNewFailure (λ P Q. tt) job t a c (right_safe t c.old_read c.new_read o.pairs (replayed_right t c.old_read c.new_read bytes o r))
+      let s = c.are_read in texts_for NoNewFailure (λ P Q. tt) job t a s (right_safe t s.old_read s.new_read o.pairs (replayed_right t s.old_read s.new_read bytes o r))
 
-  -- and an unknown pair has a failure
+  -- and an unknown pair has a failure, without calls and loops
+  abbrev Unknowns : Program → Program → List PairVerdict → Type 0
+  Unknowns P Q pairs = IsStraightProgram P → IsStraightProgram Q → AreNewFailures P Q pairs
+
   pub row_unknown : Answer words held o → UnknownIsFailure words held o.pairs
-  row_unknown (no_job a is) = silent_for AreNewFailures (λ P Q. tt) 2 _ is
-  row_unknown (old_refused job r a b is) = silent_for AreNewFailures (λ P Q. tt) (refusal_status r) _ is
-  row_unknown (new_refused job old r a b c is) = silent_for AreNewFailures (λ P Q. tt) (refusal_status r) _ is
+  row_unknown (no_job a is) = silent_for Unknowns (λ P Q p q. tt) 2 _ is
+  row_unknown (old_refused job r a b is) = silent_for Unknowns (λ P Q p q. tt) (refusal_status r) _ is
+  row_unknown (new_refused job old r a b c is) = silent_for Unknowns (λ P Q p q. tt) (refusal_status r) _ is
+  row_unknown (clashing job t r a b c is) = silent_for Unknowns (λ P Q p q. tt) 4 _ is
   row_unknown (compared job t name a b c r) =
-      texts_for AreNewFailures (λ P Q. tt) job t a c (right_unknown t c.old_read c.new_read o.pairs (compared_right t c.old_read c.new_read name o r))
-  row_unknown (too_long job t name a b c d is) = silent_for AreNewFailures (λ P Q. tt) 9 _ is
-  row_unknown (certificate_refused job t name bytes e a b c d r is) = silent_for AreNewFailures (λ P Q. tt) 5 _ is
+      let s = c.are_read in texts_for Unknowns (λ P Q p q. tt) job t a s (right_unknown t s.old_read s.new_read o.pairs (compared_right t s.old_read s.new_read name o r))
+  row_unknown (too_long job t name a b c d is) = silent_for Unknowns (λ P Q p q. tt) 9 _ is
+  row_unknown (certificate_refused job t name bytes e a b c d r is) = silent_for Unknowns (λ P Q p q. tt) 5 _ is
   row_unknown (replayed job t name bytes a b c d r) =
-      texts_for AreNewFailures (λ P Q. tt) job t a c (right_unknown t c.old_read c.new_read o.pairs (replayed_right t c.old_read c.new_read bytes o r))
+      let s = c.are_read in texts_for Unknowns (λ P Q p q. tt) job t a s (right_unknown t s.old_read s.new_read o.pairs (replayed_right t s.old_read s.new_read bytes o r))
 
 -- ---- rows
 
@@ -141,18 +151,39 @@ new_row words held o job old Memory named taken refused h = absurd h
 new_row words held o job old Failed named taken refused h = absurd h
 new_row words held o job old (Refused r) named taken refused h = new_refused job old r named taken (refused r refl) h
 
-pub replay_row : (words : List (List ℕ)) (held : List ℕ → Option (List ℕ)) (o : Outcome) (job : JobNames) (t : Texts) (name : List ℕ) (told : Option (List ℕ)) → job_of words ≡ Some job → job.task ≡ replay name → AreRead held job t → told ≡ held name → IsReplayReply told t o → Answer words held o
+pub replay_row : (words : List (List ℕ)) (held : List ℕ → Option (List ℕ)) (o : Outcome) (job : JobNames) (t : Texts) (name : List ℕ) (told : Option (List ℕ)) → job_of words ≡ Some job → job.task ≡ replay name → AreMatched held job t → told ≡ held name → IsReplayReply told t o → Answer words held o
 replay_row words held o job t name told named task read same (inl h) = too_long job t name named task read (λ bytes e. h.0 bytes (same ∙ e)) h.1
 replay_row words held o job t name told named task read same (inr (bytes, holds, inl r)) = replayed job t name bytes named task read (λ b e. holds b (same ∙ e)) r
 replay_row words held o job t name told named task read same (inr (bytes, holds, inr (e, r, is))) = certificate_refused job t name bytes e named task read (λ b k. holds b (same ∙ k)) r is
+
+-- a count that rose later rose
+pub rose_later : (before mid now : ℕ) → mid ≡ before → Rose mid now → Rose before now
+rose_later before mid now same rose = subst (λ (n : ℕ). Rose n now) same rose
+
+-- the reply to texts that clash
+pub clash_reply : (task : Task) (held : List ℕ → Option (List ℕ)) (t : Texts) (e : MatchError) (o : Outcome) → Answers e (clash_of t) → IsClashReply e o → IsTextsReply task held t o
+clash_reply task held t matching.NoMemory o told h = absurd h
+clash_reply task held t (matching.GlobalTypes x) o told h = inl (global_types x, told, h)
+clash_reply task held t (matching.FunctionSignatures f) o told h = inl (function_signatures f, told, h)
+
+-- the row of two texts that were read, while the files stay
+pub texts_row : (words : List (List ℕ)) (held mid : List ℕ → Option (List ℕ)) (o : Outcome) (job : JobNames) (t : Texts) → job_of words ≡ Some job → AreRead held job t → ((name : List ℕ) → mid name ≡ held name)
+    → IsTextsReply job.task mid t o → Answer words held o
+texts_row words held mid o job t named read same h = go job.task refl h
+  where
+    go : (k : Task) → job.task ≡ k → IsTextsReply k mid t o → Answer words held o
+    go k e (inl (r, clash, is)) = clashing job t r named read clash is
+    go (verify name) e (inr (none, reply)) = compared job t name named e (record { are_read = read; no_clash = none }) reply
+    go (replay name) e (inr (none, reply)) = replay_row words held o job t name (mid name) named e (record { are_read = read; no_clash = none }) (same name) reply
+
+-- the count of the certificate that is to be read rose since earlier
+pub certificate_later : (task : Task) (before mid now : List ℕ → ℕ) → ((name : List ℕ) → mid name ≡ before name) → CertificateRose task mid now → CertificateRose task before now
+certificate_later (verify name) before mid now same rose = rose
+certificate_later (replay name) before mid now same rose = rose_later (before name) (mid name) (now name) (same name) rose
 
 -- no pairs have no new failure
 pub none_headline : (words : List (List ℕ)) (held : List ℕ → Option (List ℕ)) (pairs : List PairVerdict) → pairs ≡ [] → Headline words held pairs
 none_headline words held pairs e j m ob ot nb nt P Q s t = subst (λ (vs : List PairVerdict). NoNewFailure P Q vs) (sym e) tt
 
 pub none_unknown : (words : List (List ℕ)) (held : List ℕ → Option (List ℕ)) (pairs : List PairVerdict) → pairs ≡ [] → UnknownIsFailure words held pairs
-none_unknown words held pairs e j m ob ot nb nt P Q s t = subst (λ (vs : List PairVerdict). AreNewFailures P Q vs) (sym e) tt
-
--- a count that rose later rose
-pub rose_later : (before mid now : ℕ) → mid ≡ before → Rose mid now → Rose before now
-rose_later before mid now same rose = subst (λ (n : ℕ). Rose n now) same rose
+none_unknown words held pairs e j m ob ot nb nt P Q s t old new = subst (λ (vs : List PairVerdict). AreNewFailures P Q vs) (sym e) tt

@@ -8,7 +8,7 @@ use Rattle.sd_parse.specs.declared.answer.ReadError.TheVariants.{NoMemory, TooLo
 use Rattle.sd_parse.specs.Answer.{IsReading, IsParsed}
 use Rattle.symdiff.specs.declared.text.TextRefusal.{TextRefusal}
 use Rattle.symdiff.specs.declared.text.TextRefusal.TheVariants.{Reading, Typing, NotYet}
-use Rattle.symdiff.specs.declared.extracted.Text.{Text}
+use Rattle.symdiff.specs.declared.text.Text.{Text}
 use Rattle.symdiff.specs.declared.text.TextFault.{TextFault}
 use Rattle.symdiff.specs.declared.text.TextFault.TheVariants.{Memory, Failed, Refused}
 use Rattle.symdiff.specs.TextRefusals.{IsTaken, IsTextRefusal}

@@ -1,197 +1,296 @@
 -- What the verdicts on two programs tell.
-use Rattle.std.proofs.Common.{◌≡◌, ◌∙◌, sym, ap, refl, subst, ℕ, suc, zero, ◌+◌, Bool, true, false, List, [], ◌∷◌, ◌++◌, length, take, drop, length-append, arith}
-use Rattle.std.specs.Prelude.{Option, Some, None, ◌↔◌, not, slice_get, if◌then◌else◌}
-use Rattle.std.specs.Option.{option_map}
-use Rattle.std.specs.List.{AllByRecursion, cons_option, filter_map}
-use Rattle.std.proofs.lemmas.List.Concat.{flat_map-cons}
-use Rattle.sd_base.specs.Value.{Text}
+use Rattle.std.proofs.Common.{◌≡◌, ◌∙◌, sym, ap, refl, subst, ℕ, suc, zero, ◌+◌, ◌≤◌, ◌<◌, Bool, true, false, List, [], ◌∷◌, ◌++◌, length, drop, length-append, arith}
+use Rattle.std.specs.Prelude.{Option, Some, None, ◌↔◌, ◌&&◌, ◌||◌, map, is_some, slice_get, if◌then◌else◌}
+use Rattle.std.specs.List.{AllByRecursion}
+use Rattle.std.proofs.lemmas.Option.{slice_get_within}
 use Rattle.sd_ast.specs.declared.Program.{Program}
-use Rattle.sd_meaning.specs.Routine.{Routine}
 use Rattle.sd_meaning.specs.NewFailure.{NewFailure}
 use Rattle.sd_types.specs.Declarations.{WellTyped}
 use Rattle.sd_core.specs.declared.CoreProc.{CoreProc}
 use Rattle.sd_core.specs.declared.CoreProgram.{CoreProgram}
 use Rattle.sd_core.specs.Failure.{NewFailureOf}
-use Rattle.sd_core.specs.Straight.{IsStraightProc}
 use Rattle.sd_extract.specs.Form.{IsStraightProgram}
 use Rattle.sd_extract.specs.Programs.{core_program}
 use Rattle.sd_extract.specs.Laws.{number_of}
 use Rattle.sd_extract.proofs.LawLemmas.{runs_kept, procedures_kept, axioms_kept}
 use Rattle.sd_extract.proofs.FormedPrograms.{extracted_formed}
 use Rattle.sd_extract.proofs.Failures.{failures_kept}
-use Rattle.sd_extract.proofs.Straight.{straight_kept}
 use Rattle.sd_extract.proofs.Roots.{roots_are_procedures}
-use Rattle.sd_match.specs.Places.{proc_named}
-use Rattle.sd_term.specs.Tree.{Tree}
-use Rattle.sd_product.specs.declared.pair.Candidate.{Candidate}
-use Rattle.sd_product.specs.declared.pair.Candidate.TheVariants.{NoCondition, EqualInputs}
-use Rattle.sd_product.specs.declared.straight.Straight.{Straight}
-use Rattle.sd_product.specs.Query.{Side, query_of}
-use Rattle.sd_product.specs.Laws.{IsTaken, IsPair}
-use Rattle.sd_product.specs.Straight.{side, same_types, straight_of, straight_in, straights_of, queries_of}
-use Rattle.sd_product.proofs.Sides.{named_place, same_types-ins, found_straight}
+use Rattle.sd_match.specs.declared.pair.PairState.{PairState}
+use Rattle.sd_match.specs.declared.pair.PairState.TheVariants as pair_state
+use Rattle.sd_match.specs.declared.pair.Pair.{Pair}
+use Rattle.sd_match.specs.Pairs.{pairs_of}
+use Rattle.sd_cand.specs.declared.candidate.Relation.{Relation}
+use Rattle.sd_cand.specs.declared.candidate.Claim.{Claim}
+use Rattle.sd_cand.specs.declared.candidate.Claim.TheVariants.{Flag, Output}
+use Rattle.sd_cand.specs.declared.candidate.Candidate.{Candidate}
+use Rattle.sd_cand.specs.Candidates.{equal_inputs, flag_candidates, output_candidates, candidates_in, candidates_of}
+use Rattle.sd_product.specs.Query.{Claimed}
+use Rattle.sd_product.specs.Work.{Held, work_of, claims_of, claims_in, pairs_in}
+use Rattle.sd_product.specs.Summaries.{IsRootPair}
+use Rattle.sd_product.proofs.RootLemmas.{IsRootedClaim, claims-rooted}
+use Rattle.sd_product.specs.Judged.{IsFlagAt}
 use Rattle.symdiff.specs.declared.verdict.PairVerdict.{PairVerdict}
 use Rattle.symdiff.specs.declared.verdict.VerdictState.{VerdictState}
-use Rattle.symdiff.specs.declared.verdict.VerdictState.TheVariants.{Safe, Unknown, Signature}
-use Rattle.symdiff.specs.Verdicts.{any_live, verdict_of, verdicts_of}
+use Rattle.symdiff.specs.declared.verdict.VerdictState.TheVariants.{Safe, Unknown, Unproved, Signature, UnmatchedRecursion}
+use Rattle.symdiff.specs.declared.verdict.Otherwise.{Otherwise}
+use Rattle.symdiff.specs.declared.verdict.Otherwise.TheVariants as otherwise
+use Rattle.symdiff.proofs.Tables.{count_first}
+use Rattle.symdiff.specs.Verdicts.{is_flag, flag_live, said, state_of, verdict_by, verdict_of, verdicts_of}
+
+-- ---- lists
 
 none_is_some : {X : Type 0} (x : X) → ◌≡◌ {A = Option X} None (Some x) → ⊥
 none_is_some x e = cc
 
--- ---- pairs
+some_same : {X : Type 0} (x y : X) → ◌≡◌ {A = Option X} (Some x) (Some y) → x ≡ y
+some_same x y e = cc
 
--- a program that is taken has a core program that is
-pub core_taken : (P : Program) → WellTyped P → IsStraightProgram P → IsTaken (core_program P)
-core_taken P typed straight = record { formed = extracted_formed P typed; straight = straight_kept P typed straight }
+slice_get-front : {X : Type 0} (xs ys : List X) (c : ℕ) (x : X) → slice_get xs c ≡ Some x → slice_get (xs ++ ys) c ≡ Some x
+slice_get-front [] ys c x e = absurd (none_is_some x e)
+slice_get-front (y ∷ xs) ys zero x e = e
+slice_get-front (y ∷ xs) ys (suc c) x e = slice_get-front xs ys c x e
 
-module _ (P Q : Program) (old_typed : WellTyped P) (new_typed : WellTyped Q) (old_straight : IsStraightProgram P) (new_straight : IsStraightProgram Q) where
-  abbrev pub C : CoreProgram
-  C = core_program P
+slice_get-back : {X : Type 0} (xs ys : List X) (c : ℕ) → slice_get (xs ++ ys) (length xs + c) ≡ slice_get ys c
+slice_get-back [] ys c = let z : 0 + c ≡ c = omega arith in ap (λ n. slice_get ys n) z
+slice_get-back (y ∷ xs) ys c = let z : suc (length xs) + c ≡ suc (length xs + c) = omega arith in ap (λ n. slice_get (y ∷ (xs ++ ys)) n) z ∙ slice_get-back xs ys c
 
-  abbrev pub D : CoreProgram
-  D = core_program Q
+slice_get-map : {X Y : Type 0} (f : X → Y) (xs : List X) (c : ℕ) (x : X) → slice_get xs c ≡ Some x → slice_get (map f xs) c ≡ Some (f x)
+slice_get-map f [] c x e = absurd (none_is_some x e)
+slice_get-map f (y ∷ xs) zero x e = ap Some (ap f (some_same y x e))
+slice_get-map f (y ∷ xs) (suc c) x e = slice_get-map f xs c x e
 
-  old_taken : IsTaken C
-  old_taken = core_taken P old_typed old_straight
+slice_get-drop : {X : Type 0} (k : ℕ) (xs : List X) (c : ℕ) (x : X) → slice_get (drop k xs) c ≡ Some x → slice_get xs (k + c) ≡ Some x
+slice_get-drop zero xs c x e = let z : 0 + c ≡ c = omega arith in ap (λ n. slice_get xs n) z ∙ e
+slice_get-drop (suc k) [] c x e = absurd (none_is_some x e)
+slice_get-drop (suc k) (y ∷ xs) c x e = let z : suc k + c ≡ suc (k + c) = omega arith in ap (λ n. slice_get (y ∷ xs) n) z ∙ slice_get-drop k xs c x e
 
-  new_taken : IsTaken D
-  new_taken = core_taken Q new_typed new_straight
+length-drop_front : {X : Type 0} (k : ℕ) (xs : List X) (n : ℕ) → length xs ≡ k + n → length (drop k xs) ≡ n
+length-drop_front zero xs n e = omega arith
+length-drop_front (suc k) [] n e = absurd (omega arith)
+length-drop_front (suc k) (y ∷ xs) n e = length-drop_front k xs n (omega arith)
 
-  -- the pair of two procedures of the programs
-  record IsOf (s : Straight) : Type 0 where
-    p : CoreProc
-    q : CoreProc
-    i : ℕ
-    j : ℕ
-    is : s ≡ straight_of (side C p) (side D q)
-    old_found : slice_get C.procs i ≡ Some p
-    new_found : slice_get D.procs j ≡ Some q
+length-mapped : {X Y : Type 0} (f : X → Y) (xs : List X) → length (map f xs) ≡ length xs
+length-mapped f [] = refl
+length-mapped f (x ∷ xs) = ap suc (length-mapped f xs)
 
-  all_of : (ps : List CoreProc) (k : ℕ) → ((n : ℕ) (p : CoreProc) → slice_get ps n ≡ Some p → slice_get C.procs (k + n) ≡ Some p) → AllByRecursion IsOf (filter_map (straight_in C D) ps)
-  all_of [] k within = tt
-  all_of (p ∷ ps) k within =
-      go (proc_named D.procs p.name) refl (all_of ps (suc k) (λ n r e. let s : suc k + n ≡ k + suc n = omega arith in ap (λ (m : ℕ). slice_get C.procs m) s ∙ within (suc n) r e))
-    where
-      go : (o : Option CoreProc) → proc_named D.procs p.name ≡ o → AllByRecursion IsOf (filter_map (straight_in C D) ps) → AllByRecursion IsOf (cons_option (option_map (λ q. straight_of (side C p) (side D q)) o) (filter_map (straight_in C D) ps))
-      go None e rest = rest
-      go (Some q) e rest =
-          let at = named_place D.procs p.name q e in (
-            record { p = p; q = q; i = k + 0; j = at.0; is = refl; old_found = within 0 p refl; new_found = at.1 },
-            rest,
-          )
+all-at : {X : Type 0} (A : X → Type 0) (xs : List X) (n : ℕ) (x : X) → slice_get xs n ≡ Some x → AllByRecursion A xs → A x
+all-at A [] n x e a = absurd (none_is_some x e)
+all-at A (y ∷ xs) zero x e a = subst A (some_same y x e) a.0
+all-at A (y ∷ xs) (suc n) x e a = all-at A xs n x e a.1
 
+abbrev claim : Pair → Candidate → Claimed
+claim pair c = record { pair = pair; candidate = c }
+
+-- ---- claims on the flags
+
+-- a claim on the flags at this place, which the table says to be live or not
+record FlagIn (cs : List Candidate) (table : List Bool) (live : Bool) : Type 0 where
+  place : ℕ
+  candidate : Candidate
+  at : slice_get cs place ≡ Some candidate
+  flag : candidate.claim ≡ Flag
+  is : slice_get table place ≡ Some live
+
+flag_is : (c : Claim) → is_flag c ≡ true → c ≡ Flag
+flag_is Flag e = refl
+flag_is (Output r) e = absurd (let bad : false ≡ true = e in cc)
+
+and_both : (a b : Bool) → (a && b) ≡ true → (a ≡ true) × (b ≡ true)
+and_both true true e = (refl, refl)
+and_both true false e = absurd (let bad : false ≡ true = e in cc)
+and_both false b e = absurd (let bad : false ≡ true = e in cc)
+
+later : (c : Candidate) (cs : List Candidate) (b : Bool) (table : List Bool) (live : Bool) → FlagIn cs table live → FlagIn (c ∷ cs) (b ∷ table) live
+later c cs b table live f = record { place = suc f.place; candidate = f.candidate; at = f.at; flag = f.flag; is = f.is }
+
+live_in : (cs : List Candidate) (table : List Bool) → flag_live cs table ≡ true → FlagIn cs table true
+live_in [] table e = absurd (let bad : false ≡ true = e in cc)
+live_in (c ∷ cs) [] e = absurd (let bad : false ≡ true = e in cc)
+live_in (c ∷ cs) (b ∷ table) e = go (live_in cs table) (is_flag c.claim && b) refl e
+  where
+    go : (flag_live cs table ≡ true → FlagIn cs table true) → (x : Bool) → (is_flag c.claim && b) ≡ x → (x || flag_live cs table) ≡ true → FlagIn (c ∷ cs) (b ∷ table) true
+    go rest true is h = let both = and_both (is_flag c.claim) b is in record { place = 0; candidate = c; at = refl; flag = flag_is c.claim both.0; is = ap Some both.1 }
+    go rest false is h = later c cs b table true (rest h)
+
+or_none : (a b : Bool) → (a || b) ≡ false → (a ≡ false) × (b ≡ false)
+or_none true b e = absurd (let bad : true ≡ false = e in cc)
+or_none false b e = (refl, e)
+
+-- where none is live, each claim on the flags is dead
+dead_at : (cs : List Candidate) (table : List Bool) (k : ℕ) (c : Candidate) → length cs ≤ length table → flag_live cs table ≡ false → slice_get cs k ≡ Some c → c.claim ≡ Flag → slice_get table k ≡ Some false
+dead_at [] table k c long none at flag = absurd (none_is_some c at)
+dead_at (d ∷ cs) [] k c long none at flag = absurd (omega arith)
+dead_at (d ∷ cs) (b ∷ table) zero c long none at flag =
+    let same : d ≡ c = some_same d c at in
+    let on : is_flag d.claim ≡ true = ap is_flag (ap (λ (x : Candidate). x.claim) same ∙ flag) in
+    ap Some (let off = (or_none (is_flag d.claim && b) (flag_live cs table) none).0 in sym (ap (λ x. x && b) on) ∙ off)
+dead_at (d ∷ cs) (b ∷ table) (suc k) c long none at flag =
+    dead_at cs table k c (omega arith) (or_none (is_flag d.claim && b) (flag_live cs table) none).1 at flag
+
+-- the claim on the flags with equal inputs
+record EqualFlag (pair : Pair) : Type 0 where
+  place : ℕ
+  candidate : Candidate
+  at : slice_get (candidates_of pair) place ≡ Some candidate
+  flag : candidate.claim ≡ Flag
+  when : candidate.when ≡ equal_inputs pair
+
+equal_flag : (pair : Pair) → pair.state ≡ pair_state.Open → EqualFlag pair
+equal_flag pair is = go (equal_inputs pair) refl
+  where
+    cut : candidates_of pair ≡ flag_candidates (equal_inputs pair) ++ output_candidates (equal_inputs pair) 0 pair.outputs
+    cut = ap (λ s. candidates_in s pair) is
+
+    go : (rs : List Relation) → equal_inputs pair ≡ rs → EqualFlag pair
+    go [] e = record {
+      place = 0;
+      candidate = record { when = []; claim = Flag };
+      at = ap (λ cs. slice_get cs 0) (cut ∙ ap (λ rs. flag_candidates rs ++ output_candidates (equal_inputs pair) 0 pair.outputs) e);
+      flag = refl;
+      when = sym e;
+    }
+    go (r ∷ rs) e = record {
+      place = 1;
+      candidate = record { when = r ∷ rs; claim = Flag };
+      at = ap (λ cs. slice_get cs 1) (cut ∙ ap (λ rs. flag_candidates rs ++ output_candidates (equal_inputs pair) 0 pair.outputs) e);
+      flag = refl;
+      when = sym e;
+    }
+
+-- ---- verdicts
+
+-- what is claimed by a verdict
+abbrev pub IsRight : Program → Program → PairVerdict → Type 0
+IsRight P Q v = (v.state ≡ Safe → NewFailure P Q v.old v.new → ⊥) × (v.state ≡ Unknown → IsStraightProgram P → IsStraightProgram Q → NewFailure P Q v.old v.new)
+
+module _ (P Q : Program) (old_typed : WellTyped P) (new_typed : WellTyped Q) where
   -- a failure of two procedures of the core is one of the texts' procedures of their names
-  failure-kept : (i j : ℕ) (p q : CoreProc) → slice_get C.procs i ≡ Some p → slice_get D.procs j ≡ Some q → NewFailure P Q p.name q.name ↔ NewFailureOf C D i j
-  failure-kept i j p q at at' =
-      let r = roots_are_procedures P i p old_typed at (found_straight C.procs i p old_taken.straight.procs at).root in
-      let s = roots_are_procedures Q j q new_typed at' (found_straight D.procs j q new_taken.straight.procs at').root in
+  abbrev AreKept : CoreProgram → CoreProgram → Type 0
+  AreKept C D = (i j : ℕ) (p q : CoreProc) → slice_get C.procs i ≡ Some p → slice_get D.procs j ≡ Some q → p.parent ≡ None → q.parent ≡ None → NewFailure P Q p.name q.name ↔ NewFailureOf C D i j
+
+  failures-kept : AreKept (core_program P) (core_program Q)
+  failures-kept i j p q at at' root root' =
+      let r = roots_are_procedures P i p old_typed at root in
+      let s = roots_are_procedures Q j q new_typed at' root' in
+      let C = core_program P in
+      let D = core_program Q in
       let kept = failures_kept runs_kept procedures_kept axioms_kept extracted_formed P Q p.name q.name r.0 s.0 old_typed new_typed r.1 s.1 in
       subst (λ (n : ℕ). NewFailure P Q p.name q.name ↔ NewFailureOf C D n j) (sym r.2) (subst (λ (m : ℕ). NewFailure P Q p.name q.name ↔ NewFailureOf C D (number_of P p.name) m) (sym s.2) kept)
 
-  -- ---- verdicts
+  module _ (h : Held) (old_is : h.old ≡ core_program P) (new_is : h.new ≡ core_program Q) (o : Otherwise) (live : List Bool)
+      (safe : (n : ℕ) (x : Claimed) → IsFlagAt h n x → slice_get live n ≡ Some true → NewFailureOf h.old h.new x.pair.old x.pair.new → ⊥)
+      (failure : o ≡ otherwise.Unknown → IsStraightProgram P → IsStraightProgram Q → (n : ℕ) (x : Claimed) → IsFlagAt h n x → x.candidate.when ≡ equal_inputs x.pair → slice_get live n ≡ Some false → NewFailureOf h.old h.new x.pair.old x.pair.new)
+    where
+      kept : AreKept h.old h.new
+      kept = subst (λ (C : CoreProgram). AreKept C h.new) (sym old_is) (subst (λ (D : CoreProgram). AreKept (core_program P) D) (sym new_is) failures-kept)
 
-  -- what is claimed by a verdict
-  abbrev pub IsRight : PairVerdict → Type 0
-  IsRight v = (v.state ≡ Safe → NewFailure P Q v.old v.new → ⊥) × (v.state ≡ Unknown → NewFailure P Q v.old v.new)
+      said_not_safe : (x : Otherwise) → said x ≡ Safe → ⊥
+      said_not_safe otherwise.Unknown e = let bad : ◌≡◌ {A = VerdictState} Unknown Safe = e in cc
+      said_not_safe otherwise.Unproved e = let bad : ◌≡◌ {A = VerdictState} Unproved Safe = e in cc
 
-  -- a live candidate makes its pair safe, and a dead one with equal inputs shows a failure
-  module _ (otherwise : VerdictState) (not_safe : otherwise ≡ Safe → ⊥) (Live Dead : List Tree → Type 0)
-      (safe : (i j : ℕ) (p q : CoreProc) (c : Candidate) → IsPair C D i j p q → Live (query_of c (side C p) (side D q)) → NewFailureOf C D i j → ⊥)
-      (failure : otherwise ≡ Unknown → (i j : ℕ) (p q : CoreProc) → IsPair C D i j p q → Dead (query_of EqualInputs (side C p) (side D q)) → NewFailureOf C D i j) where
-    -- the candidates of these queries are live or dead as the table says
-    record Tells (queries : List (List Tree)) (table : List Bool) : Type 0 where
-      size : length table ≡ length queries
-      live : (c : ℕ) (facts : List Tree) → slice_get table c ≡ Some true → slice_get queries c ≡ Some facts → Live facts
-      dead : (c : ℕ) (facts : List Tree) → slice_get table c ≡ Some false → slice_get queries c ≡ Some facts → Dead facts
+      said_unknown : (x : Otherwise) → said x ≡ Unknown → x ≡ otherwise.Unknown
+      said_unknown otherwise.Unknown e = refl
+      said_unknown otherwise.Unproved e = absurd (let bad : ◌≡◌ {A = VerdictState} Unproved Unknown = e in cc)
 
-    -- the verdict of two procedures with in-parameters of the same types
-    right_open : (i j : ℕ) (p q : CoreProc) (table : List Bool) → IsPair C D i j p q → Tells (query_of NoCondition (side C p) (side D q) ∷ query_of EqualInputs (side C p) (side D q) ∷ []) (take 2 table)
-        → IsRight (record { old = p.name; new = q.name; state = if any_live (take 2 table) then Safe else otherwise; equal = false })
-    right_open i j p q [] pair tells = absurd (let e = tells.size in omega arith)
-    right_open i j p q (x ∷ []) pair tells = absurd (let e = tells.size in omega arith)
-    right_open i j p q (true ∷ y ∷ table) pair tells =
-        let kept = failure-kept i j p q pair.old_found pair.new_found in
-        (λ is f. safe i j p q NoCondition pair (tells.live 0 (query_of NoCondition (side C p) (side D q)) refl refl) (kept.0 f), λ bad. absurd (cc))
-    right_open i j p q (false ∷ true ∷ table) pair tells =
-        let kept = failure-kept i j p q pair.old_found pair.new_found in
-        (λ is f. safe i j p q EqualInputs pair (tells.live 1 (query_of EqualInputs (side C p) (side D q)) refl refl) (kept.0 f), λ bad. absurd (cc))
-    right_open i j p q (false ∷ false ∷ table) pair tells =
-        let kept = failure-kept i j p q pair.old_found pair.new_found in
-        (λ bad f. not_safe bad, λ is. kept.1 (failure is i j p q pair (tells.dead 1 (query_of EqualInputs (side C p) (side D q)) refl refl)))
+      -- a pair whose candidates begin at number n, and the table from there on
+      record IsHere (n : ℕ) (pair : Pair) (table : List Bool) (p q : CoreProc) : Type 0 where
+        claims : (k : ℕ) (c : Candidate) → slice_get (candidates_of pair) k ≡ Some c → slice_get (claims_in h) (n + k) ≡ Some (record { pair = pair; candidate = c })
+        rest : (k : ℕ) (b : Bool) → slice_get table k ≡ Some b → slice_get live (n + k) ≡ Some b
+        long : length (candidates_of pair) ≤ length table
+        old_found : slice_get h.old.procs pair.old ≡ Some p
+        new_found : slice_get h.new.procs pair.new ≡ Some q
+        old_root : p.parent ≡ None
 
-    -- ---- lists of pairs
+      abbrev verdict_with : CoreProc → CoreProc → VerdictState → PairVerdict
+      verdict_with p q s = record { old = p.name; new = q.name; state = s; equal = false }
 
-    slice_get-take : {X : Type 0} (k : ℕ) (xs : List X) (c : ℕ) (x : X) → slice_get (take k xs) c ≡ Some x → slice_get xs c ≡ Some x
-    slice_get-take zero xs c x e = absurd (none_is_some x e)
-    slice_get-take (suc k) [] c x e = e
-    slice_get-take (suc k) (y ∷ xs) zero x e = e
-    slice_get-take (suc k) (y ∷ xs) (suc c) x e = slice_get-take k xs c x e
+      -- the new procedure of such a claim is no loop either
+      new_root : (n : ℕ) (x : Claimed) (q : CoreProc) → IsFlagAt h n x → slice_get h.new.procs x.pair.new ≡ Some q → q.parent ≡ None
+      new_root n x q f found =
+          let each : (p : CoreProc) → slice_get h.old.procs x.pair.old ≡ Some p → p.parent ≡ None → IsRootPair (work_of h.old h.new) x =
+          all-at (IsRootedClaim h.old h.new) (claims_in h) n x f.at (claims-rooted h.old h.new) in
+          let rooted : IsRootPair (work_of h.old h.new) x = each f.old f.found f.root in
+          let same : rooted.new ≡ q = some_same rooted.new q (sym rooted.new_found ∙ found) in
+          ap (λ (r : CoreProc). r.parent) (sym same) ∙ rooted.new_root
 
-    slice_get-drop : {X : Type 0} (k : ℕ) (xs : List X) (c : ℕ) (x : X) → slice_get (drop k xs) c ≡ Some x → slice_get xs (k + c) ≡ Some x
-    slice_get-drop zero xs c x e = let z : 0 + c ≡ c = omega arith in ap (λ n. slice_get xs n) z ∙ e
-    slice_get-drop (suc k) [] c x e = absurd (none_is_some x e)
-    slice_get-drop (suc k) (y ∷ xs) c x e = let z : suc k + c ≡ suc (k + c) = omega arith in ap (λ n. slice_get (y ∷ xs) n) z ∙ slice_get-drop k xs c x e
+      right_open : (n : ℕ) (pair : Pair) (table : List Bool) (p q : CoreProc) → IsHere n pair table p q → pair.state ≡ pair_state.Open → (b : Bool) → flag_live (candidates_of pair) table ≡ b → IsRight P Q (verdict_with p q (if b then Safe else said o))
+      right_open n pair table p q here is true flags =
+          let f = live_in (candidates_of pair) table flags in
+          let at : IsFlagAt h (n + f.place) (record { pair = pair; candidate = f.candidate }) = record { at = here.claims f.place f.candidate f.at; flag = f.flag; old = p; found = here.old_found; root = here.old_root } in (
+            λ _ bad. safe (n + f.place) (record { pair = pair; candidate = f.candidate }) at (here.rest f.place true f.is) ((kept pair.old pair.new p q here.old_found here.new_found here.old_root (new_root (n + f.place) (record { pair = pair; candidate = f.candidate }) q at here.new_found)).0 bad),
+            λ bad. absurd (let worse : ◌≡◌ {A = VerdictState} Safe Unknown = bad in cc),
+          )
+      right_open n pair table p q here is false flags =
+          let f = equal_flag pair is in
+          let at : IsFlagAt h (n + f.place) (record { pair = pair; candidate = f.candidate }) = record { at = here.claims f.place f.candidate f.at; flag = f.flag; old = p; found = here.old_found; root = here.old_root } in
+          let dead : slice_get live (n + f.place) ≡ Some false = here.rest f.place false (dead_at (candidates_of pair) table f.place f.candidate here.long flags f.at f.flag) in (
+            λ bad. absurd (said_not_safe o bad),
+            λ unknown old new. (kept pair.old pair.new p q here.old_found here.new_found here.old_root (new_root (n + f.place) (record { pair = pair; candidate = f.candidate }) q at here.new_found)).1 (failure (said_unknown o unknown) old new (n + f.place) (record { pair = pair; candidate = f.candidate }) at f.when dead),
+          )
 
-    slice_get-front : {X : Type 0} (xs ys : List X) (c : ℕ) (x : X) → slice_get xs c ≡ Some x → slice_get (xs ++ ys) c ≡ Some x
-    slice_get-front [] ys c x e = absurd (none_is_some x e)
-    slice_get-front (y ∷ xs) ys zero x e = e
-    slice_get-front (y ∷ xs) ys (suc c) x e = slice_get-front xs ys c x e
+      right_state : (n : ℕ) (pair : Pair) (table : List Bool) (p q : CoreProc) → IsHere n pair table p q → (s : PairState) → pair.state ≡ s → IsRight P Q (verdict_with p q (state_of o s (flag_live (candidates_of pair) table)))
+      right_state n pair table p q here pair_state.Open is = right_open n pair table p q here is (flag_live (candidates_of pair) table) refl
+      right_state n pair table p q here pair_state.Signature is =
+          (λ bad. absurd (let worse : ◌≡◌ {A = VerdictState} Signature Safe = bad in cc), λ bad. absurd (let worse : ◌≡◌ {A = VerdictState} Signature Unknown = bad in cc))
+      right_state n pair table p q here (pair_state.UnmatchedRecursion x) is =
+          (λ bad. absurd (let worse : ◌≡◌ {A = VerdictState} (UnmatchedRecursion x) Safe = bad in cc), λ bad. absurd (let worse : ◌≡◌ {A = VerdictState} (UnmatchedRecursion x) Unknown = bad in cc))
 
-    slice_get-back : {X : Type 0} (xs ys : List X) (c : ℕ) → slice_get (xs ++ ys) (length xs + c) ≡ slice_get ys c
-    slice_get-back [] ys c = let z : 0 + c ≡ c = omega arith in ap (λ n. slice_get ys n) z
-    slice_get-back (y ∷ xs) ys c = let z : suc (length xs) + c ≡ suc (length xs + c) = omega arith in ap (λ n. slice_get (y ∷ (xs ++ ys)) n) z ∙ slice_get-back xs ys c
+      -- ---- lists of pairs
 
-    length-take_front : {X : Type 0} (k : ℕ) (xs : List X) (n : ℕ) → length xs ≡ k + n → length (take k xs) ≡ k
-    length-take_front zero xs n e = refl
-    length-take_front (suc k) [] n e = absurd (omega arith)
-    length-take_front (suc k) (y ∷ xs) n e = ap suc (length-take_front k xs n (omega arith))
+      -- pairs whose candidates begin at number n, and the table from there on
+      record AreHere (n : ℕ) (pairs : List Pair) (table : List Bool) : Type 0 where
+        claims : (k : ℕ) (x : Claimed) → slice_get (claims_of pairs) k ≡ Some x → slice_get (claims_in h) (n + k) ≡ Some x
+        rest : (k : ℕ) (b : Bool) → slice_get table k ≡ Some b → slice_get live (n + k) ≡ Some b
+        size : length table ≡ length (claims_of pairs)
 
-    length-drop_front : {X : Type 0} (k : ℕ) (xs : List X) (n : ℕ) → length xs ≡ k + n → length (drop k xs) ≡ n
-    length-drop_front zero xs n e = omega arith
-    length-drop_front (suc k) [] n e = absurd (omega arith)
-    length-drop_front (suc k) (y ∷ xs) n e = length-drop_front k xs n (omega arith)
+      right_found : (n : ℕ) (pair : Pair) (pairs : List Pair) (table : List Bool) → AreHere n (pair ∷ pairs) table → (old new : Option CoreProc) → slice_get h.old.procs pair.old ≡ old → slice_get h.new.procs pair.new ≡ new
+          → AllByRecursion (IsRight P Q) (verdict_by o pair (flag_live (candidates_of pair) table) old new)
+      right_found n pair pairs table here None new at at' = tt
+      right_found n pair pairs table here (Some p) None at at' = tt
+      right_found n pair pairs table here (Some p) (Some q) at at' = go p.parent refl
+        where
+          here_with : p.parent ≡ None → IsHere n pair table p q
+          here_with root = record {
+            claims = λ k c e. here.claims k (record { pair = pair; candidate = c }) (slice_get-front (map (claim pair) (candidates_of pair)) (claims_of pairs) k (record { pair = pair; candidate = c }) (slice_get-map (claim pair) (candidates_of pair) k c e));
+            rest = here.rest;
+            long = omega (arith, here.size, count_first pair pairs);
+            old_found = at;
+            new_found = at';
+            old_root = root;
+          }
 
-    -- a table of two lists of queries is a table of each
-    tells_front : (qs rest : List (List Tree)) (table : List Bool) → Tells (qs ++ rest) table → Tells qs (take (length qs) table)
-    tells_front qs rest table t = record {
-      size = length-take_front (length qs) table (length rest) (t.size ∙ length-append qs rest);
-      live = λ c facts l q. t.live c facts (slice_get-take (length qs) table c true l) (slice_get-front qs rest c facts q);
-      dead = λ c facts l q. t.dead c facts (slice_get-take (length qs) table c false l) (slice_get-front qs rest c facts q);
-    }
+          go : (parent : Option (ℕ × ℕ)) → p.parent ≡ parent
+              → AllByRecursion (IsRight P Q) (if is_some p.parent then [] else verdict_with p q (state_of o pair.state (flag_live (candidates_of pair) table)) ∷ [])
+          go None e = subst (λ (x : Option (ℕ × ℕ)). AllByRecursion (IsRight P Q) (if is_some x then [] else verdict_with p q (state_of o pair.state (flag_live (candidates_of pair) table)) ∷ [])) (sym e) (right_state n pair table p q (here_with e) pair.state refl, tt)
+          go (Some parent) e = subst (λ (x : Option (ℕ × ℕ)). AllByRecursion (IsRight P Q) (if is_some x then [] else verdict_with p q (state_of o pair.state (flag_live (candidates_of pair) table)) ∷ [])) (sym e) tt
 
-    tells_back : (qs rest : List (List Tree)) (table : List Bool) → Tells (qs ++ rest) table → Tells rest (drop (length qs) table)
-    tells_back qs rest table t = record {
-      size = length-drop_front (length qs) table (length rest) (t.size ∙ length-append qs rest);
-      live = λ c facts l q. t.live (length qs + c) facts (slice_get-drop (length qs) table c true l) (slice_get-back qs rest c ∙ q);
-      dead = λ c facts l q. t.dead (length qs + c) facts (slice_get-drop (length qs) table c false l) (slice_get-back qs rest c ∙ q);
-    }
+      all-joined : (vs ws : List PairVerdict) → AllByRecursion (IsRight P Q) vs → AllByRecursion (IsRight P Q) ws → AllByRecursion (IsRight P Q) (vs ++ ws)
+      all-joined [] ws a b = b
+      all-joined (v ∷ vs) ws a b = (a.0, all-joined vs ws a.1 b)
 
-    -- the verdict of a pair
-    right_pair : (i j : ℕ) (p q : CoreProc) (table : List Bool) (b : Bool) → same_types p q ≡ b → slice_get C.procs i ≡ Some p → slice_get D.procs j ≡ Some q
-        → Tells (straight_of (side C p) (side D q)).queries (take (length (straight_of (side C p) (side D q)).queries) table) → IsRight (verdict_of otherwise (straight_of (side C p) (side D q)) (take (length (straight_of (side C p) (side D q)).queries) table))
-    right_pair i j p q table true same found found' tells =
-        let pair : IsPair C D i j p q = record { old_taken = old_taken; new_taken = new_taken; old_found = found; new_found = found'; same_ins = same_types-ins p q same } in
-        let both : List (List Tree) = query_of NoCondition (side C p) (side D q) ∷ query_of EqualInputs (side C p) (side D q) ∷ [] in
-        let R : Bool → Type 0 = λ b. Tells (if b then both else []) (take (length (if b then both else [])) table)
-        → IsRight (record { old = p.name; new = q.name; state = if not b then Signature else if any_live (take (length (if b then both else [])) table) then Safe else otherwise; equal = false }) in
-        subst R (sym same) (λ t. right_open i j p q table pair t) tells
-    right_pair i j p q table false same found found' tells =
-        let both : List (List Tree) = query_of NoCondition (side C p) (side D q) ∷ query_of EqualInputs (side C p) (side D q) ∷ [] in
-        let R : Bool → Type 0 = λ b. IsRight (record { old = p.name; new = q.name; state = if not b then Signature else if any_live (take (length (if b then both else [])) table) then Safe else otherwise; equal = false }) in
-        subst R (sym same) (λ bad. absurd (cc), λ bad. absurd (cc))
+      right_pairs : (n : ℕ) (pairs : List Pair) (table : List Bool) → AreHere n pairs table → AllByRecursion (IsRight P Q) (verdicts_of o h.old h.new pairs table)
+      right_pairs n [] table here = tt
+      right_pairs n (pair ∷ pairs) table here =
+          let count : ℕ = length (candidates_of pair) in
+          let first : List Claimed = map (claim pair) (candidates_of pair) in
+          let long : length first ≡ count = length-mapped (claim pair) (candidates_of pair) in
+          let next : AreHere (n + count) pairs (drop count table) = record {
+            claims = λ k x e.
+                let shift : n + (length first + k) ≡ (n + count) + k = omega arith in
+                ap (λ m. slice_get (claims_in h) m) (sym shift) ∙ here.claims (length first + k) x (slice_get-back first (claims_of pairs) k ∙ e);
+            rest = λ k b e.
+                let shift : n + (count + k) ≡ (n + count) + k = omega arith in
+                ap (λ m. slice_get live m) (sym shift) ∙ here.rest (count + k) b (slice_get-drop count table k b e);
+            size = length-drop_front count table (length (claims_of pairs)) (here.size ∙ count_first pair pairs);
+          } in
+          all-joined (verdict_of o h.old h.new pair (flag_live (candidates_of pair) table)) (verdicts_of o h.old h.new pairs (drop count table))
+          (right_found n pair pairs table here (slice_get h.old.procs pair.old) (slice_get h.new.procs pair.new) refl refl) (right_pairs (n + count) pairs (drop count table) next)
 
-    verdicts_right : (pairs : List Straight) (table : List Bool) → AllByRecursion IsOf pairs → Tells (queries_of pairs) table → AllByRecursion IsRight (verdicts_of otherwise pairs table)
-    verdicts_right [] table a t = tt
-    verdicts_right (s ∷ ss) table a t =
-        let cut : Tells (s.queries ++ queries_of ss) table = subst (λ (qs : List (List Tree)). Tells qs table) (flat_map-cons (λ x. x.queries) s ss) t in
-        let V : Straight → Type 0 = λ x. Tells x.queries (take (length x.queries) table) → IsRight (verdict_of otherwise x (take (length x.queries) table)) in (
-          subst V (sym a.0.is) (right_pair a.0.i a.0.j a.0.p a.0.q table (same_types a.0.p a.0.q) refl a.0.old_found a.0.new_found) (tells_front s.queries (queries_of ss) table cut),
-          verdicts_right ss (drop (length s.queries) table) a.1 (tells_back s.queries (queries_of ss) table cut),
-        )
-
-    -- the verdicts of the pairs of the programs are right
-    pub all_right : (table : List Bool) → (length table ≡ length (queries_of (straights_of C D)))
-        → ((c : ℕ) (facts : List Tree) → slice_get table c ≡ Some true → slice_get (queries_of (straights_of C D)) c ≡ Some facts → Live facts)
-        → ((c : ℕ) (facts : List Tree) → slice_get table c ≡ Some false → slice_get (queries_of (straights_of C D)) c ≡ Some facts → Dead facts)
-        → AllByRecursion IsRight (verdicts_of otherwise (straights_of C D) table)
-    all_right table size live dead = verdicts_right (straights_of C D) table (all_of C.procs 0 (λ n p e. let z : 0 + n ≡ n = omega arith in ap (λ (m : ℕ). slice_get C.procs m) z ∙ e)) (record { size = size; live = live; dead = dead })
+      -- the verdicts of the pairs of the programs are right
+      pub all_right : length live ≡ length (claims_in h) → AllByRecursion (IsRight P Q) (verdicts_of o (core_program P) (core_program Q) (pairs_of (core_program P) (core_program Q)) live)
+      all_right size =
+          let zero_is : (k : ℕ) → 0 + k ≡ k = λ k. omega arith in
+          let right = right_pairs 0 (pairs_in h) live (record { claims = λ k x e. ap (λ m. slice_get (claims_in h) m) (zero_is k) ∙ e; rest = λ k b e. ap (λ m. slice_get live m) (zero_is k) ∙ e; size = size }) in
+          subst (λ (C : CoreProgram). AllByRecursion (IsRight P Q) (verdicts_of o C (core_program Q) (pairs_of C (core_program Q)) live)) old_is
+          (subst (λ (D : CoreProgram). AllByRecursion (IsRight P Q) (verdicts_of o h.old D (pairs_of h.old D) live)) new_is right)

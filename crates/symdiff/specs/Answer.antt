@@ -3,14 +3,17 @@ use Rattle.std.specs.Prelude.{◌≡◌, ◌⊎◌, ◌<◌, ℕ, List, Option, 
 use Rattle.sd_base.specs.Outside.{WhereTold}
 use Rattle.sd_base.specs.Causes.{Rose}
 use Rattle.sd_ast.specs.declared.Program.{Program}
+use Rattle.sd_extract.specs.Form.{IsStraightProgram}
 use Rattle.sd_cert.specs.declared.fault.CertError.{CertError}
 use Rattle.symdiff.specs.Words.{Task, verify, replay, JobNames, job_of}
-use Rattle.symdiff.specs.Texts.{Holds, Texts, AreRead}
+use Rattle.sd_match.specs.Refusals.{Refusal}
+use Rattle.symdiff.specs.Texts.{Holds, Texts, AreRead, AreMatched, clash_of}
 use Rattle.symdiff.specs.declared.text.TextRefusal.{TextRefusal}
 use Rattle.symdiff.specs.TextRefusals.{IsTaken, IsTextRefusal, refusal_status, text_error}
 use Rattle.symdiff.specs.Outcome.{Outcome, message, IsComparison, IsReplay, IsRefused}
 use Rattle.symdiff.specs.Verdicts.{NoNewFailure, AreNewFailures}
 use Rattle.symdiff.specs.Report.{usage_text, certificate_size}
+use Rattle.symdiff.specs.MatchErrors.{match_error}
 use Rattle.symdiff.specs.CertificateErrors.{certificate_error}
 use Rattle.symdiff.specs.declared.verdict.PairVerdict.{PairVerdict}
 
@@ -23,10 +26,11 @@ pub data Answer (words : List (List ℕ)) (held : List ℕ → Option (List ℕ)
   no_job : job_of words ≡ None → o ≡ message 2 usage_text → Answer words held o
   old_refused : (job : JobNames) (r : TextRefusal) → job_of words ≡ Some job → WhereTold (held job.old) (λ bytes. IsTextRefusal bytes r) → o ≡ message (refusal_status r) (text_error (codes "old") r) → Answer words held o
   new_refused : (job : JobNames) (old : Program) (r : TextRefusal) → job_of words ≡ Some job → WhereTold (held job.old) (λ bytes. IsTaken bytes old) → WhereTold (held job.new) (λ bytes. IsTextRefusal bytes r) → o ≡ message (refusal_status r) (text_error (codes "new") r) → Answer words held o
-  compared : (job : JobNames) (t : Texts) (name : Option (List ℕ)) → job_of words ≡ Some job → job.task ≡ verify name → AreRead held job t → IsComparison name t o → Answer words held o
-  too_long : (job : JobNames) (t : Texts) (name : List ℕ) → job_of words ≡ Some job → job.task ≡ replay name → AreRead held job t → WhereTold (held name) (λ bytes. 9223372036854775807 < length bytes) → o ≡ message 9 certificate_size → Answer words held o
-  certificate_refused : (job : JobNames) (t : Texts) (name bytes : List ℕ) (e : CertError) → job_of words ≡ Some job → job.task ≡ replay name → AreRead held job t → Holds (held name) bytes → IsRefused bytes t e → o ≡ message 5 (certificate_error e) → Answer words held o
-  replayed : (job : JobNames) (t : Texts) (name bytes : List ℕ) → job_of words ≡ Some job → job.task ≡ replay name → AreRead held job t → Holds (held name) bytes → IsReplay bytes t o → Answer words held o
+  clashing : (job : JobNames) (t : Texts) (r : Refusal) → job_of words ≡ Some job → AreRead held job t → clash_of t ≡ Some r → o ≡ message 4 (match_error r) → Answer words held o
+  compared : (job : JobNames) (t : Texts) (name : Option (List ℕ)) → job_of words ≡ Some job → job.task ≡ verify name → AreMatched held job t → IsComparison name t o → Answer words held o
+  too_long : (job : JobNames) (t : Texts) (name : List ℕ) → job_of words ≡ Some job → job.task ≡ replay name → AreMatched held job t → WhereTold (held name) (λ bytes. 9223372036854775807 < length bytes) → o ≡ message 9 certificate_size → Answer words held o
+  certificate_refused : (job : JobNames) (t : Texts) (name bytes : List ℕ) (e : CertError) → job_of words ≡ Some job → job.task ≡ replay name → AreMatched held job t → Holds (held name) bytes → IsRefused bytes t e → o ≡ message 5 (certificate_error e) → Answer words held o
+  replayed : (job : JobNames) (t : Texts) (name bytes : List ℕ) → job_of words ≡ Some job → job.task ≡ replay name → AreMatched held job t → Holds (held name) bytes → IsReplay bytes t o → Answer words held o
 
 -- what holds of the two programs that the told files of the job spell
 abbrev pub ForPrograms : List (List ℕ) → (List ℕ → Option (List ℕ)) → (Program → Program → Type 0) → Type 0
@@ -36,9 +40,9 @@ ForPrograms words held P = ForJob words (λ job. WhereTold (held job.old) (λ ol
 abbrev pub Headline : List (List ℕ) → (List ℕ → Option (List ℕ)) → List PairVerdict → Type 0
 Headline words held pairs = ForPrograms words held (λ old new. NoNewFailure old new pairs)
 
--- Each pair that is said to be unknown has a new failure: so it is while all types are truth values, without calls and loops.
+-- Where the texts have no calls and no loops, each pair that is said to be unknown has a new failure.
 abbrev pub UnknownIsFailure : List (List ℕ) → (List ℕ → Option (List ℕ)) → List PairVerdict → Type 0
-UnknownIsFailure words held pairs = ForPrograms words held (λ old new. AreNewFailures old new pairs)
+UnknownIsFailure words held pairs = ForPrograms words held (λ old new. IsStraightProgram old → IsStraightProgram new → AreNewFailures old new pairs)
 
 -- the count of a certificate that is to be read rose
 abbrev pub CertificateRose : Task → (List ℕ → ℕ) → (List ℕ → ℕ) → Type 0

@@ -1,12 +1,12 @@
 -- The text of the report and the other texts that are written.
-use Rattle.std.specs.Prelude.{ℕ, List, [], ◌∷◌, ◌++◌, Bool, true, false, codes, decimal, length, is_some, if◌then◌else◌, count_by}
+use Rattle.std.specs.Prelude.{ℕ, List, [], ◌∷◌, ◌++◌, Bool, true, false, ◌||◌, codes, decimal, length, is_some, if◌then◌else◌, count_by}
 use Rattle.std.specs.List.{flat_map}
 use Rattle.sd_core.specs.declared.CoreProc.{CoreProc}
 use Rattle.sd_core.specs.declared.CoreProgram.{CoreProgram}
 use Rattle.sd_match.specs.Places.{proc_named}
 use Rattle.symdiff.specs.declared.verdict.PairVerdict.{PairVerdict}
 use Rattle.symdiff.specs.declared.verdict.VerdictState.{VerdictState}
-use Rattle.symdiff.specs.declared.verdict.VerdictState.TheVariants.{Safe, Unknown, Unproved, Signature}
+use Rattle.symdiff.specs.declared.verdict.VerdictState.TheVariants.{Safe, Unknown, Unproved, Signature, UnmatchedRecursion}
 
 abbrev pub line_end : List ℕ
 line_end = 10 ∷ []
@@ -17,17 +17,19 @@ beginning Safe = codes "safe "
 beginning Unknown = codes "unknown "
 beginning Unproved = codes "unproved "
 beginning Signature = codes "refused "
+beginning (UnmatchedRecursion x) = codes "refused "
 
 abbrev pub ending : VerdictState → List ℕ
 ending Signature = codes " signature" ++ line_end
+ending (UnmatchedRecursion x) = codes " unmatched-recursion " ++ x ++ line_end
 ending _ = line_end
 
 abbrev pub verdict_line : PairVerdict → List ℕ
 verdict_line v = beginning v.state ++ v.old ++ codes " " ++ v.new ++ ending v.state
 
--- a line for a procedure without partner among the others
+-- a line for a procedure without partner among the others; a loop has none
 abbrev pub only_line : List ℕ → List CoreProc → CoreProc → List ℕ
-only_line word others p = if is_some (proc_named others p.name) then [] else word ++ p.name ++ line_end
+only_line word others p = if is_some p.parent || is_some (proc_named others p.name) then [] else word ++ p.name ++ line_end
 
 abbrev pub is_safe : VerdictState → Bool
 is_safe Safe = true
@@ -41,6 +43,7 @@ is_unknown _ = false
 
 abbrev pub is_refused : VerdictState → Bool
 is_refused Signature = true
+is_refused (UnmatchedRecursion x) = true
 is_refused _ = false
 
 -- how many verdicts have such a state

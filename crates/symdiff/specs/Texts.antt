@@ -1,11 +1,11 @@
 -- The texts of a job.
-use Rattle.std.specs.Prelude.{◌≡◌, ℕ, List, [], Option}
+use Rattle.std.specs.Prelude.{◌≡◌, ℕ, List, [], Option, None}
 use Rattle.sha2.specs.Sha256.{sha256}
 use Rattle.sd_base.specs.Outside.{WhereTold}
 use Rattle.sd_ast.specs.declared.Program.{Program}
-use Rattle.sd_product.specs.declared.straight.Straight.{Straight}
 use Rattle.sd_extract.specs.Programs.{core_program}
-use Rattle.sd_product.specs.Straight.{straights_of}
+use Rattle.sd_match.specs.Refusals.{Refusal, refusal_of}
+use Rattle.sd_product.specs.Work.{Held, IsHeld}
 use Rattle.sd_cert.specs.declared.digest.Digests.{Digests}
 use Rattle.symdiff.specs.Words.{JobNames}
 use Rattle.symdiff.specs.TextRefusals.{IsTaken}
@@ -21,8 +21,15 @@ pub record Texts : Type 0 where
   pub old : Program
   pub new : Program
 
-abbrev pub pairs_of : Texts → List Straight
-pairs_of t = straights_of (core_program t.old) (core_program t.new)
+-- why their core programs can't be compared
+abbrev pub clash_of : Texts → Option Refusal
+clash_of t = refusal_of (core_program t.old) (core_program t.new)
+
+-- what they give to judge
+pub record IsWorkOf (t : Texts) (h : Held) : Type 0 where
+  pub old : h.old ≡ core_program t.old
+  pub new : h.new ≡ core_program t.new
+  pub held : IsHeld h
 
 -- the digests of the texts and of absent settings
 abbrev pub digests_of : Texts → Digests
@@ -34,3 +41,8 @@ pub record AreRead (held : List ℕ → Option (List ℕ)) (job : JobNames) (t :
   pub new_held : Holds (held job.new) t.new_bytes
   pub old_read : IsTaken t.old_bytes t.old
   pub new_read : IsTaken t.new_bytes t.new
+
+-- they can be compared
+pub record AreMatched (held : List ℕ → Option (List ℕ)) (job : JobNames) (t : Texts) : Type 0 where
+  pub are_read : AreRead held job t
+  pub no_clash : clash_of t ≡ None

@@ -1,28 +1,55 @@
--- What is said of each pair.
-use Rattle.std.specs.Prelude.{◌≡◌, Bool, false, List, [], ◌∷◌, length, take, drop, if◌then◌else◌}
-use Rattle.std.specs.List.{list_any, AllByRecursion}
+-- What is said of each pair of procedures.
+use Rattle.std.specs.Prelude.{◌≡◌, Bool, true, false, ◌&&◌, ◌||◌, List, [], ◌∷◌, ◌++◌, length, drop, Option, Some, is_some, slice_get, if◌then◌else◌}
+use Rattle.std.specs.List.{AllByRecursion}
 use Rattle.sd_ast.specs.declared.Program.{Program}
 use Rattle.sd_meaning.specs.NewFailure.{NewFailure}
-use Rattle.sd_product.specs.declared.straight.Straight.{Straight}
+use Rattle.sd_core.specs.declared.CoreProc.{CoreProc}
+use Rattle.sd_core.specs.declared.CoreProgram.{CoreProgram}
+use Rattle.sd_match.specs.declared.pair.PairState.{PairState}
+use Rattle.sd_match.specs.declared.pair.PairState.TheVariants as pair_state
+use Rattle.sd_match.specs.declared.pair.Pair.{Pair}
+use Rattle.sd_cand.specs.declared.candidate.Claim.{Claim}
+use Rattle.sd_cand.specs.declared.candidate.Claim.TheVariants.{Flag}
+use Rattle.sd_cand.specs.declared.candidate.Candidate.{Candidate}
+use Rattle.sd_cand.specs.Candidates.{candidates_of}
 use Rattle.symdiff.specs.declared.verdict.PairVerdict.{PairVerdict}
 use Rattle.symdiff.specs.declared.verdict.VerdictState.{VerdictState}
-use Rattle.symdiff.specs.declared.verdict.VerdictState.TheVariants.{Safe, Unknown, Signature}
+use Rattle.symdiff.specs.declared.verdict.VerdictState.TheVariants.{Safe, Unknown, Unproved, Signature, UnmatchedRecursion}
+use Rattle.symdiff.specs.declared.verdict.Otherwise.{Otherwise}
+use Rattle.symdiff.specs.declared.verdict.Otherwise.TheVariants as otherwise
 
-abbrev pub any_live : List Bool → Bool
-any_live = list_any (λ b. b)
+abbrev pub is_flag : Claim → Bool
+is_flag Flag = true
+is_flag _ = false
 
--- A pair that isn't refused is safe where one of its candidates is live. Each of them claims the flag. Where none is
--- live, this is said of the pair.
-abbrev pub state_of : VerdictState → Straight → List Bool → VerdictState
-state_of otherwise pair live = if pair.refused then Signature else if any_live live then Safe else otherwise
+-- whether a claim on the flags is live, in a table that begins with these candidates
+abbrev pub flag_live : List Candidate → List Bool → Bool
+flag_live [] table = false
+flag_live (c ∷ cs) [] = false
+flag_live (c ∷ cs) (live ∷ table) = (is_flag c.claim && live) || flag_live cs table
 
-abbrev pub verdict_of : VerdictState → Straight → List Bool → PairVerdict
-verdict_of otherwise pair live = record { old = pair.old; new = pair.new; state = state_of otherwise pair live; equal = false }
+abbrev pub said : Otherwise → VerdictState
+said otherwise.Unknown = Unknown
+said otherwise.Unproved = Unproved
+
+-- A pair that isn't refused is safe where a claim on the flags is live.
+abbrev pub state_of : Otherwise → PairState → Bool → VerdictState
+state_of o pair_state.Open live = if live then Safe else said o
+state_of o pair_state.Signature live = Signature
+state_of o (pair_state.UnmatchedRecursion x) live = UnmatchedRecursion x
+
+-- the verdict of a pair of procedures; a pair of loops has none
+abbrev pub verdict_by : Otherwise → Pair → Bool → Option CoreProc → Option CoreProc → List PairVerdict
+verdict_by o pair live (Some p) (Some q) = if is_some p.parent then [] else record { old = p.name; new = q.name; state = state_of o pair.state live; equal = false } ∷ []
+verdict_by o pair live _ _ = []
+
+abbrev pub verdict_of : Otherwise → CoreProgram → CoreProgram → Pair → Bool → List PairVerdict
+verdict_of o P Q pair live = verdict_by o pair live (slice_get P.procs pair.old) (slice_get Q.procs pair.new)
 
 -- the verdicts of pairs, of which the table has the candidates one after another
-abbrev pub verdicts_of : VerdictState → List Straight → List Bool → List PairVerdict
-verdicts_of otherwise [] table = []
-verdicts_of otherwise (pair ∷ pairs) table = verdict_of otherwise pair (take (length pair.queries) table) ∷ verdicts_of otherwise pairs (drop (length pair.queries) table)
+abbrev pub verdicts_of : Otherwise → CoreProgram → CoreProgram → List Pair → List Bool → List PairVerdict
+verdicts_of o P Q [] table = []
+verdicts_of o P Q (pair ∷ pairs) table = verdict_of o P Q pair (flag_live (candidates_of pair) table) ++ verdicts_of o P Q pairs (drop (length (candidates_of pair)) table)
 
 -- no pair that is said to be safe has a new failure
 abbrev pub NoNewFailure : Program → Program → List PairVerdict → Type 0

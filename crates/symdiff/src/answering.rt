@@ -2,13 +2,17 @@
 ghost use Rattle.std.specs.Prelude.{◌≡◌, ◌≢◌, ◌↔◌, IfOk, IsErrOf, Err, map, string_bytes};
 ghost use Rattle.sd_base.specs.Causes.{AllSame};
 ghost use Rattle.sd_base.specs.Outside.{AllStay};
-ghost use Rattle.symdiff.specs.Answer.{Answer, ReadRose};
-ghost use Rattle.symdiff.specs.Replies.{outcome_of, IsTextReply};
+ghost use Rattle.symdiff.specs.Answer.{Answer, CertificateRose, ReadRose};
+ghost use Rattle.symdiff.specs.Jobs.{task_of};
+ghost use Rattle.symdiff.specs.TextRefusals.{IsTaken};
+ghost use Rattle.symdiff.specs.Replies.{outcome_of, texts_of, IsMatched, IsTextReply, IsTaskReply, IsTextsReply};
 
 use crate::comparing::compare;
+use crate::match_error::refuse_clash;
+use crate::matching::{Matched, match_texts};
 use crate::replaying::replay_file;
 use crate::reply::{Reply, Stop, message};
-use crate::text::{TextFault, read_text};
+use crate::text::{Text, TextFault, read_text};
 use crate::text_error::{refusal_status, text_error};
 use crate::words::{Task, job_named};
 use sd_base::Files;
@@ -30,6 +34,46 @@ fn refuse<'a>(alloc: Global, word: &[u8], fault: TextFault) -> Result<Reply<'a>,
         }
         TextFault::Failed => Err(Stop::Failed),
         TextFault::Memory => Err(Stop::Memory),
+    }
+}
+
+/// The reply to a task on two texts that can be compared.
+fn judge_texts<'a, F: Files>(
+    alloc: Global,
+    files: &mut F,
+    task: Task<'a>,
+    matched: &Matched,
+) -> Result<Reply<'a>, Stop>
+    requires { IsMatched matched.now }
+    ensures reply { IfOk result (λ reply. IsTaskReply (task_of task.entry) (F.held files.old) (texts_of matched.now.old matched.now.new) (outcome_of reply)) }
+    ensures cause { IsErrOf result Stop.Failed → CertificateRose (task_of task.entry) (F.read_faults files.old) (F.read_faults files.new) }
+    ensures stay { AllStay F.held files.old files.new }
+    ensures no_fault { result ≢ Err Stop.Failed → AllSame (F.read_faults files.old) (F.read_faults files.new) × AllSame (F.write_faults files.old) (F.write_faults files.new) }
+{
+    match task {
+        Task::Verify(name) => Ok(compare(alloc, matched, name)?),
+        Task::Replay(name) => replay_file(alloc, files, matched, name),
+    }
+}
+
+/// The reply to a task on two texts.
+fn reply_on<'a, F: Files>(
+    alloc: Global,
+    files: &mut F,
+    task: Task<'a>,
+    old: Text,
+    new: Text,
+) -> Result<Reply<'a>, Stop>
+    requires old_taken { IsTaken old.bytes.items old.program }
+    requires new_taken { IsTaken new.bytes.items new.program }
+    ensures reply { IfOk result (λ reply. IsTextsReply (task_of task.entry) (F.held files.old) (texts_of old new) (outcome_of reply)) }
+    ensures cause { IsErrOf result Stop.Failed → CertificateRose (task_of task.entry) (F.read_faults files.old) (F.read_faults files.new) }
+    ensures stay { AllStay F.held files.old files.new }
+    ensures no_fault { result ≢ Err Stop.Failed → AllSame (F.read_faults files.old) (F.read_faults files.new) × AllSame (F.write_faults files.old) (F.write_faults files.new) }
+{
+    match match_texts(alloc, old, new) {
+        Ok(matched) => judge_texts(alloc, files, task, &matched),
+        Err(clash) => Ok(refuse_clash(alloc, &clash)?),
     }
 }
 
@@ -55,8 +99,5 @@ pub fn reply_to<'a, F: Files>(
         Ok(new) => new,
         Err(fault) => return refuse(alloc, b"new", fault),
     };
-    match job.task {
-        Task::Verify(name) => Ok(compare(alloc, &old, &new, name)?),
-        Task::Replay(name) => replay_file(alloc, files, &old, &new, name),
-    }
+    reply_on(alloc, files, job.task, old, new)
 }

@@ -2,67 +2,51 @@
 ghost use Rattle.std.specs.Prelude.{◌≡◌, length, IfOk};
 ghost use Rattle.std.specs.Option.{option_copied};
 ghost use Rattle.sd_product.specs.Inductive.{proved_of};
-ghost use Rattle.sd_product.specs.Straight.{queries_of};
+ghost use Rattle.sd_product.specs.Work.{claims_in};
 ghost use Rattle.sd_cert.specs.Accepts.{Ascend};
-ghost use Rattle.sd_cert.specs.Written.{RefusedAreEmpty};
 ghost use Rattle.symdiff.specs.Outcome.{IsComparison};
-ghost use Rattle.symdiff.specs.TextRefusals.{IsTaken};
-ghost use Rattle.symdiff.specs.Replies.{outcome_of, texts_of, named, IsMade};
+ghost use Rattle.symdiff.specs.Replies.{outcome_of, texts_of, named, IsMade, IsMatched};
 
-use crate::extracted::Text;
+use crate::matching::Matched;
 use crate::reply::{NamedCertificate, Reply, report_on};
-use crate::text::{digests, pairs};
-use crate::verdict::VerdictState;
+use crate::verdict::Otherwise;
 use sd_base::NoMemory;
 use sd_cert::write_certificate;
+use sd_form::laws::boolean_is_kept;
 use sd_kernel::Proved;
-use sd_product::Straight;
-use sd_rounds::settle_straight;
+use sd_rounds::settle_one;
 use std::alloc::Global;
 
-/// The certificate of the pairs of two texts with these proofs, if a file is named for it.
+/// The certificate of two texts with these proofs, if a file is named for it.
 fn certify<'a>(
     alloc: Global,
-    old: &Text,
-    new: &Text,
-    straights: &[Straight],
+    matched: &Matched,
     proofs: &[Proved],
     name: Option<&'a str>,
 ) -> Result<Option<NamedCertificate<'a>>, NoMemory>
-    requires empty { RefusedAreEmpty straights.now }
-    requires ascend { Ascend 0 (length (queries_of straights.now)) (proved_of proofs.now) }
-    ensures { IfOk result (λ made. IsMade (texts_of old.now new.now) straights.now proofs.now (option_copied name.entry) (named made)) }
+    requires ascend { Ascend 0 (length (claims_in matched.now.work)) (proved_of proofs.now) }
+    ensures { IfOk result (λ made. IsMade (texts_of matched.now.old matched.now.new) matched.now.work proofs.now (option_copied name.entry) (named made)) }
 {
     let Some(name) = name else {
         return Ok(None);
     };
-    let text = write_certificate(alloc, straights, &digests(old, new), proofs)?;
+    let text = write_certificate(alloc, &matched.work, &matched.digests(), proofs)?;
     Ok(Some(NamedCertificate { name, text }))
 }
 
-/// Pairs the procedures of two texts and judges the pairs. The certificate is made where a file is named for it.
+/// Judges the pairs of two texts. The certificate is made where a file is named for it.
 pub fn compare<'a>(
     alloc: Global,
-    old: &Text,
-    new: &Text,
+    matched: &Matched,
     name: Option<&'a str>,
 ) -> Result<Reply<'a>, NoMemory>
-    requires old_read { IsTaken old.now.bytes.items old.now.program }
-    requires new_read { IsTaken new.now.bytes.items new.now.program }
-    ensures { IfOk result (λ reply. IsComparison (option_copied name.entry) (texts_of old.now new.now) (outcome_of reply)) }
+    requires { IsMatched matched.now }
+    ensures { IfOk result (λ reply. IsComparison (option_copied name.entry) (texts_of matched.now.old matched.now.new) (outcome_of reply)) }
 {
-    let straights = pairs(alloc, old, new)?;
-    let straights = straights.as_slice();
-    let settled = settle_straight(alloc, straights)?;
-    let certificate = certify(alloc, old, new, straights, settled.proofs.as_slice(), name)?;
-    let report = report_on(
-        alloc,
-        old,
-        new,
-        straights,
-        &settled.table,
-        VerdictState::Unknown,
-    )?;
+    boolean_is_kept();
+    let settled = settle_one(alloc, &matched.work)?;
+    let certificate = certify(alloc, matched, settled.proofs.as_slice(), name)?;
+    let report = report_on(alloc, matched, &settled.table, Otherwise::Unknown)?;
     Ok(Reply {
         status: report.status,
         text: report.text,

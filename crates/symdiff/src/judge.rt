@@ -1,98 +1,147 @@
-ghost use Rattle.std.specs.Prelude.{◌≡◌, ◌≤◌, ◌+◌, ◌-◌, IfOk, length, take, drop};
-ghost use Rattle.sd_product.specs.Straight.{queries_of};
-ghost use Rattle.symdiff.specs.Verdicts.{any_live, state_of, verdict_of, verdicts_of};
+//! What is said of pairs, from the table of live candidates.
+ghost use Rattle.std.specs.Prelude.{◌≡◌, ◌≤◌, ◌+◌, ◌++◌, IfOk, OnOk, length, drop, map, if◌then◌else◌};
+ghost use Rattle.std.specs.Option.{option_copied};
+ghost use Rattle.sd_product.specs.Work.{pairs_in, claims_in};
+ghost use Rattle.symdiff.specs.Verdicts.{is_flag, flag_live, said, state_of, verdict_by, verdict_of, verdicts_of};
+ghost use Rattle.symdiff.specs.declared.verdict.VerdictState.TheVariants.{Safe};
 
-use crate::verdict::{PairVerdict, VerdictState};
+use crate::verdict::{Otherwise, PairVerdict, VerdictState};
 use sd_base::{CloneOf, NoMemory};
-use sd_cand::LiveTable;
-use sd_product::Straight;
+use sd_cand::{Candidate, Claim, LiveTable};
+use sd_core::CoreProc;
+use sd_match::{Pair, PairState};
+use sd_product::Work;
 use std::alloc::Global;
 
-/// Whether one of the candidates from the first to before the end is live.
-fn any_live(table: &LiveTable, first: u32, end: u32) -> bool
-    requires ordered { first ≤ end }
-    requires within { end ≤ length table.now }
-    ensures { result ≡ any_live (take (end - first) (drop first table.now)) }
+fn is_flag(claim: Claim) -> bool
+    ensures { result ≡ is_flag claim }
 {
-    'candidates: for candidate in first..end {
-        if table.get(candidate) {
+    match claim {
+        Claim::Flag => true,
+        Claim::Output(_) => false,
+    }
+}
+
+/// Whether one of these candidates claims the flag and is live. They are numbered from `first` on.
+fn is_flag_live(candidates: &[Candidate], table: &LiveTable, first: u32) -> bool
+    requires { first + length candidates.now ≤ length table.now }
+    ensures { result ≡ flag_live candidates.now (drop first table.now) }
+{
+    let end = table.count();
+    let mut number = first;
+    for candidate in candidates {
+        prove!(number < end);
+        if is_flag(candidate.claim) && table.get(number) {
             return true;
         }
+        number += 1;
     }
     false
 }
 
-/// What is said of a pair whose candidates are these. Where none is live it is `otherwise`.
-fn state_of(
-    pair: &Straight,
-    table: &LiveTable,
-    first: u32,
-    end: u32,
-    otherwise: VerdictState,
-) -> VerdictState
-    requires ordered { first + length pair.now.queries ≡ end }
-    requires within { end ≤ length table.now }
-    ensures { result ≡ state_of otherwise pair.now (take (length pair.now.queries) (drop first table.now)) }
+/// What is said of a pair that isn't refused.
+fn open_state(live: bool, otherwise: Otherwise) -> VerdictState
+    ensures { result ≡ (if live then Safe else said otherwise) }
 {
-    if pair.refused {
-        return VerdictState::Signature;
-    }
-    if any_live(table, first, end) {
+    if live {
         return VerdictState::Safe;
     }
-    otherwise
-}
-
-/// The verdict of a pair whose candidates are these.
-fn verdict(
-    alloc: Global,
-    pair: &Straight,
-    table: &LiveTable,
-    first: u32,
-    end: u32,
-    otherwise: VerdictState,
-) -> Result<PairVerdict, NoMemory>
-    requires ordered { first + length pair.now.queries ≡ end }
-    requires within { end ≤ length table.now }
-    ensures { IfOk result (λ v. v ≡ verdict_of otherwise pair.now (take (length pair.now.queries) (drop first table.now))) }
-{
-    Ok(PairVerdict {
-        old: pair.old.clone_of(alloc)?,
-        new: pair.new.clone_of(alloc)?,
-        state: state_of(pair, table, first, end, otherwise),
-        equal: false,
-    })
-}
-
-/// The number after the candidates of a pair.
-fn end_of(pair: &Straight, first: u32) -> Result<u32, NoMemory>
-    ensures { IfOk result (λ end. first + length pair.now.queries ≡ end) }
-{
-    match u32::try_from(pair.queries.len()) {
-        Ok(count) => match first.checked_add(count) {
-            Some(end) => Ok(end),
-            None => Err(NoMemory),
-        },
-        Err(_) => Err(NoMemory),
+    match otherwise {
+        Otherwise::Unknown => VerdictState::Unknown,
+        Otherwise::Unproved => VerdictState::Unproved,
     }
 }
 
-/// The verdict of each pair, from the table of all candidates. A pair without a live one is said to be `otherwise`.
+/// What is said of a pair, by whether a claim on its flags is live.
+fn state_of(
+    alloc: Global,
+    pair: &Pair,
+    live: bool,
+    otherwise: Otherwise,
+) -> Result<VerdictState, NoMemory>
+    ensures { IfOk result (λ state. state ≡ state_of otherwise pair.now.state live) }
+{
+    match &pair.state {
+        PairState::Open => Ok(open_state(live, otherwise)),
+        PairState::Signature => Ok(VerdictState::Signature),
+        PairState::UnmatchedRecursion(callee) => {
+            Ok(VerdictState::UnmatchedRecursion(callee.clone_of(alloc)?))
+        }
+    }
+}
+
+/// Adds the verdict of two procedures, unless they are loops.
+fn put_found(
+    alloc: Global,
+    verdicts: &mut Vec<PairVerdict>,
+    pair: &Pair,
+    live: bool,
+    otherwise: Otherwise,
+    old: Option<&CoreProc>,
+    new: Option<&CoreProc>,
+) -> Result<(), NoMemory>
+    ensures { OnOk result (verdicts.new.items ≡ verdicts.old.items ++ verdict_by otherwise pair.now live (option_copied old.entry) (option_copied new.entry)) }
+{
+    let Some(old) = old else {
+        return Ok(());
+    };
+    let Some(new) = new else {
+        return Ok(());
+    };
+    if old.parent.is_none() {
+        verdicts.push(PairVerdict {
+            old: old.name.clone_of(alloc)?,
+            new: new.name.clone_of(alloc)?,
+            state: state_of(alloc, pair, live, otherwise)?,
+            equal: false,
+        })?;
+    }
+    Ok(())
+}
+
+/// Adds the verdict of a pair of procedures.
+fn put_verdict(
+    alloc: Global,
+    verdicts: &mut Vec<PairVerdict>,
+    work: &Work,
+    pair: &Pair,
+    live: bool,
+    otherwise: Otherwise,
+) -> Result<(), NoMemory>
+    ensures { OnOk result (verdicts.new.items ≡ verdicts.old.items ++ verdict_of otherwise work.now.old work.now.new pair.now live) }
+{
+    let old = work.old_program().procs.get(pair.old as usize);
+    let new = work.new_program().procs.get(pair.new as usize);
+    put_found(alloc, verdicts, pair, live, otherwise, old, new)
+}
+
+/// The verdict of each pair of procedures, from the table of all candidates.
 pub fn verdicts_of(
     alloc: Global,
-    pairs: &[Straight],
+    work: &Work,
     table: &LiveTable,
-    otherwise: VerdictState,
+    otherwise: Otherwise,
 ) -> Result<Vec<PairVerdict>, NoMemory>
-    requires { length table.now ≡ length (queries_of pairs.now) }
-    ensures { IfOk result (λ verdicts. verdicts.items ≡ verdicts_of otherwise pairs.now table.now) }
+    requires { length table.now ≡ length (claims_in work.now) }
+    ensures { IfOk result (λ verdicts. verdicts.items ≡ verdicts_of otherwise work.now.old work.now.new (pairs_in work.now) table.now) }
 {
+    let pairs = work.pairs();
+    let end = table.count();
     let mut verdicts = Vec::new(alloc);
     let mut first = 0;
-    'pairs: for pair in pairs {
-        let end = end_of(pair, first)?;
-        verdicts.push(verdict(alloc, pair, table, first, end, otherwise)?)?;
-        first = end;
+    'pairs: for place in 0..pairs.len() {
+        let candidates = work.candidates_of(place);
+        let live = is_flag_live(candidates, table, first);
+        put_verdict(
+            alloc,
+            &mut verdicts,
+            work,
+            pairs.pair(place),
+            live,
+            otherwise,
+        )?;
+        prove!(candidates.len() <= (end - first) as usize);
+        first += candidates.len() as u32;
     }
     Ok(verdicts)
 }

@@ -4,9 +4,10 @@
 mod answering;
 mod certificate_error;
 mod comparing;
-mod extracted;
 mod judge;
 mod line;
+mod match_error;
+mod matching;
 mod real;
 mod replaying;
 mod reply;

@@ -2,14 +2,12 @@
 ghost use Rattle.std.specs.Prelude.{◌≡◌, ◌≢◌, IfOk, IsErrOf, Err};
 ghost use Rattle.sd_base.specs.Causes.{Rose, AllSame};
 ghost use Rattle.sd_base.specs.Outside.{AllStay};
-ghost use Rattle.symdiff.specs.TextRefusals.{IsTaken};
-ghost use Rattle.symdiff.specs.Replies.{outcome_of, texts_of, refusal, IsJudged, IsReplayReply};
+ghost use Rattle.symdiff.specs.Replies.{outcome_of, texts_of, refusal, IsJudged, IsMatched, IsReplayReply};
 
 use crate::certificate_error::certificate_error;
-use crate::extracted::Text;
+use crate::matching::Matched;
 use crate::reply::{Reply, Stop, message, report_on};
-use crate::text::{digests, pairs};
-use crate::verdict::VerdictState;
+use crate::verdict::Otherwise;
 use sd_base::{Files, NoMemory, ReadFault, read_up_to};
 use sd_cert::{CertError, replay};
 use std::alloc::Global;
@@ -29,25 +27,15 @@ fn refuse<'a>(alloc: Global, fault: CertError) -> Result<Reply<'a>, NoMemory>
 }
 
 /// Judges the bytes of a certificate of two texts.
-fn judge<'a>(alloc: Global, old: &Text, new: &Text, bytes: &[u8]) -> Result<Reply<'a>, NoMemory>
-    requires old_read { IsTaken old.now.bytes.items old.now.program }
-    requires new_read { IsTaken new.now.bytes.items new.now.program }
-    ensures { IfOk result (λ reply. IsJudged bytes.now (texts_of old.now new.now) (outcome_of reply)) }
+fn judge<'a>(alloc: Global, matched: &Matched, bytes: &[u8]) -> Result<Reply<'a>, NoMemory>
+    requires { IsMatched matched.now }
+    ensures { IfOk result (λ reply. IsJudged bytes.now (texts_of matched.now.old matched.now.new) (outcome_of reply)) }
 {
-    let straights = pairs(alloc, old, new)?;
-    let straights = straights.as_slice();
-    let replayed = match replay(alloc, straights, &digests(old, new), bytes) {
+    let replayed = match replay(alloc, &matched.work, &matched.digests(), bytes) {
         Ok(replayed) => replayed,
         Err(fault) => return refuse(alloc, fault),
     };
-    let report = report_on(
-        alloc,
-        old,
-        new,
-        straights,
-        &replayed.table,
-        VerdictState::Unproved,
-    )?;
+    let report = report_on(alloc, matched, &replayed.table, Otherwise::Unproved)?;
     Ok(Reply {
         status: report.status,
         text: report.text,
@@ -62,13 +50,11 @@ fn judge<'a>(alloc: Global, old: &Text, new: &Text, bytes: &[u8]) -> Result<Repl
 pub fn replay_file<'a, F: Files>(
     alloc: Global,
     files: &mut F,
-    old: &Text,
-    new: &Text,
+    matched: &Matched,
     name: &str,
 ) -> Result<Reply<'a>, Stop>
-    requires old_read { IsTaken old.now.bytes.items old.now.program }
-    requires new_read { IsTaken new.now.bytes.items new.now.program }
-    ensures reply { IfOk result (λ reply. IsReplayReply (F.held files.old name.now) (texts_of old.now new.now) (outcome_of reply)) }
+    requires { IsMatched matched.now }
+    ensures reply { IfOk result (λ reply. IsReplayReply (F.held files.old name.now) (texts_of matched.now.old matched.now.new) (outcome_of reply)) }
     ensures cause { IsErrOf result Stop.Failed → Rose (F.read_faults files.old name.now) (F.read_faults files.new name.now) }
     ensures stay { AllStay F.held files.old files.new }
     ensures no_fault { result ≢ Err Stop.Failed → AllSame (F.read_faults files.old) (F.read_faults files.new) × AllSame (F.write_faults files.old) (F.write_faults files.new) }
@@ -81,5 +67,5 @@ pub fn replay_file<'a, F: Files>(
     if bytes.len() > CERTIFICATE_BYTES {
         return Ok(message(alloc, 9, b"error: certificate size\n")?);
     }
-    Ok(judge(alloc, old, new, bytes.as_slice())?)
+    Ok(judge(alloc, matched, bytes.as_slice())?)
 }

@@ -4,18 +4,16 @@ ghost use Rattle.std.specs.List.{list_all};
 ghost use Rattle.symdiff.specs.Outcome as outcome;
 ghost use Rattle.symdiff.specs.Outcome.{IsReport};
 ghost use Rattle.sd_rounds.specs.declared.settle.Death.{Death};
-ghost use Rattle.sd_product.specs.Straight.{queries_of};
-ghost use Rattle.symdiff.specs.Texts.{pairs_of};
-ghost use Rattle.symdiff.specs.Replies.{outcome_of, outcome_with, texts_of};
+ghost use Rattle.sd_product.specs.Work.{claims_in};
+ghost use Rattle.symdiff.specs.Replies.{outcome_of, outcome_with, texts_of, IsMatched};
 ghost use Rattle.symdiff.specs.Report.{is_safe};
 
-use crate::extracted::Text;
 use crate::judge::verdicts_of;
-use crate::text::report;
-use crate::verdict::{PairVerdict, VerdictState};
+use crate::matching::Matched;
+use crate::report::report_of;
+use crate::verdict::{Otherwise, PairVerdict};
 use sd_base::NoMemory;
 use sd_cand::LiveTable;
-use sd_product::Straight;
 use sd_rounds::Death;
 use std::alloc::Global;
 
@@ -92,22 +90,26 @@ fn status_of(pairs: &[PairVerdict]) -> u8
     if all_safe(pairs) { 0 } else { 1 }
 }
 
-/// The report on two texts whose pairs are these, from the table of live candidates. A pair without a live one is said
-/// to be `otherwise`.
+/// The report on two texts from the table of live candidates. A pair of which no claim on the flags is live is said to be
+/// `otherwise`.
 pub fn report_on(
     alloc: Global,
-    old: &Text,
-    new: &Text,
-    straights: &[Straight],
+    matched: &Matched,
     table: &LiveTable,
-    otherwise: VerdictState,
+    otherwise: Otherwise,
 ) -> Result<Report, NoMemory>
-    requires pairs { straights.now ≡ pairs_of (texts_of old.now new.now) }
-    requires size { length table.now ≡ length (queries_of straights.now) }
-    ensures { IfOk result (λ report. (deaths : List Death) (certificate : Option (List ℕ × List ℕ)) → IsReport otherwise (texts_of old.now new.now) table.now (outcome_with report deaths certificate)) }
+    requires matched { IsMatched matched.now }
+    requires size { length table.now ≡ length (claims_in matched.now.work) }
+    ensures { IfOk result (λ report. (deaths : List Death) (certificate : Option (List ℕ × List ℕ)) → IsReport otherwise (texts_of matched.now.old matched.now.new) table.now (outcome_with report deaths certificate)) }
 {
-    let pairs = verdicts_of(alloc, straights, table, otherwise)?;
-    let text = report(alloc, old, new, pairs.as_slice())?;
+    let work = &matched.work;
+    let pairs = verdicts_of(alloc, work, table, otherwise)?;
+    let text = report_of(
+        alloc,
+        work.old_program(),
+        work.new_program(),
+        pairs.as_slice(),
+    )?;
     let status = status_of(pairs.as_slice());
     Ok(Report {
         status,

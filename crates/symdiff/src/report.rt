@@ -2,40 +2,53 @@ ghost use Rattle.std.specs.Prelude.{◌≡◌, ◌++◌, IfOk, OnOk, codes, deci
 ghost use Rattle.std.specs.List.{flat_map};
 ghost use Rattle.symdiff.specs.Report.{line_end, beginning, ending, verdict_line, only_line, summary, report, count_of, is_safe, is_unknown, is_refused};
 
+use crate::line::push;
 use crate::verdict::{PairVerdict, VerdictState};
-use sd_base::NoMemory;
+use sd_base::{Name, NoMemory};
 use sd_core::{CoreProc, CoreProgram};
 use sd_match::Procedures;
 use std::alloc::Global;
 
-fn beginning(state: VerdictState) -> &'static [u8]
-    ensures { result.now ≡ beginning state }
+fn beginning(state: &VerdictState) -> &'static [u8]
+    ensures { result.now ≡ beginning state.now }
 {
     match state {
         VerdictState::Safe => b"safe ",
         VerdictState::Unknown => b"unknown ",
         VerdictState::Unproved => b"unproved ",
         VerdictState::Signature => b"refused ",
+        VerdictState::UnmatchedRecursion(_) => b"refused ",
     }
 }
 
-fn ending(state: VerdictState) -> &'static [u8]
-    ensures { result.now ≡ ending state }
+/// How a line ends that names a procedure without partner.
+fn push_callee(out: &mut Vec<u8>, callee: &Name) -> Result<(), NoMemory>
+    ensures { OnOk result (out.new.items ≡ out.old.items ++ codes " unmatched-recursion " ++ callee.now ++ line_end) }
+{
+    push(out, b" unmatched-recursion ")?;
+    push(out, callee.as_bytes())?;
+    push(out, b"\n")?;
+    Ok(())
+}
+
+fn push_ending(out: &mut Vec<u8>, state: &VerdictState) -> Result<(), NoMemory>
+    ensures { OnOk result (out.new.items ≡ out.old.items ++ ending state.now) }
 {
     match state {
-        VerdictState::Signature => b" signature\n",
-        _ => b"\n",
+        VerdictState::Signature => push(out, b" signature\n"),
+        VerdictState::UnmatchedRecursion(callee) => push_callee(out, callee),
+        _ => push(out, b"\n"),
     }
 }
 
 fn push_verdict(out: &mut Vec<u8>, verdict: &PairVerdict) -> Result<(), NoMemory>
     ensures { OnOk result (out.new.items ≡ out.old.items ++ verdict_line verdict.now) }
 {
-    out.extend_from_slice(beginning(verdict.state))?;
+    out.extend_from_slice(beginning(&verdict.state))?;
     out.extend_from_slice(verdict.old.as_bytes())?;
     out.extend_from_slice(b" ")?;
     out.extend_from_slice(verdict.new.as_bytes())?;
-    out.extend_from_slice(ending(verdict.state))?;
+    push_ending(out, &verdict.state)?;
     Ok(())
 }
 
@@ -48,7 +61,7 @@ fn push_verdicts(out: &mut Vec<u8>, verdicts: &[PairVerdict]) -> Result<(), NoMe
     Ok(())
 }
 
-/// A line for a procedure without partner among the others.
+/// A line for a procedure without partner among the others. A loop has none.
 fn push_only(
     out: &mut Vec<u8>,
     word: &[u8],
@@ -57,8 +70,7 @@ fn push_only(
 ) -> Result<(), NoMemory>
     ensures { OnOk result (out.new.items ≡ out.old.items ++ only_line word.now others.now.procs.now proc.now) }
 {
-    let has_partner = others.named(&proc.name).is_some();
-    if !has_partner {
+    if proc.parent.is_none() && others.named(&proc.name).is_none() {
         out.extend_from_slice(word)?;
         out.extend_from_slice(proc.name.as_bytes())?;
         out.extend_from_slice(b"\n")?;

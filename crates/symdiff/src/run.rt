@@ -122,7 +122,7 @@ fn end_with(reply: Reply<'_>, code: u8, certificate_file: CertificateFile) -> En
 /// others 2013: differential assertion checking); with `--certificate FILE` it writes before that the certificate of
 /// the report to a file. `replay OLD NEW CERTIFICATE` writes the report from a certificate that it checks. The
 /// statuses: 0 every pair is safe; 1 some pair isn't; 2 the words name no job; 3 a text is no program that this version
-/// takes; 5 the certificate is refused; 6 the reading of a file failed; 7 the writing failed; 8 memory ran out; 9 the
+/// takes; 4 the two texts declare a name with two types; 5 the certificate is refused; 6 the reading of a file failed; 7 the writing failed; 8 memory ran out; 9 the
 /// certificate is too long.
 pub fn run<R: Threads + Sync, F: Files, S: Sink, G: Gate>(
     _rt: &R,
@@ -132,7 +132,7 @@ pub fn run<R: Threads + Sync, F: Files, S: Sink, G: Gate>(
     out: &mut S,
     _gate: &G,
 ) -> Ended
-    ensures known { Contains (0 ∷ 1 ∷ 2 ∷ 3 ∷ 5 ∷ 6 ∷ 7 ∷ 8 ∷ 9 ∷ []) result.status.code }
+    ensures known { Contains (0 ∷ 1 ∷ 2 ∷ 3 ∷ 4 ∷ 5 ∷ 6 ∷ 7 ∷ 8 ∷ 9 ∷ []) result.status.code }
 
     // Each other status than 6, 7 and 8 is a row of the table of answers, and its certificate and its text were written whole.
     ensures answer { result.status.code ≢ 6 → result.status.code ≢ 7 → result.status.code ≢ 8
@@ -165,7 +165,7 @@ pub fn run<R: Threads + Sync, F: Files, S: Sink, G: Gate>(
     // Where a pair is said to be safe, no meaning and no equal input let the old procedure end while the new one fails.
     ensures headline { Headline (map string_bytes words.now) (F.held files.old) result.pairs.items }
 
-    // Where a pair is said to be unknown, such an input is there.
+    // Where a pair is said to be unknown and the texts have no calls and no loops, such an input is there.
     ensures unknown { UnknownIsFailure (map string_bytes words.now) (F.held files.old) result.pairs.items }
 {
     let reply = match reply_to(alloc, words, files) {

@@ -1,5 +1,7 @@
+use crate::match_error::refuse_clash;
 use crate::run::{CertificateFile, Ended, run};
 use sd_base::{Files, MemFiles, MemSink, Name, OpenGate};
+use sd_match::MatchError;
 use sd_rounds::Cause;
 use std::alloc::Global;
 use std::process::Abort;
@@ -22,6 +24,14 @@ const ASSERTS_NOT_NOT_B: &[u8] = b"procedure p(b: bool) { assert !!b; }\n";
 const ASSERTS_B_OF_TWO: &[u8] = b"procedure p(b: bool, c: bool) { assert b; }\n";
 
 const ASSERTS_BOTH: &[u8] = b"procedure p(b: bool, c: bool) { assert b && c; }\n";
+
+/// A procedure that calls itself with the opposite.
+const CALLS_ITSELF: &[u8] =
+    b"procedure t(b: bool) returns (r: bool) { if (b) { call r := t(!b); } else { r := b; } assert !r; }\n";
+
+/// The same with the value that its call has.
+const CALLS_ITSELF_ONCE: &[u8] =
+    b"procedure t(b: bool) returns (r: bool) { r := b; if (b) { call r := t(false); } assert !r; }\n";
 
 const USAGE: &[u8] =
     b"usage: symdiff verify OLD NEW [--settings FILE] [--workers N] [--leaves N] [--certificate FILE]\n       symdiff replay OLD NEW CERTIFICATE [--settings FILE]\n       symdiff gen N [--workers N] [--leaves N]\n";
@@ -70,7 +80,7 @@ fn run_words<R: Threads + Sync + Abort>(
 }
 
 /// Texts with the status and the text that `verify old new` answers.
-const REPORTS: [(&[u8], &[u8], u8, &[u8]); 14] = [
+const REPORTS: [(&[u8], &[u8], u8, &[u8]); 18] = [
     (
         b"",
         b"",
@@ -149,6 +159,30 @@ const REPORTS: [(&[u8], &[u8], u8, &[u8]); 14] = [
         b"procedure p(b: bool) { assert b; }\n",
         0,
         b"only new p\npairs 0 safe 0 equal 0 unknown 0 refused 0 axioms 0 0\n",
+    ),
+    (
+        CALLS_ITSELF,
+        CALLS_ITSELF_ONCE,
+        0,
+        b"safe t t\npairs 1 safe 1 equal 0 unknown 0 refused 0 axioms 0 0\n",
+    ),
+    (
+        b"procedure p(b: bool) { var i: bool; i := b; while (i) { i := !i; } assert !i; }\n",
+        b"procedure p(b: bool) { var i: bool; i := b; while (i) { i := false; } assert !i; }\n",
+        0,
+        b"safe p p\npairs 1 safe 1 equal 0 unknown 0 refused 0 axioms 0 0\n",
+    ),
+    (
+        b"procedure c(k: bool) { assert k; } procedure p(x: bool) { call c(x); }\n",
+        b"procedure c(k: bool) { assert k; } procedure p(x: bool) { call c(!x); }\n",
+        1,
+        b"safe c c\nunknown p p\npairs 2 safe 1 equal 0 unknown 1 refused 0 axioms 0 0\n",
+    ),
+    (
+        b"procedure f(b: bool) { assert b; }\n",
+        b"procedure helper(b: bool) { } procedure f(b: bool) { call helper(b); assert b; }\n",
+        1,
+        b"refused f f unmatched-recursion helper\nonly new helper\npairs 1 safe 0 equal 0 unknown 0 refused 1 axioms 0 0\n",
     ),
 ];
 
@@ -495,6 +529,40 @@ fn a_written_certificate_is_accepted(rt: HostRuntime) -> Result<(), Fail> {
         assert_eq!(rt; ended.status.code, 0);
         assert!(rt; ended.table.as_slice() == [2].as_slice());
     }
+    Ok(())
+}
+
+#[test]
+fn a_certificate_of_calls_is_accepted(rt: HostRuntime) -> Result<(), Fail> {
+    let alloc = rt.alloc();
+    let room = 100000;
+    let texts = (CALLS_ITSELF, CALLS_ITSELF_ONCE, b"".as_slice());
+    let mut files = files_of(&rt, alloc, texts, room, &[])?;
+    let report = b"safe t t\npairs 1 safe 1 equal 0 unknown 0 refused 0 axioms 0 0\n".as_slice();
+    for words in [CERTIFY.as_slice(), REPLAY.as_slice()] {
+        let mut sink = MemSink::new(alloc, 1000, 1000, Vec::new(alloc))?;
+        let words = words_of(alloc, words)?;
+        let ended = run(
+            &rt,
+            alloc,
+            words.as_slice(),
+            &mut files,
+            &mut sink,
+            &OpenGate,
+        );
+        assert_eq!(rt; ended.status.code, 0);
+        assert_eq!(rt; sink.taken(), report);
+    }
+    Ok(())
+}
+
+#[test]
+fn a_clash_is_named(rt: HostRuntime) -> Result<(), Fail> {
+    let alloc = rt.alloc();
+    let clash = MatchError::GlobalTypes(Name::new(alloc, b"g")?);
+    let reply = refuse_clash(alloc, &clash)?;
+    assert_eq!(rt; reply.status, 4);
+    assert!(rt; reply.text.as_slice() == b"error: match globals g\n".as_slice());
     Ok(())
 }
 

@@ -4,27 +4,23 @@ ghost use Rattle.sd_base.specs.Causes.{Rose, NeverFall, AllSame};
 ghost use Rattle.sd_base.specs.Outside.{WhereTold, AllStay};
 ghost use Rattle.sd_types.specs.Declarations.{WellTyped};
 ghost use Rattle.symdiff.specs.declared.text.TextRefusal.{TextRefusal as Refusal};
-ghost use Rattle.std.specs.List.{AllByRecursion};
-ghost use Rattle.sd_extract.specs.Programs.{core_program};
-ghost use Rattle.sd_kernel.specs.OpenCube.{AllBoolean};
-ghost use Rattle.sd_product.specs.Straight.{queries_of};
-ghost use Rattle.symdiff.specs.Report as spec;
-ghost use Rattle.symdiff.specs.Texts.{Holds, pairs_of, digests_of};
+ghost use Rattle.symdiff.specs.Texts.{Holds};
 ghost use Rattle.symdiff.specs.TextRefusals.{IsTaken, IsTextRefusal};
-ghost use Rattle.symdiff.specs.Replies.{texts_of};
 ghost use Rattle.symdiff.specs.Taking.{IsFault, IsReadFault, IsTypeFault};
 
-use crate::extracted::Text;
-use crate::report::report_of;
-use crate::verdict::PairVerdict;
 use sd_base::limits::TEXT_BYTES;
-use sd_base::{Files, NoMemory, ReadFault, read_up_to};
-use sd_cert::{Digests, digests_of};
-use sd_extract::{extract, is_straight_program};
+use sd_base::{Files, ReadFault, read_up_to};
+use sd_form::is_boolean_program;
 use sd_parse::{ReadError, read_program};
-use sd_product::{Straight, straight_pairs};
 use sd_types::{TypeError, Typed, check};
 use std::alloc::Global;
+
+/// A text that was read, and the program that it spells.
+#[derive(Drop)]
+pub struct Text {
+    pub bytes: Vec<u8>,
+    pub program: Typed,
+}
 
 /// Why a text isn't taken.
 #[derive(Drop)]
@@ -77,7 +73,7 @@ fn take(alloc: Global, bytes: &[u8]) -> Result<Typed, TextFault>
         Ok(typed) => typed,
         Err((_, error)) => return Err(type_fault(error)),
     };
-    if !is_straight_program(typed.program()) {
+    if !is_boolean_program(typed.program()) {
         return Err(TextFault::Refused(TextRefusal::NotYet));
     }
     Ok(typed)
@@ -103,41 +99,5 @@ pub fn read_text<F: Files>(alloc: Global, files: &mut F, name: &str) -> Result<T
         Ok(program) => program,
         Err(fault) => return Err(fault),
     };
-    match extract(alloc, &program) {
-        Ok(core) => Ok(Text {
-            bytes,
-            program,
-            core,
-        }),
-        Err(_) => Err(TextFault::Memory),
-    }
-}
-
-/// The pairs of the procedures of two texts, each with the queries of its candidates.
-pub fn pairs(alloc: Global, old: &Text, new: &Text) -> Result<Vec<Straight>, NoMemory>
-    requires old_taken { IsTaken old.now.bytes.items old.now.program }
-    requires new_taken { IsTaken new.now.bytes.items new.now.program }
-    ensures pairs { IfOk result (λ pairs. pairs.items ≡ pairs_of (texts_of old.now new.now)) }
-    ensures boolean { IfOk result (λ pairs. AllByRecursion AllBoolean (queries_of pairs.items)) }
-{
-    straight_pairs(alloc, &old.core, &new.core)
-}
-
-/// The report on two texts whose pairs have these verdicts.
-pub fn report(
-    alloc: Global,
-    old: &Text,
-    new: &Text,
-    verdicts: &[PairVerdict],
-) -> Result<Vec<u8>, NoMemory>
-    ensures { IfOk result (λ text. text.items ≡ spec.report (core_program old.now.program) (core_program new.now.program) verdicts.now) }
-{
-    report_of(alloc, &old.core, &new.core, verdicts)
-}
-
-/// The digests of two texts, and of absent settings.
-pub fn digests(old: &Text, new: &Text) -> Digests
-    ensures { result ≡ digests_of (texts_of old.now new.now) }
-{
-    digests_of(old.bytes.as_slice(), new.bytes.as_slice(), b"")
+    Ok(Text { bytes, program })
 }

@@ -3,7 +3,7 @@ ghost use Rattle.std.specs.Prelude.{◌≡◌};
 use sd_base::Name;
 
 /// What is said of a pair of procedures.
-#[derive(Clone, Copy, Debug, PartialEq, Eq)]
+#[derive(Debug, Drop, PartialEq, Eq)]
 pub enum VerdictState {
     /// No equal input lets the old procedure end while the new one fails.
     Safe,
@@ -13,31 +13,51 @@ pub enum VerdictState {
     Unproved,
     /// The types of the parameters differ.
     Signature,
+    /// One of the two, or a loop in one of them, calls this procedure, which has no partner.
+    UnmatchedRecursion(Name),
 }
 
 impl VerdictState {
     ghost use Rattle.symdiff.specs.Report.{is_safe, is_unknown, is_refused};
 
     /// Whether the pair is safe.
-    pub fn is_safe(self) -> bool
-        ensures { result ≡ is_safe self }
+    pub fn is_safe(&self) -> bool
+        ensures { result ≡ is_safe self.now }
     {
-        matches!(self, VerdictState::Safe)
+        match self {
+            VerdictState::Safe => true,
+            _ => false,
+        }
     }
 
     /// Whether no claim on the flags of the pair was shown.
-    pub fn is_unknown(self) -> bool
-        ensures { result ≡ is_unknown self }
+    pub fn is_unknown(&self) -> bool
+        ensures { result ≡ is_unknown self.now }
     {
-        matches!(self, VerdictState::Unknown | VerdictState::Unproved)
+        match self {
+            VerdictState::Unknown => true,
+            VerdictState::Unproved => true,
+            _ => false,
+        }
     }
 
     /// Whether the pair is refused.
-    pub fn is_refused(self) -> bool
-        ensures { result ≡ is_refused self }
+    pub fn is_refused(&self) -> bool
+        ensures { result ≡ is_refused self.now }
     {
-        matches!(self, VerdictState::Signature)
+        match self {
+            VerdictState::Signature => true,
+            VerdictState::UnmatchedRecursion(_) => true,
+            _ => false,
+        }
     }
+}
+
+/// What is said of a pair that could be judged and of which no claim on the flags is live.
+#[derive(Clone, Copy, Debug, PartialEq, Eq)]
+pub enum Otherwise {
+    Unknown,
+    Unproved,
 }
 
 /// The verdict of a pair of procedures, with their names in the old and in the new text.

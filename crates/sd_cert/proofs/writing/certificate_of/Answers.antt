@@ -1,8 +1,8 @@
-use Rattle.std.proofs.Common.{length, refl, arith}
+use Rattle.std.proofs.Common.{refl, arith}
 use Rattle.sd_cert.proofs.WrittenLemmas.{fits-all}
 use Rattle.sd_cert.proofs.writing.certificate_of.Goals as goal
 
 pub returns-clause-certificate : goal.returns-clause-certificate
 returns-clause-certificate c =
-    let done = fits-all c.args.pairs.now c.args.proofs.now c.pairs.claims c.pairs.pair-index c.pairs.first c.pairs.left.now (omega arith) c.pairs.invariant.total c.pairs.invariant.ascend c.pairs.invariant.rest in
+    let done = fits-all c.args.shapes.now c.args.proofs.now c.pairs.claims c.pairs.shape-index c.pairs.first c.pairs.left.now (omega arith) c.pairs.invariant.total c.pairs.invariant.ascend c.pairs.invariant.rest in
     record { same_digests = refl; fits = done.0; entries = done.1 }

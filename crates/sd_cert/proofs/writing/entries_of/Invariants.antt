@@ -1,6 +1,6 @@
-use Rattle.std.proofs.Common.{◌≡◌, ℕ, ◌-◌, ◌++◌, map, length}
+use Rattle.std.proofs.Common.{◌≡◌, ◌++◌, map, length}
 use Rattle.sd_product.specs.Inductive.{proved_of}
-use Rattle.sd_cert.specs.Accepts.{Ascend, numbered_from}
+use Rattle.sd_cert.specs.Accepts.{numbered_from}
 use Rattle.sd_cert.proofs.WrittenLemmas.{Splits}
 use Rattle.sd_cert.proofs.writing.entries_of.Given as goal
 

@@ -1,5 +1,5 @@
 use Rattle.std.proofs.Common.{sym, ◌∙◌}
-use Rattle.sd_types.proofs.PhraseLemmas.{refuted, three_last, three_first, three_second}
+use Rattle.sd_extract.proofs.FormLemmas.{refuted, three_last, three_first, three_second}
 use Rattle.sd_extract.proofs.FormLemmas.{both_last, both_first, at_Apply, at_Old, at_Unary, at_Binary, at_Select, at_Store}
 use Rattle.sd_extract.proofs.form.+expr.Goals as goal
 use Rattle.sd_extract.proofs.form.+expr.Goals.{has_no_number-then-child_has_no_number-3, has_no_number-else-child_has_no_number-3}

@@ -1,5 +1,5 @@
 use Rattle.std.proofs.Common.{sym, ◌∙◌}
-use Rattle.sd_types.proofs.PhraseLemmas.{refuted, three_last, three_first, three_second}
+use Rattle.sd_extract.proofs.FormLemmas.{refuted, three_last, three_first, three_second}
 use Rattle.sd_extract.proofs.FormLemmas.{at_If}
 use Rattle.sd_extract.proofs.form.+stmt.Goals as goal
 use Rattle.sd_extract.proofs.form.+stmt.Goals.{is_straight-then-has_no_number, is_straight-else-has_no_number}

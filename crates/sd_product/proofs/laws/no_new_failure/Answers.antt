@@ -1,6 +1,5 @@
-use Rattle.sd_vcgen.proofs.Adequate.{bodies-are-runs}
-use Rattle.sd_product.proofs.Failures.{unsatisfiable-safe}
+use Rattle.sd_product.proofs.EqualInputs.{no_new_failure_lem}
 use Rattle.sd_product.proofs.laws.no_new_failure.Goals as goal
 
 pub returns : goal.returns
-returns c = unsatisfiable-safe bodies-are-runs
+returns c = no_new_failure_lem c.mutual_summaries.ensures

@@ -1,11 +1,10 @@
 use Rattle.std.proofs.Common.{◌∙◌, ap}
-use Rattle.std.specs.Option.{option_copied}
-use Rattle.symdiff.specs.Jobs.{task_of, names_of}
+use Rattle.symdiff.specs.Jobs.{names_of}
 use Rattle.symdiff.specs.Outcome.{message}
 use Rattle.symdiff.specs.Replies.{texts_of, outcome_of}
-use Rattle.symdiff.specs.Answer.{no_job, compared}
+use Rattle.symdiff.specs.Answer.{no_job}
 use Rattle.symdiff.proofs.Certified.{ok-map}
-use Rattle.symdiff.proofs.Rows.{are_read, told_taken, old_row, new_row, replay_row}
+use Rattle.symdiff.proofs.Rows.{are_read, told_taken, old_row, new_row, texts_row}
 use Rattle.symdiff.proofs.answering.reply_to.Goals as goal
 
 pub returns-in_default-clause-answer : goal.returns-in_default-clause-answer
@@ -21,15 +20,9 @@ returns-in-Err-read_text-clause-answer g c =
     (λ reply h. new_row _ _ (outcome_of reply) (names_of c.in-Some.job) c.in-Ok.old.program c.in-Err-read_text.fault c.in-Some.ensures (told_taken _ c.in-Ok.old.bytes.items c.in-Ok.old.program c.in-Ok.ensures.held c.in-Ok.ensures.taken)
     (λ r is bytes told. c.in-Err-read_text.ensures.refused r is bytes (c.read_text.ensures.stay c.in-Some.job.new.now ∙ told)) h)
 
-pub returns-in-Verify-clause-answer : goal.returns-in-Verify-clause-answer
-returns-in-Verify-clause-answer g c =
-    compared (names_of c.in-Some.job) (texts_of c.in-Ok.old c.in-Ok-read_text.new) (option_copied c.in-Verify.name) c.in-Some.ensures (ap task_of c.in-Verify.is)
-    (are_read _ _ (names_of c.in-Some.job) (texts_of c.in-Ok.old c.in-Ok-read_text.new) (c.read_text.ensures.stay c.in-Some.job.new.now) c.in-Ok.ensures.held c.in-Ok.ensures.taken c.in-Ok-read_text.ensures.held c.in-Ok-read_text.ensures.taken)
-    c.in_ok-compare-in-Verify.ensures
-
 pub returns-clause-answer : goal.returns-clause-answer
 returns-clause-answer g c =
-    ok-map c.replay_file.result c.replay_file.ensures.reply
-    (λ reply h. replay_row _ _ (outcome_of reply) (names_of c.in-Some.job) (texts_of c.in-Ok.old c.in-Ok-read_text.new) c.in-Replay.name.now _ c.in-Some.ensures (ap task_of c.in-Replay.is)
+    ok-map c.reply_on.result c.reply_on.ensures.reply
+    (λ reply h. texts_row _ _ _ (outcome_of reply) (names_of c.in-Some.job) (texts_of c.in-Ok.old c.in-Ok-read_text.new) c.in-Some.ensures
     (are_read _ _ (names_of c.in-Some.job) (texts_of c.in-Ok.old c.in-Ok-read_text.new) (c.read_text.ensures.stay c.in-Some.job.new.now) c.in-Ok.ensures.held c.in-Ok.ensures.taken c.in-Ok-read_text.ensures.held c.in-Ok-read_text.ensures.taken)
-    (c.read_text-2.ensures.stay c.in-Replay.name.now ∙ c.read_text.ensures.stay c.in-Replay.name.now) h)
+    (λ name. c.read_text-2.ensures.stay name ∙ c.read_text.ensures.stay name) h)

@@ -1,18 +1,31 @@
-use Rattle.std.proofs.Common.{◌∙◌, ◌<◌, length, arith}
-use Rattle.symdiff.proofs.Tables.{pair_step, verdict_more}
+use Rattle.std.proofs.Common.{◌≡◌, ◌≤◌, ◌+◌, ◌∙◌, ap, subst, sym, length, drop, arith, List, ◌++◌}
+use Rattle.std.specs.Prelude.{Some, slice_get}
+use Rattle.sd_match.specs.declared.pair.Pair.{Pair}
+use Rattle.sd_product.specs.Work.{pairs_in, claims_of}
+use Rattle.symdiff.specs.Verdicts.{flag_live, verdict_of}
+use Rattle.symdiff.proofs.Tables.{count_at, candidates_at, pair_step, verdicts_more}
 use Rattle.symdiff.proofs.judge.verdicts_of.Goals as goal
 
-pub verdict-requires-clause-within : goal.verdict-requires-clause-within
-verdict-requires-clause-within c =
-    let h : c.pairs.pair-index < length c.args.pairs.now = omega arith in
-    let s = pair_step c.args.otherwise c.args.pairs.now c.args.table.now c.pairs.pair-index c.pair-item.result c.pairs.first c.in_ok-end.end h c.pair-item.is c.in_ok-end.ensures in
-    omega (arith, s.left, c.pairs.invariant.left)
+pub is_flag_live-live-requires : goal.is_flag_live-live-requires
+is_flag_live-live-requires c =
+    let count = count_at (pairs_in c.args.work.now) c.pairs.place c.candidates_of-candidates.result.now c.candidates_of-candidates.ensures in
+    omega (arith, count, c.pairs.invariant.left)
+
+pub prove-unreachable-requires : goal.prove-unreachable-requires
+prove-unreachable-requires c =
+    let count = count_at (pairs_in c.args.work.now) c.pairs.place c.candidates_of-candidates.result.now c.candidates_of-candidates.ensures in
+    omega (arith, count, c.pairs.invariant.left, c.count-end.ensures, c.if-prove.true)
 
 pub pairs-preserved : goal.pairs-preserved
 pairs-preserved c =
-    let h : c.pairs.pair-index < length c.args.pairs.now = omega arith in
-    let s = pair_step c.args.otherwise c.args.pairs.now c.args.table.now c.pairs.pair-index c.pair-item.result c.pairs.first c.in_ok-end.end h c.pair-item.is c.in_ok-end.ensures in
+    let pairs = pairs_in c.args.work.now in
+    let cs = c.candidates_of-candidates.result.now in
+    let count = count_at pairs c.pairs.place cs c.candidates_of-candidates.ensures in
+    let at : slice_get pairs c.pairs.place ≡ Some c.pair.result.now = ap (λ (ps : List Pair). slice_get ps c.pairs.place) (sym c.pairs-pairs.ensures) ∙ c.pair.ensures in
+    let same = candidates_at pairs c.pairs.place c.pair.result.now cs at c.candidates_of-candidates.ensures in
+    let step = pair_step c.args.otherwise c.args.work.now.old c.args.work.now.new pairs c.args.table.now c.pairs.place c.pair.result.now c.pairs.first (length cs) at (ap length same) in
     record {
-      left = s.left ∙ c.pairs.invariant.left;
-      done = verdict_more c.args.otherwise c.args.pairs.now c.args.table.now c.pairs.pair-index c.pairs.first c.in_ok-end.end c.pair-item.result c.in_ok-verdict.field-0 c.pairs.verdicts.items c.push.new.self.items s c.pairs.invariant.done c.in_ok-verdict.ensures c.in_ok-push.ensures.items;
+      left = omega (arith, count, c.pairs.invariant.left);
+      done = verdicts_more c.args.otherwise c.args.work.now.old c.args.work.now.new pairs c.args.table.now c.pairs.place c.pairs.first (length cs) c.pair.result.now c.pairs.verdicts.items c.put_verdict.new.verdicts.items step c.pairs.invariant.done
+          (c.in_ok-put_verdict.ensures ∙ ap (λ b. c.pairs.verdicts.items ++ verdict_of c.args.otherwise c.args.work.now.old c.args.work.now.new c.pair.result.now b) (c.is_flag_live-live.ensures ∙ ap (λ d. flag_live d (drop c.pairs.first c.args.table.now)) same));
     }

@@ -6,11 +6,13 @@ use Rattle.symdiff.proofs.replaying.judge.Goals as goal
 
 pub returns-in-Err : goal.returns-in-Err
 returns-in-Err c =
+    let m = c.args.matched.now in
     ok-map c.refuse.result c.refuse.ensures
-    (λ reply said. inr (c.in-Err.fault, refused-of (texts_of c.args.old.now c.args.new.now) c.args.bytes.now c.in-Err.fault c.as_slice-straights.result.now c.digests.result (c.as_slice-straights.ensures.value ∙ c.in_ok-straights.ensures.pairs) c.digests.ensures c.in-Err.ensures.refused c.in-Err.ensures.refused_only said.0, said.1))
+    (λ reply said. inr (c.in-Err.fault, refused-of (texts_of m.old m.new) m.work c.args.bytes.now c.in-Err.fault c.digests.result c.requires.is_work c.digests.ensures c.in-Err.ensures.refused c.in-Err.ensures.refused_only said.0, said.1))
 
 pub returns : goal.returns
 returns c =
+    let m = c.args.matched.now in
     inl
-    (replay-of (texts_of c.args.old.now c.args.new.now) c.args.bytes.now (outcome_with c.in_ok-report.report c.new.result.items None) c.as_slice-straights.result.now c.digests.result c.in-Ok.replayed.table
-    (c.as_slice-straights.ensures.value ∙ c.in_ok-straights.ensures.pairs) c.digests.ensures c.in-Ok.ensures.accepted (c.in_ok-report.ensures _ _) c.new.ensures.items refl)
+    (replay-of (texts_of m.old m.new) m.work c.args.bytes.now (outcome_with c.in_ok-report.report c.new.result.items None) c.digests.result c.in-Ok.replayed.table
+    c.requires.is_work c.digests.ensures c.in-Ok.ensures.accepted (c.in_ok-report.ensures _ _) c.new.ensures.items refl)

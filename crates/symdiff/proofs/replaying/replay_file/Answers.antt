@@ -9,5 +9,5 @@ returns-clause-reply g c =
     inr (
       c.in-Ok.bytes.items,
       λ bytes told. sym (front_is 9223372036854775807 bytes c.in-Ok.bytes.items (c.in-Ok.ensures.told bytes told) short),
-      subst (λ (b : List ℕ). IsJudged b (texts_of c.args.old.now c.args.new.now) (outcome_of c.in_ok-judge.field-0)) c.as_slice.ensures.value c.in_ok-judge.ensures,
+      subst (λ (b : List ℕ). IsJudged b (texts_of c.args.matched.now.old c.args.matched.now.new) (outcome_of c.in_ok-judge.field-0)) c.as_slice.ensures.value c.in_ok-judge.ensures,
     )

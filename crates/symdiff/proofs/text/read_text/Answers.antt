@@ -2,12 +2,12 @@ use Rattle.std.proofs.Common.{refl}
 use Rattle.symdiff.proofs.Texts.{taken_is, taken_same, refusal_whole, fault_refused}
 use Rattle.symdiff.proofs.text.read_text.Goals as goal
 
-pub returns-in-Ok-extract-clause-held : goal.returns-in-Ok-extract-clause-held
-returns-in-Ok-extract-clause-held g c bytes told =
+pub returns-clause-held : goal.returns-clause-held
+returns-clause-held g c bytes told =
     taken_is 16777216 bytes c.in-Ok.bytes.items c.as_slice.result.now refl (c.in-Ok.ensures.told bytes told) c.as_slice.ensures.value c.in-Ok-take.program c.in-Ok-take.ensures.taken
 
-pub returns-in-Ok-extract-clause-taken : goal.returns-in-Ok-extract-clause-taken
-returns-in-Ok-extract-clause-taken g c =
+pub returns-clause-taken : goal.returns-clause-taken
+returns-clause-taken g c =
     taken_same c.in-Ok.bytes.items c.as_slice.result.now c.in-Ok-take.program c.as_slice.ensures.value c.in-Ok-take.ensures.taken
 
 pub returns-in-Err-clause-refused : goal.returns-in-Err-clause-refused

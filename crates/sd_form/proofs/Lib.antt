@@ -1,0 +1,4 @@
+pub mod FormLemmas
+pub mod Routines
+pub mod Statements
+pub mod Procedures

@@ -1,0 +1,175 @@
+-- The queries of two programs over truth values are over truth values.
+use Rattle.std.proofs.Common.{◌≡◌, ℕ, suc, ◌+◌, List, [], ◌∷◌, ◌++◌, length, sym, subst, refl}
+use Rattle.std.specs.Prelude.{Bool, true, false, ◌&&◌, Option, Some, None, map, slice_get, if◌then◌else◌}
+use Rattle.std.specs.List.{AllByRecursion}
+use Rattle.sd_base.specs.declared.Var.{Var}
+use Rattle.sd_core.specs.declared.CoreExpr.{CoreExpr}
+use Rattle.sd_core.specs.declared.CoreProc.{CoreProc}
+use Rattle.sd_core.specs.declared.CoreProgram.{CoreProgram}
+use Rattle.sd_core.specs.declared.Function.{Function}
+use Rattle.sd_core.specs.Store.{Store, read}
+use Rattle.sd_core.specs.Run.{out_spots}
+use Rattle.sd_core.specs.Formed.{WellFormed, sorts_of}
+use Rattle.sd_core.specs.Boolean.{IsBooleanProc, IsBooleanCore}
+use Rattle.sd_term.specs.declared.build.Kind.{Kind}
+use Rattle.sd_term.specs.declared.build.Kind.TheVariants as kind
+use Rattle.sd_term.specs.Tree.{Tree}
+use Rattle.sd_term.specs.Build.{not_of, or_of}
+use Rattle.sd_match.specs.declared.pair.SpotPair.{SpotPair}
+use Rattle.sd_cand.specs.declared.candidate.Relation.{Relation}
+use Rattle.sd_cand.specs.declared.candidate.Claim.{Claim}
+use Rattle.sd_cand.specs.declared.candidate.Claim.TheVariants.{Flag, Output}
+use Rattle.sd_kernel.specs.OpenCube.{IsBoolean, AllBoolean}
+use Rattle.sd_kernel.proofs.Propositions.{not-boolean, or-boolean}
+use Rattle.sd_vcgen.specs.Body.{Site, State, Context, nothing, symbols, term_in, count_all, body_of, outs_of}
+use Rattle.sd_product.specs.Relations.{entry, exit, term_at, term_of, claim_term}
+use Rattle.sd_product.specs.Query.{Claimed, Work, Quiets, old_context, new_context, is_live, inputs_from, input_count, Side, side_of, side_from, first_call, old_side, new_side, under, site_inputs, site_ends, implication, is_about, calls_related, with_each, all_related, no_terms, axioms_of, apart, conditions_of, claim_of, premises_of, facts_of, query_by, query_of}
+use Rattle.sd_product.specs.Work.{Held, IsHeld, claims_in, work_of, queries_under, pairs_in, quiets_in}
+use Rattle.sd_product.specs.Boolean.{AreBoolean, QueriesAreBoolean}
+use Rattle.sd_product.proofs.Booleans.{constant-boolean, eq-boolean, implies-boolean, append-boolean, all-found, truth-sorts, symbols-boolean, BooleanStore, read-boolean, reads-boolean, BooleanSite, BooleanState, body-boolean}
+use Rattle.sd_product.proofs.OnlyEqual.{IsEqual, IsEqualClaim, IsOnlyEqual, IsEqualClaimed, claims-equal}
+
+-- ---- relations
+
+entry-boolean : (ins globals : List Tree) → AllBoolean ins → AllBoolean globals → BooleanStore (entry ins globals)
+entry-boolean ins globals h k = record { slots = h; globals = k }
+
+exit-boolean : (ins outs globals : List Tree) → AllBoolean ins → AllBoolean outs → AllBoolean globals → BooleanStore (exit ins outs globals)
+exit-boolean ins outs globals h k l = record { slots = append-boolean ins outs h k; globals = l }
+
+term-boolean : (places : List SpotPair) (old new : Store Tree) (r : Relation) → IsEqual r → BooleanStore old → BooleanStore new → IsBoolean (term_of places old new r)
+term-boolean places old new r e h k = subst (λ (t : Kind). IsBoolean (term_at t old new (slice_get places r.place))) (sym e) (go (slice_get places r.place))
+  where
+    go : (o : Option SpotPair) → IsBoolean (term_at kind.Eq old new o)
+    go None = constant-boolean true
+    go (Some s) = eq-boolean (read nothing old s.old) (read nothing new s.new) (read-boolean old s.old h) (read-boolean new s.new k)
+
+terms-boolean : (places : List SpotPair) (old new : Store Tree) (rs : List Relation) → AllByRecursion IsEqual rs → BooleanStore old → BooleanStore new → AllBoolean (map (term_of places old new) rs)
+terms-boolean places old new [] e h k = tt
+terms-boolean places old new (r ∷ rs) e h k = (term-boolean places old new r e.0 h k, terms-boolean places old new rs e.1 h k)
+
+claim-boolean : (places : List SpotPair) (c : Claim) (old : Store Tree) (f : Tree) (new : Store Tree) (g : Tree) → IsEqualClaim c → BooleanStore old → IsBoolean f → BooleanStore new → IsBoolean g → IsBoolean (claim_term places c old f new g)
+claim-boolean places Flag old f new g e h p k q = implies-boolean g f q p
+claim-boolean places (Output r) old f new g e h p k q = or-boolean (or_of f g) (term_of places old new r) (or-boolean f g p q) (term-boolean places old new r e h k)
+
+-- ---- calls
+
+under-boolean : (ws : List Tree) (claim : Tree) → AllBoolean ws → IsBoolean claim → IsBoolean (under ws claim)
+under-boolean [] claim h p = p
+under-boolean (w ∷ ws) claim h p = implies-boolean w (under ws claim) h.0 (under-boolean ws claim h.1 p)
+
+site_inputs-boolean : (a : Site) → BooleanSite a → BooleanStore (site_inputs a)
+site_inputs-boolean a h = entry-boolean a.args a.before h.args h.before
+
+site_ends-boolean : (a : Site) → BooleanSite a → BooleanStore (site_ends a)
+site_ends-boolean a h = exit-boolean a.args a.outs a.after h.args h.outs h.after
+
+implication-boolean : (x : Claimed) (a b : Site) → IsEqualClaimed x → BooleanSite a → BooleanSite b → IsBoolean (implication x a b)
+implication-boolean x a b e h k =
+    let conditions = map (term_of x.pair.inputs (site_inputs a) (site_inputs b)) x.candidate.when in
+    let claim = claim_term x.pair.outputs x.candidate.claim (site_ends a) a.flag (site_ends b) b.flag in
+    let p : IsBoolean claim = claim-boolean x.pair.outputs x.candidate.claim (site_ends a) a.flag (site_ends b) b.flag e.claim (site_ends-boolean a h) h.flag (site_ends-boolean b k) k.flag in
+    let ws : AllBoolean conditions = terms-boolean x.pair.inputs (site_inputs a) (site_inputs b) x.candidate.when e.when (site_inputs-boolean a h) (site_inputs-boolean b k) in
+    implies-boolean a.guard (or_of (not_of b.guard) (under conditions claim)) h.guard (implies-boolean b.guard (under conditions claim) k.guard (under-boolean conditions claim ws p))
+
+if-boolean : (c : Bool) (t : Tree) → IsBoolean t → AllBoolean (if c then t ∷ [] else [])
+if-boolean true t h = (h, tt)
+if-boolean false t h = tt
+
+calls-boolean : (table : List Bool) (n : ℕ) (xs : List Claimed) (a b : Site) → AllByRecursion IsEqualClaimed xs → BooleanSite a → BooleanSite b → AllBoolean (calls_related table n xs a b)
+calls-boolean table n [] a b e h k = tt
+calls-boolean table n (x ∷ xs) a b e h k =
+    append-boolean _ (calls_related table (suc n) xs a b) (if-boolean (is_live table n && is_about x a b) (implication x a b) (implication-boolean x a b e.0 h k)) (calls-boolean table (suc n) xs a b e.1 h k)
+
+each-boolean : (table : List Bool) (xs : List Claimed) (a : Site) (bs : List Site) → AllByRecursion IsEqualClaimed xs → BooleanSite a → AllByRecursion BooleanSite bs → AllBoolean (with_each table xs a bs)
+each-boolean table xs a [] e h k = tt
+each-boolean table xs a (b ∷ bs) e h k =
+    append-boolean (calls_related table 0 xs a b) (with_each table xs a bs) (calls-boolean table 0 xs a b e h k.0) (each-boolean table xs a bs e h k.1)
+
+related-boolean : (table : List Bool) (xs : List Claimed) (as' bs : List Site) → AllByRecursion IsEqualClaimed xs → AllByRecursion BooleanSite as' → AllByRecursion BooleanSite bs → AllBoolean (all_related table xs as' bs)
+related-boolean table xs [] bs e h k = tt
+related-boolean table xs (a ∷ as') bs e h k =
+    append-boolean (with_each table xs a bs) (all_related table xs as' bs) (each-boolean table xs a bs e h.0 k) (related-boolean table xs as' bs e h.1 k)
+
+-- ---- sides
+
+-- a side over truth values
+pub record BooleanSide (a : Side) : Type 0 where
+  pub inputs : BooleanStore a.inputs
+  pub body : BooleanState a.body
+  pub ends : BooleanStore a.ends
+
+inputs-boolean : (k : ℕ) (P : CoreProgram) (p : CoreProc) → IsBooleanCore P → IsBooleanProc p → BooleanStore (inputs_from k P p)
+inputs-boolean k P p truths own = record {
+  slots = symbols-boolean k (sorts_of p.ins) (truth-sorts p.ins own.ins);
+  globals = symbols-boolean (k + length p.ins) (sorts_of P.globals) (truth-sorts P.globals truths.globals);
+}
+
+pub side-boolean : (C : Context) (q : ℕ) (p : CoreProc) → WellFormed C.program → IsBooleanCore C.program → slice_get C.program.procs q ≡ Some p → (i k : ℕ) → BooleanSide (side_from C p i k)
+side-boolean C q p formed truths found i k =
+    let inputs = inputs_from i C.program p in
+    let s = body_of C p k inputs.slots inputs.globals in
+    let own : IsBooleanProc p = all-found IsBooleanProc C.program.procs q p truths.procs found in
+    let begin : BooleanStore inputs = inputs-boolean i C.program p truths own in
+    let end : BooleanState s = body-boolean C p truths own (formed.procs q p found).body k inputs.slots inputs.globals begin.slots begin.globals in
+    record {
+      inputs = begin;
+      body = end;
+      ends = exit-boolean inputs.slots (outs_of p s) s.store.globals begin.slots (reads-boolean s.store (out_spots p) end.store) end.store.globals;
+    }
+
+-- ---- facts
+
+axioms-boolean : (F : List Function) (es : List CoreExpr) → es ≡ [] → AllBoolean (map (term_in F no_terms) es)
+axioms-boolean F [] none = tt
+axioms-boolean F (e ∷ es) none = absurd (cc)
+
+apart-boolean : (facts : List Tree) (cs : List Var) → cs ≡ [] → AllBoolean (apart facts cs)
+apart-boolean facts [] none = tt
+apart-boolean facts (c ∷ cs) none = absurd (cc)
+
+module _ (w : Work) (table : List Bool) (old : IsBooleanCore w.old) (new : IsBooleanCore w.new) where
+  premises-boolean : (x : Claimed) (a b : Side) → IsEqualClaimed x → BooleanSide a → BooleanSide b → AllBoolean (all_related table w.claims a.body.sites b.body.sites) → AllBoolean (premises_of w table x a b)
+  premises-boolean x a b e h k calls =
+      let related = all_related table w.claims a.body.sites b.body.sites in
+      let assumed : AllBoolean (b.body.assumes ++ related) = append-boolean b.body.assumes related k.body.assumes calls in
+      let bodies : AllBoolean (a.body.assumes ++ (b.body.assumes ++ related)) = append-boolean a.body.assumes (b.body.assumes ++ related) h.body.assumes assumed in
+      let conditions : AllBoolean (conditions_of x a b) = terms-boolean x.pair.inputs a.inputs b.inputs x.candidate.when e.when h.inputs k.inputs in
+      let rest = append-boolean (conditions_of x a b) (a.body.assumes ++ (b.body.assumes ++ related)) conditions bodies in
+      append-boolean (axioms_of w.old) _ (axioms-boolean w.old.functions w.old.axioms old.axioms) (append-boolean (axioms_of w.new) _ (axioms-boolean w.new.functions w.new.axioms new.axioms) rest)
+
+  -- where what is known of both calls is over truth values
+  pub facts-boolean : (x : Claimed) (a b : Side) → IsEqualClaimed x → BooleanSide a → BooleanSide b → AllBoolean (all_related table w.claims a.body.sites b.body.sites) → AllBoolean (facts_of w table x a b)
+  facts-boolean x a b e h k calls =
+      let claim : IsBoolean (claim_of x a b) = claim-boolean x.pair.outputs x.candidate.claim a.ends a.body.flag b.ends b.body.flag e.claim h.ends h.body.flag k.ends k.body.flag in
+      let all = premises_of w table x a b ++ claim_of x a b ∷ [] in
+      let last : AllBoolean (not_of (claim_of x a b) ∷ []) = (not-boolean (claim_of x a b) claim, tt) in
+      append-boolean (premises_of w table x a b) _ (premises-boolean x a b e h k calls)
+      (append-boolean (apart all w.old.uniques) _ (apart-boolean all w.old.uniques old.uniques)
+      (append-boolean (apart all w.new.uniques) (not_of (claim_of x a b) ∷ []) (apart-boolean all w.new.uniques new.uniques) last))
+
+  module _ (z : Quiets) (claims : AllByRecursion IsEqualClaimed w.claims) (old_formed : WellFormed w.old) (new_formed : WellFormed w.new) where
+    by-boolean : (x : Claimed) → IsEqualClaimed x → (i j : ℕ) (o o' : Option CoreProc) → slice_get w.old.procs i ≡ o → slice_get w.new.procs j ≡ o' → AllBoolean (query_by w z table x o o')
+    by-boolean x e i j None None f g = tt
+    by-boolean x e i j None (Some q) f g = tt
+    by-boolean x e i j (Some p) None f g = tt
+    by-boolean x e i j (Some p) (Some q) f g =
+        let C = old_context w z in
+        let D = new_context w z in
+        let a : BooleanSide (old_side C D p q) = side-boolean C i p old_formed old f 0 (first_call C D p q) in
+        let b : BooleanSide (new_side C D p q) = side-boolean D j q new_formed new g (input_count C.program p) (first_call C D p q + count_all C p.body) in
+        let calls = related-boolean table w.claims (old_side C D p q).body.sites (new_side C D p q).body.sites claims a.body.sites b.body.sites in
+        facts-boolean x (old_side C D p q) (new_side C D p q) e a b calls
+
+    query-boolean : (x : Claimed) → IsEqualClaimed x → AllBoolean (query_of w z table x)
+    unfolding query_of
+    query-boolean x e = by-boolean x e x.pair.old x.pair.new (slice_get w.old.procs x.pair.old) (slice_get w.new.procs x.pair.new) refl refl
+
+    queries-boolean : (xs : List Claimed) → AllByRecursion IsEqualClaimed xs → AllByRecursion AllBoolean (map (query_of w z table) xs)
+    queries-boolean [] e = tt
+    queries-boolean (x ∷ xs) e = (query-boolean x e.0, queries-boolean xs e.1)
+
+pub queries-are-boolean : QueriesAreBoolean
+queries-are-boolean h is truths table =
+    let claims : AllByRecursion IsEqualClaimed (claims_in h) = claims-equal (pairs_in h) in
+    queries-boolean (work_of h.old h.new) table truths.old truths.new (quiets_in h) claims is.old_formed is.new_formed (claims_in h) claims

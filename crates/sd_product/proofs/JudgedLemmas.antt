@@ -1,0 +1,126 @@
+-- A judged candidate that claims the flag tells of its two procedures.
+use Rattle.std.proofs.Common.{◌≡◌, ℕ, zero, suc, ◌+◌, Bool, true, false, List, [], ◌∷◌, refl, sym, ap, subst, ◌∙◌, arith}
+use Rattle.std.specs.Prelude.{Option, Some, None, slice_get, Contains}
+use Rattle.std.specs.Option.{option_map}
+use Rattle.std.specs.List.{AllByRecursion}
+use Rattle.std.proofs.lemmas.Option.{slice_get-map, get_or_from_slice_get}
+use Rattle.sd_term.specs.Tree.{Tree}
+use Rattle.sd_kernel.specs.OpenCube.{IsOpenCube}
+use Rattle.sd_kernel.specs.Proof.{Proves}
+use Rattle.sd_kernel.specs.declared.step.Step.{Step}
+use Rattle.sd_kernel.specs.declared.proved.How.{How}
+use Rattle.sd_kernel.specs.declared.proved.How.TheVariants.{Steps}
+use Rattle.sd_kernel.specs.declared.proved.Proved.{Proved}
+use Rattle.sd_kernel.proofs.Walks.{proves-accepted}
+use Rattle.sd_kernel.proofs.Refuted.{accepted-unsatisfiable}
+use Rattle.sd_match.specs.Pairs.{pairs_of}
+use Rattle.sd_product.specs.Query.{Claimed, Work, Quiets, is_live, query_of}
+use Rattle.sd_product.specs.Fits.{FitsPair}
+use Rattle.sd_product.specs.Summaries.{IsWork, IsSupported, IsRootPair, IsFlagClaim, NoNewFailure}
+use Rattle.sd_product.specs.Work.{work_of, Held, quiets_in, IsHeld, claims_in, queries_under}
+use Rattle.sd_product.specs.Inductive.{live_from, proved_of, IsHow, IsProved, IsInductive}
+use Rattle.sd_product.specs.Failures.{IsStraightClaim, OpenCubesAreFailures}
+use Rattle.sd_product.specs.Judged.{IsFlagAt, LiveFlagsAreSafe, OpenFlagsAreFailures}
+use Rattle.sd_product.proofs.Booleans.{all-found}
+use Rattle.sd_product.proofs.FitLemmas.{claims_fit}
+use Rattle.sd_product.proofs.OnlyEqual.{claims-equal, IsEqualClaimed}
+use Rattle.sd_product.proofs.RootLemmas.{some-is, claims-rooted, IsRootedClaim}
+use Rattle.sd_product.proofs.WellQuery.{query-well}
+
+contains-head : {A : Type 0} (x : A) (xs : List A) → Contains (x ∷ xs) x
+contains-head x xs = (0, omega arith, refl)
+
+contains-tail : {A : Type 0} (y : A) (xs : List A) (x : A) → Contains xs x → Contains (y ∷ xs) x
+contains-tail y xs x (k, within, is) = (suc k, omega arith, is)
+
+-- ---- live candidates
+
+live-is : (table : List Bool) (n : ℕ) → is_live table n ≡ true → slice_get table n ≡ Some true
+live-is [] n e = absurd (let bad : false ≡ true = e in cc)
+live-is (b ∷ bs) zero e = ap Some e
+live-is (b ∷ bs) (suc n) e = live-is bs n e
+
+live-contains : (n : ℕ) (bs : List Bool) (c : ℕ) → slice_get bs c ≡ Some true → Contains (live_from n bs) (n + c)
+live-contains n [] c e = absurd (let bad : ◌≡◌ {A = Option Bool} None (Some true) = e in cc)
+live-contains n (true ∷ bs) zero e = let h : n ≡ n + 0 = omega arith in subst (λ (k : ℕ). Contains (n ∷ live_from (suc n) bs) k) h (contains-head n (live_from (suc n) bs))
+live-contains n (true ∷ bs) (suc c) e =
+    let h : suc n + c ≡ n + suc c = omega arith in
+    contains-tail n (live_from (suc n) bs) (n + suc c) (subst (λ (k : ℕ). Contains (live_from (suc n) bs) k) h (live-contains (suc n) bs c e))
+live-contains n (false ∷ bs) zero e = absurd (let bad : false ≡ true = some-is false true e in cc)
+live-contains n (false ∷ bs) (suc c) e =
+    let h : suc n + c ≡ n + suc c = omega arith in
+    subst (λ (k : ℕ). Contains (live_from (suc n) bs) k) h (live-contains (suc n) bs c e)
+
+-- the entry of a candidate
+record Entry (queries : List (List Tree)) (c : ℕ) : Type 0 where
+  entry : Proved
+  named : entry.candidate ≡ c
+  proved : IsProved queries entry
+
+entry-of : (queries : List (List Tree)) (proofs : List Proved) (c : ℕ) → AllByRecursion (IsProved queries) proofs → Contains (proved_of proofs) c → Entry queries c
+entry-of queries [] c a (k, within, is) = absurd (omega arith)
+entry-of queries (p ∷ ps) c a (zero, within, is) = record { entry = p; named = is; proved = a.0 }
+entry-of queries (p ∷ ps) c a (suc k, within, is) = entry-of queries ps c a.1 (k, omega arith, is)
+
+-- the proof of a candidate
+record HasProof (facts : List Tree) : Type 0 where
+  steps : List Step
+  proves : Proves facts steps
+
+proof-of : (facts : List Tree) (how : How) → IsHow facts how → HasProof facts
+proof-of facts (Steps proof) h = record { steps = proof.steps; proves = h }
+
+-- the query of a live candidate has a proof
+live-proved : (queries : List (List Tree)) (table : List Bool) (proofs : List Proved) → IsInductive queries table proofs → (c : ℕ) (facts : List Tree) → slice_get table c ≡ Some true → slice_get queries c ≡ Some facts → HasProof facts
+live-proved queries table proofs inductive c facts live query =
+    let number : Contains (live_from 0 table) c = let h : 0 + c ≡ c = omega arith in subst (λ (k : ℕ). Contains (live_from 0 table) k) h (live-contains 0 table c live) in
+    let e : Entry queries c = entry-of queries proofs c inductive.proved (subst (λ (ks : List ℕ). Contains ks c) (sym inductive.numbers) number) in
+    let same : e.proved.facts ≡ facts = some-is e.proved.facts facts (sym e.proved.query ∙ (ap (λ k. slice_get queries k) e.named ∙ query)) in
+    subst (λ (fs : List Tree). HasProof fs) same (proof-of e.proved.facts e.entry.how e.proved.how)
+
+-- ---- what is held
+
+module _ (h : Held) (held : IsHeld h) where
+  abbrev W : Work
+  W = work_of h.old h.new
+
+  abbrev Z : Quiets
+  Z = quiets_in h
+
+  is-work : IsWork W Z
+  is-work = record { old_formed = held.old_formed; new_formed = held.new_formed; old_quiet = held.old_quiet.is_set; new_quiet = held.new_quiet.is_set }
+
+  query-at : (table : List Bool) (n : ℕ) (x : Claimed) → slice_get (claims_in h) n ≡ Some x → slice_get (queries_under h table) n ≡ Some (query_of W Z table x)
+  query-at table n x at = slice_get-map (query_of W Z table) (claims_in h) n ∙ ap (option_map (query_of W Z table)) at
+
+  supported : (table : List Bool) (proofs : List Proved) → IsInductive (queries_under h table) table proofs → IsSupported W Z table
+  supported table proofs inductive n x at live =
+      let fit = claims_fit W held.old_formed held.new_formed in
+      let facts = query_of W Z table x in
+      let proof = live-proved (queries_under h table) table proofs inductive n facts (live-is table n live) (query-at table n x at) in
+      let well = query-well W table Z x held.old_formed held.new_formed fit (all-found (FitsPair W) (claims_in h) n x fit at) in
+      accepted-unsatisfiable facts proof.steps well (proves-accepted facts proof.steps proof.proves)
+
+  root-pair : (n : ℕ) (x : Claimed) → IsFlagAt h n x → IsRootPair W x
+  root-pair n x f = all-found (IsRootedClaim h.old h.new) (claims_in h) n x (claims-rooted h.old h.new) f.at f.old f.found f.root
+
+  flag-claim : (n : ℕ) (x : Claimed) → IsFlagAt h n x → IsFlagClaim x
+  flag-claim n x f = record { claim = f.flag; only_equal = (all-found IsEqualClaimed (claims_in h) n x (claims-equal (pairs_of h.old h.new)) f.at).when }
+
+pub live-flags-safe : NoNewFailure → LiveFlagsAreSafe
+live-flags-safe safe h table proofs n x held inductive f live failure =
+    safe (work_of h.old h.new) (quiets_in h) table (is-work h held) (supported h held table proofs inductive) n x f.at (get_or_from_slice_get table n true false live) (flag-claim h held n x f) (root-pair h held n x f) failure
+
+pub open-flags-fail : OpenCubesAreFailures → OpenFlagsAreFailures
+open-flags-fail fails h seen n x facts cube held old_straight new_straight f when query is_open =
+    let W = work_of h.old h.new in
+    let Z = quiets_in h in
+    let claim : IsStraightClaim W Z x = record {
+      work = is-work h held;
+      old_straight = old_straight;
+      new_straight = new_straight;
+      claim = record { claim = f.flag; when = when };
+      roots = root-pair h held n x f;
+    } in
+    let same : facts ≡ query_of W Z seen x = some-is facts (query_of W Z seen x) (sym query ∙ query-at h held seen n x f.at) in
+    fails W Z seen x cube claim (subst (λ (fs : List Tree). IsOpenCube fs cube) same is_open)

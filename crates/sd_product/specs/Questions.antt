@@ -1,0 +1,33 @@
+-- What a query is about.
+use Rattle.std.specs.Prelude.{◌≡◌, length}
+use Rattle.std.specs.List.{AllByRecursion}
+use Rattle.sd_core.specs.Formed.{WellFormed}
+use Rattle.sd_vcgen.specs.Numbers.{context_of}
+use Rattle.sd_product.specs.Query.{Claimed, Work, Quiets}
+use Rattle.sd_product.specs.Claims.{claims_of, AreTables}
+use Rattle.sd_product.specs.Fits.{FitsPair}
+use Rattle.sd_product.specs.declared.facts.Question.{Question}
+
+-- the two programs with the candidates of all their pairs
+abbrev pub work_in : Question → Work
+work_in q = record { old = q.old.program.now; new = q.new.program.now; claims = claims_of q.claims }
+
+-- their quiet procedures
+abbrev pub quiets_in : Question → Quiets
+quiets_in q = record { old = (context_of q.old).quiet; new = (context_of q.new).quiet }
+
+-- the candidate, with its pair
+abbrev pub asked : Question → Claimed
+asked q = record { pair = q.pair.now; candidate = q.candidate.now }
+
+-- Pairs are found by their tables, and the table of live candidates is of all of them.
+pub record IsQuestion (q : Question) : Type 0 where
+  pub tables : AreTables q.claims
+  pub count : length q.table.now ≡ length (claims_of q.claims)
+
+-- The programs are well formed, and the relations of all candidates are between values of their types.
+pub record IsSorted (q : Question) : Type 0 where
+  pub old : WellFormed q.old.program.now
+  pub new : WellFormed q.new.program.now
+  pub claims : AllByRecursion (FitsPair (work_in q)) (claims_of q.claims)
+  pub asked : FitsPair (work_in q) (asked q)

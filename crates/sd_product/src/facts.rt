@@ -1,0 +1,290 @@
+//! The facts of a query.
+ghost use Rattle.std.specs.Prelude.{◌≡◌, ◌<◌, [], All, IfOk, OnOk, length, Some};
+ghost use Rattle.std.specs.Option.{option_copied};
+ghost use Rattle.sd_term.specs.Bank.{tree_at};
+ghost use Rattle.sd_term.specs.Build.{Extends};
+ghost use Rattle.sd_vcgen.specs.Numbers.{Denotes, DenoteAll, context_of};
+ghost use Rattle.sd_product.specs.Query.{axioms_of, conditions_of, all_related, premises_of, claim_of, facts_of, old_side, new_side, query_by, query_of};
+ghost use Rattle.sd_product.specs.Numbers.{Adds};
+ghost use Rattle.sd_product.specs.Sides.{DenotesSide, side_at, IsSideWithin};
+ghost use Rattle.sd_product.specs.Questions.{work_in, quiets_in, asked, IsQuestion, IsSorted};
+
+use crate::apart::put_uniques;
+use crate::calls::{Claims, put_all_related};
+use crate::relations::{EndTerms, put_claim, put_relations};
+use crate::sides::{Side, input_count, put_side, side_ends, side_inputs};
+use sd_base::NoMemory;
+use sd_cand::{Candidate, LiveTable};
+use sd_core::{CoreProc, CoreProgram};
+use sd_match::Pair;
+use sd_term::{Bank, Query, TermId};
+use sd_vcgen::{Context, put_axioms};
+use sqlite_items::Items;
+use std::alloc::Global;
+
+/// What a query is about: a candidate of a pair, and what is known of the calls of the two programs.
+#[derive(Clone, Copy)]
+pub(crate) struct Question<'a> {
+    pub(crate) old: Context<'a>,
+    pub(crate) new: Context<'a>,
+    pub(crate) claims: Claims<'a>,
+    /// Which candidates are live.
+    pub(crate) table: &'a LiveTable,
+    pub(crate) pair: &'a Pair,
+    pub(crate) candidate: &'a Candidate,
+}
+
+// ---- premises
+
+fn put_program_axioms(
+    bank: &mut Bank,
+    facts: &mut Items<TermId>,
+    program: &CoreProgram,
+) -> Result<(), NoMemory>
+    requires { All (λ id. id < length bank.old) facts.old }
+    ensures { OnOk result (Adds bank.old facts.old bank.new facts.new (axioms_of program.now)) }
+{
+    let axioms = put_axioms(bank, program)?;
+    facts.append(axioms)?;
+    Ok(())
+}
+
+fn put_conditions(
+    bank: &mut Bank,
+    facts: &mut Items<TermId>,
+    question: &Question<'_>,
+    old: &Side,
+    new: &Side,
+) -> Result<(), NoMemory>
+    requires facts { All (λ id. id < length bank.old) facts.old }
+    requires old { IsSideWithin bank.old old.now }
+    requires new { IsSideWithin bank.old new.now }
+    ensures { OnOk result (Adds bank.old facts.old bank.new facts.new (conditions_of (asked question.now) (side_at bank.old old.now) (side_at bank.old new.now))) }
+{
+    put_relations(
+        bank,
+        facts,
+        question.pair.inputs.as_slice(),
+        &side_inputs(old),
+        &side_inputs(new),
+        question.candidate.when.as_slice(),
+    )?;
+    Ok(())
+}
+
+/// Adds what a body assumes.
+fn add_assumptions(bank: &Bank, facts: &mut Items<TermId>, side: &Side) -> Result<(), NoMemory>
+    requires facts { All (λ id. id < length bank.now) facts.old }
+    requires side { IsSideWithin bank.now side.now }
+    ensures { OnOk result (Adds bank.now facts.old bank.now facts.new (side_at bank.now side.now).body.assumes) }
+{
+    let assumes = Items::from_slice(bank.allocator(), side.body.assumes.as_slice())?;
+    facts.append(assumes)?;
+    Ok(())
+}
+
+fn put_calls(
+    bank: &mut Bank,
+    facts: &mut Items<TermId>,
+    question: &Question<'_>,
+    old: &Side,
+    new: &Side,
+) -> Result<(), NoMemory>
+    requires question { IsQuestion question.now }
+    requires facts { All (λ id. id < length bank.old) facts.old }
+    requires old { IsSideWithin bank.old old.now }
+    requires new { IsSideWithin bank.old new.now }
+    ensures { OnOk result (Adds bank.old facts.old bank.new facts.new (all_related question.now.table.now (work_in question.now).claims (side_at bank.old old.now).body.sites (side_at bank.old new.now).body.sites)) }
+{
+    put_all_related(
+        bank,
+        facts,
+        &question.claims,
+        question.table,
+        old.body.sites.as_slice(),
+        new.body.sites.as_slice(),
+    )?;
+    Ok(())
+}
+
+/// Adds axioms, conditions, what both bodies assume, and what is known of their calls.
+fn put_premises(
+    bank: &mut Bank,
+    facts: &mut Items<TermId>,
+    question: &Question<'_>,
+    old: &Side,
+    new: &Side,
+) -> Result<(), NoMemory>
+    requires question { IsQuestion question.now }
+    requires facts { All (λ id. id < length bank.old) facts.old }
+    requires old { IsSideWithin bank.old old.now }
+    requires new { IsSideWithin bank.old new.now }
+    ensures { OnOk result (Adds bank.old facts.old bank.new facts.new (premises_of (work_in question.now) question.now.table.now (asked question.now) (side_at bank.old old.now) (side_at bank.old new.now))) }
+{
+    put_program_axioms(bank, facts, question.old.program)?;
+    put_program_axioms(bank, facts, question.new.program)?;
+    put_conditions(bank, facts, question, old, new)?;
+    add_assumptions(bank, facts, old)?;
+    add_assumptions(bank, facts, new)?;
+    put_calls(bank, facts, question, old, new)?;
+    Ok(())
+}
+
+// ---- the claim
+
+/// What the candidate claims of the ends of the two bodies.
+fn put_claimed(
+    bank: &mut Bank,
+    question: &Question<'_>,
+    old: &Side,
+    new: &Side,
+) -> Result<TermId, NoMemory>
+    requires old { IsSideWithin bank.old old.now }
+    requires new { IsSideWithin bank.old new.now }
+    ensures term { IfOk result (λ id. Denotes bank.new id (claim_of (asked question.now) (side_at bank.old old.now) (side_at bank.old new.now))) }
+    ensures kept { OnOk result (Extends bank.old bank.new) }
+{
+    let claim = put_claim(
+        bank,
+        question.pair.outputs.as_slice(),
+        question.candidate.claim,
+        &EndTerms {
+            state: side_ends(old),
+            flag: old.body.flag,
+        },
+        &EndTerms {
+            state: side_ends(new),
+            flag: new.body.flag,
+        },
+    )?;
+    Ok(claim)
+}
+
+/// The premises, then that unique constants differ, and last the denial of the claim.
+fn put_facts(
+    bank: &mut Bank,
+    question: &Question<'_>,
+    old: &Side,
+    new: &Side,
+) -> Result<Items<TermId>, NoMemory>
+    requires question { IsQuestion question.now }
+    requires old { IsSideWithin bank.old old.now }
+    requires new { IsSideWithin bank.old new.now }
+    ensures { IfOk result (λ ids. DenoteAll bank.new ids (facts_of (work_in question.now) question.now.table.now (asked question.now) (side_at bank.old old.now) (side_at bank.old new.now))) }
+{
+    let mut facts = Items::new(bank.allocator());
+    put_premises(bank, &mut facts, question, old, new)?;
+    let claim = put_claimed(bank, question, old, new)?;
+    put_uniques(
+        bank,
+        &mut facts,
+        claim,
+        question.old.program.uniques.as_slice(),
+        question.new.program.uniques.as_slice(),
+    )?;
+    let denial = bank.not(claim)?;
+    facts.push(denial)?;
+    Ok(facts)
+}
+
+// ---- the query
+
+/// The two bodies of a query, with the old one's symbols first: old inputs, new inputs, old calls, new calls.
+#[derive(Drop)]
+struct Sides {
+    old: Side,
+    new: Side,
+}
+
+fn put_sides(
+    alloc: Global,
+    bank: &mut Bank,
+    question: &Question<'_>,
+    old: &CoreProc,
+    new: &CoreProc,
+) -> Result<Sides, NoMemory>
+    ensures old { IfOk result (λ s. DenotesSide bank.new s.old (old_side (context_of question.now.old) (context_of question.now.new) old.now new.now)) }
+    ensures new { IfOk result (λ s. DenotesSide bank.new s.new (new_side (context_of question.now.old) (context_of question.now.new) old.now new.now)) }
+{
+    let old_count = input_count(&question.old, old)?;
+    let new_count = input_count(&question.new, new)?;
+    if new_count > u32::MAX - old_count {
+        return Err(NoMemory);
+    }
+    let calls = old_count + new_count;
+    let old_side = put_side(alloc, bank, &question.old, old, 0, calls)?;
+    let next = old_side.body.next;
+    let new_side = put_side(alloc, bank, &question.new, new, old_count, next)?;
+    Ok(Sides {
+        old: old_side,
+        new: new_side,
+    })
+}
+
+fn put_bodies(
+    alloc: Global,
+    bank: &mut Bank,
+    question: &Question<'_>,
+    old: &CoreProc,
+    new: &CoreProc,
+) -> Result<Items<TermId>, NoMemory>
+    requires { IsQuestion question.now }
+    ensures { IfOk result (λ ids. DenoteAll bank.new ids (query_by (work_in question.now) (quiets_in question.now) question.now.table.now (asked question.now) (Some old.now) (Some new.now))) }
+{
+    let sides = put_sides(alloc, bank, question, old, new)?;
+    let facts = put_facts(bank, question, &sides.old, &sides.new)?;
+    Ok(facts)
+}
+
+/// No terms, whatever the bank.
+fn no_facts(alloc: Global, bank: &Bank) -> Items<TermId>
+    ensures { DenoteAll bank.now result [] }
+{
+    let _ = bank;
+    Items::new(alloc)
+}
+
+fn put_found(
+    alloc: Global,
+    bank: &mut Bank,
+    question: &Question<'_>,
+    old: Option<&CoreProc>,
+    new: Option<&CoreProc>,
+) -> Result<Items<TermId>, NoMemory>
+    requires { IsQuestion question.now }
+    ensures { IfOk result (λ ids. DenoteAll bank.new ids (query_by (work_in question.now) (quiets_in question.now) question.now.table.now (asked question.now) (option_copied old.entry) (option_copied new.entry))) }
+{
+    match old {
+        Some(old) => match new {
+            Some(new) => put_bodies(alloc, bank, question, old, new),
+            None => Ok(no_facts(alloc, bank)),
+        },
+        None => Ok(no_facts(alloc, bank)),
+    }
+}
+
+/// The facts of the query of a candidate. Where one of the procedures isn't there, there are none.
+fn put_question(
+    alloc: Global,
+    bank: &mut Bank,
+    question: &Question<'_>,
+) -> Result<Items<TermId>, NoMemory>
+    requires { IsQuestion question.now }
+    ensures { IfOk result (λ ids. DenoteAll bank.new ids (query_of (work_in question.now) (quiets_in question.now) question.now.table.now (asked question.now))) }
+{
+    let old = question.old.program.procs.get(question.pair.old as usize);
+    let new = question.new.program.procs.get(question.pair.new as usize);
+    let facts = put_found(alloc, bank, question, old, new)?;
+    Ok(facts)
+}
+
+/// The query that a question asks for.
+pub(crate) fn put_query(alloc: Global, question: &Question<'_>) -> Result<Query, NoMemory>
+    requires question { IsQuestion question.now }
+    requires sorts { IsSorted question.now }
+    ensures { IfOk result (λ q. q ≡ query_of (work_in question.now) (quiets_in question.now) question.now.table.now (asked question.now)) }
+{
+    let mut bank = Bank::new(alloc);
+    let facts = put_question(alloc, &mut bank, question)?;
+    Ok(Query::new(bank, facts))
+}

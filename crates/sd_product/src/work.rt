@@ -1,0 +1,244 @@
+//! Two programs with their pairs and the candidates of each pair.
+ghost use Rattle.std.specs.Prelude.{◌≡◌, ◌<◌, IfOk, IfErr, OnOk, Some, None, length, slice_get};
+ghost use Rattle.sd_core.specs.Formed.{WellFormed};
+ghost use Rattle.sd_match.specs.Pairs.{pairs_of};
+ghost use Rattle.sd_match.specs.Refusals.{refusal_of};
+ghost use Rattle.sd_cand.specs.Candidates.{all_candidates};
+ghost use Rattle.sd_product.specs.Work as held;
+ghost use Rattle.sd_product.specs.Work.{IsHeld, IsAt, pairs_in, claims_in, work_of};
+ghost use Rattle.sd_product.specs.Claims.{claims_of, AreTables};
+ghost use Rattle.sd_product.specs.Questions.{work_in, quiets_in, asked, IsQuestion, IsSorted};
+ghost use Rattle.sd_product.specs.WorkErrors.{Tells};
+
+use crate::calls::Claims;
+use crate::facts::Question;
+use crate::tables::{candidate_places, first_numbers, pairs_by_old};
+use sd_base::NoMemory;
+use sd_cand::{Candidate, LiveTable, candidates};
+use sd_config::Settings;
+use sd_core::CoreProgram;
+use sd_match::{MatchError, Pairs, pair_up};
+use sd_runs::quiet_procedures;
+use sd_vcgen::Context;
+use sqlite_items::Items;
+use std::alloc::Global;
+use std::marker::Model;
+use thiserror::Error;
+
+/// Why there is nothing to judge.
+#[derive(Debug, Drop, Error)]
+pub enum WorkError {
+    /// The two programs can't be compared.
+    #[error(transparent)]
+    Match(MatchError),
+    #[error("out of memory")]
+    NoMemory,
+}
+
+impl From<NoMemory> for WorkError {
+    ghost use Rattle.std.specs.Prelude.{◌≡◌};
+    ghost use Rattle.sd_product.specs.declared.work.WorkError.TheVariants.{NoMemory};
+
+    ghost from_gives = { λ _ e. e ≡ NoMemory };
+
+    fn from(_: NoMemory) -> WorkError {
+        WorkError::NoMemory
+    }
+}
+
+impl From<MatchError> for WorkError {
+    ghost use Rattle.std.specs.Prelude.{◌≡◌};
+    ghost use Rattle.sd_product.specs.WorkErrors.{error_of};
+
+    ghost from_gives = { λ refused e. e ≡ error_of refused };
+
+    fn from(refused: MatchError) -> WorkError {
+        match refused {
+            MatchError::NoMemory => WorkError::NoMemory,
+            MatchError::GlobalTypes(name) => WorkError::Match(MatchError::GlobalTypes(name)),
+            MatchError::FunctionSignatures(name) => {
+                WorkError::Match(MatchError::FunctionSignatures(name))
+            }
+        }
+    }
+}
+
+/// Two programs with their pairs, and the candidates of all pairs, which are numbered through in order.
+#[derive(Drop)]
+pub struct Work {
+    old: CoreProgram,
+    new: CoreProgram,
+    old_quiet: Vec<bool>,
+    new_quiet: Vec<bool>,
+    pairs: Pairs,
+    candidates: Vec<Items<Candidate>>,
+    /// By the place of an old procedure: its pair.
+    pair_of_old: Vec<Option<u32>>,
+    /// By pair: the number of its first candidate.
+    first: Vec<u32>,
+    /// By candidate: its pair, and its number within the pair.
+    places: Vec<(u32, u32)>,
+}
+
+impl Model for Work {
+    ghost use Rattle.std.specs.Coded.{codes};
+    ghost use Rattle.sd_core.specs.contracts.tree.CoreProgram as program;
+    ghost use Rattle.sd_product.specs.Work.{Held};
+
+    ghost Value = { Held };
+
+    ghost coded = { Prim.hlevel (codes, program.the_row.coded) };
+
+    ghost use Rattle.sd_product.specs.WorkInvariant.{held, IsWork};
+
+    ghost view = { held };
+
+    ghost invariant = { IsWork };
+}
+
+impl Work {
+    /// Pairs two programs and makes the candidates of the pairs.
+    ///
+    /// # Errors
+    ///
+    /// `Match` where both programs declare a name with two types.
+    pub fn new(
+        alloc: Global,
+        old: CoreProgram,
+        new: CoreProgram,
+        settings: &Settings,
+    ) -> Result<Work, WorkError>
+        requires old { WellFormed old }
+        requires new { WellFormed new }
+        ensures programs { IfOk result (λ work. (work.old ≡ old) × (work.new ≡ new)) }
+        ensures unrefused { OnOk result (refusal_of old new ≡ None) }
+        ensures refused { IfErr result (λ e. Tells e (refusal_of old new)) }
+    {
+        let pairs = pair_up(alloc, &old, &new, settings)?;
+        let work = Work::with_pairs(alloc, old, new, pairs)?;
+        Ok(work)
+    }
+
+    fn with_pairs(
+        alloc: Global,
+        old: CoreProgram,
+        new: CoreProgram,
+        pairs: Pairs,
+    ) -> Result<Work, NoMemory>
+        requires old { WellFormed old }
+        requires new { WellFormed new }
+        requires pairs { pairs ≡ pairs_of old new }
+        ensures { IfOk result (λ work. (work.old ≡ old) × (work.new ≡ new)) }
+    {
+        let old_quiet = quiet_procedures(alloc, old.procs.as_slice())?;
+        let new_quiet = quiet_procedures(alloc, new.procs.as_slice())?;
+        let candidates = candidates(alloc, &pairs)?;
+        let pair_of_old = pairs_by_old(alloc, &pairs, old.procs.len())?;
+        let first = first_numbers(alloc, candidates.as_slice())?;
+        let places = candidate_places(alloc, candidates.as_slice())?;
+        Ok(Work {
+            old,
+            new,
+            old_quiet,
+            new_quiet,
+            pairs,
+            candidates,
+            pair_of_old,
+            first,
+            places,
+        })
+    }
+
+    /// The old program.
+    pub fn old_program(&self) -> &CoreProgram
+        ensures { result.now ≡ self.now.old }
+    {
+        &self.old
+    }
+
+    /// The new program.
+    pub fn new_program(&self) -> &CoreProgram
+        ensures { result.now ≡ self.now.new }
+    {
+        &self.new
+    }
+
+    /// The pairs of the programs.
+    pub fn pairs(&self) -> &Pairs
+        ensures { result.now ≡ pairs_in self.now }
+    {
+        &self.pairs
+    }
+
+    /// The candidates of a pair.
+    pub fn candidates_of(&self, pair: u32) -> &[Candidate]
+        requires { pair < length (pairs_in self.now) }
+        ensures { slice_get (all_candidates (pairs_in self.now)) pair ≡ Some result.now }
+    {
+        self.candidates[pair as usize].as_slice()
+    }
+
+    /// The programs can be compared, and the quiet procedures are theirs.
+    pub fn is_held(&self)
+        ensures { IsHeld self.now }
+    {
+        // What is held of the fields is known where one is read.
+        let _ = &self.old;
+    }
+
+    /// How many candidates all pairs have.
+    pub fn count(&self) -> u32
+        ensures { result ≡ length (claims_in self.now) }
+    {
+        self.places.len() as u32
+    }
+
+    /// The pair of a candidate, and its number within the pair.
+    pub fn candidate_place(&self, candidate: u32) -> (u32, u32)
+        requires { candidate < length (claims_in self.now) }
+        ensures { IsAt self.now candidate result.0 result.1 }
+    {
+        self.places[candidate as usize]
+    }
+
+    /// The pairs with their candidates, and the tables by which they are found.
+    fn claims(&self) -> Claims<'_>
+        ensures claims { claims_of result ≡ claims_in self.now }
+        ensures tables { AreTables result }
+    {
+        Claims {
+            pairs: self.pairs.as_slice(),
+            candidates: self.candidates.as_slice(),
+            pair_of_old: self.pair_of_old.as_slice(),
+            first: self.first.as_slice(),
+        }
+    }
+
+    /// What the query of a candidate is about.
+    pub(crate) fn question<'a>(&'a self, table: &'a LiveTable, candidate: u32) -> Question<'a>
+        requires within { candidate < length (claims_in self.now) }
+        requires size { length table.now ≡ length (claims_in self.now) }
+        ensures work { work_in result ≡ work_of self.now.old self.now.new }
+        ensures quiets { quiets_in result ≡ held.quiets_in self.now }
+        ensures asked { slice_get (claims_in self.now) candidate ≡ Some (asked result) }
+        ensures table { result.table.now ≡ table.now }
+        ensures question { IsQuestion result }
+        ensures sorted { IsSorted result }
+    {
+        let (pair, place) = self.candidate_place(candidate);
+        Question {
+            old: Context {
+                program: &self.old,
+                quiet: self.old_quiet.as_slice(),
+            },
+            new: Context {
+                program: &self.new,
+                quiet: self.new_quiet.as_slice(),
+            },
+            claims: self.claims(),
+            table,
+            pair: self.pairs.pair(pair),
+            candidate: &self.candidates_of(pair)[place as usize],
+        }
+    }
+}

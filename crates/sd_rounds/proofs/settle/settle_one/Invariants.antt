@@ -1,0 +1,14 @@
+use Rattle.std.proofs.Common.{◌≤◌, suc, length}
+use Rattle.sd_rounds.specs.Table.{live_from}
+use Rattle.sd_rounds.specs.Sweep.{AreDead}
+use Rattle.sd_rounds.proofs.settle.settle_one.Given as goal
+
+abbrev pub invariant-sweeps : goal.invariant-sweeps
+invariant-sweeps l = record {
+  dead : AreDead l.work l.settled.table l.settled.deaths.items;
+  first : 1 ≤ l.settled.sweeps;
+  sweeps : l.settled.sweeps ≤ suc (length l.settled.deaths.items);
+}
+
+abbrev pub decreases-sweeps : goal.decreases-sweeps
+decreases-sweeps l = length (live_from 0 l.settled.table)
