@@ -1,0 +1,12 @@
+pub mod Refuting
+pub mod Lists
+pub mod Deriving
+pub mod Coming
+pub mod Combining
+pub mod Choosing
+pub mod Columns
+pub mod Points
+pub mod Values
+pub mod Solving
+pub mod Inputs
+pub mod Examples

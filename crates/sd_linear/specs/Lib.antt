@@ -1,0 +1,4 @@
+pub mod Elimination
+pub mod RowSteps
+pub mod Held
+pub mod Values

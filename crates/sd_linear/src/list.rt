@@ -1,0 +1,88 @@
+ghost use Rattle.std.specs.Prelude.{◌≡◌, ◌≢◌, ℕ, ◌+◌, ◌<◌, ◌≤◌, [], ◌∷◌, ◌++◌, true, IfOk, OnOk, IsTrue, ◌↔◌, length, position, int_lt, slice_index_or, List};
+ghost use Rattle.sd_rows.specs.declared.row.Row.{Row};
+ghost use Rattle.sd_rows.specs.Rows.{IsProper, is_within, Parts};
+ghost use Rattle.sd_linear.specs.RowSteps.{rows_made, row_made, IsStep, AreSteps};
+ghost use Rattle.sd_linear.specs.Elimination.{joined, same_parts};
+ghost use Rattle.sd_linear.specs.Held.{rows_of, unheld, IsHeld, AllHeld};
+
+use crate::step::RowStep;
+use sd_base::NoMemory;
+use sd_rows::Row;
+use sqlite_items::Items;
+use std::alloc::Global;
+
+/// A row of a list, with the number of the step that derives it.
+#[derive(Drop)]
+pub struct Held {
+    pub row: Row,
+    pub step: u32,
+}
+
+impl Held {
+    pub(crate) fn copy(&self, alloc: Global) -> Result<Held, NoMemory>
+        ensures { IfOk result (λ held. held ≡ self.now) }
+    {
+        let parts = Items::from_slice(alloc, self.row.parts.as_slice())?;
+        let row = Row {
+            parts,
+            bound: self.row.bound,
+        };
+        Ok(Held {
+            row,
+            step: self.step,
+        })
+    }
+}
+
+/// Whether two left sides are equal.
+fn same_left(a: &[(u32, i128)], b: &[(u32, i128)]) -> bool
+    ensures { result ≡ same_parts a.now b.now }
+{
+    a == b
+}
+
+/// The first row with this left side.
+fn place_of(list: &[Held], parts: &[(u32, i128)]) -> Option<usize>
+    ensures { result ≡ position (λ h. same_parts parts.now h.row.parts) list.now }
+{
+    list.iter()
+        .position(|other| same_left(parts, other.row.parts.as_slice()))
+}
+
+/// Whether the bound is less than that of the row at a place.
+fn is_less(list: &[Held], place: usize, bound: i128) -> bool
+    requires { place < length list.now }
+    ensures { result ≡ int_lt bound (slice_index_or list.now place unheld).row.bound }
+{
+    bound < list[place].row.bound
+}
+
+/// The lesser bound takes the place of the row with the same left side, or the row goes last.
+pub(crate) fn join(list: &mut Items<Held>, held: Held) -> Result<(), NoMemory>
+    ensures rows { OnOk result (rows_of list.new ≡ joined held.row (rows_of list.old)) }
+    ensures held { OnOk result ((made : List Row) → IsHeld made held → AllHeld made list.old → AllHeld made list.new) }
+{
+    match place_of(list.as_slice(), held.row.parts.as_slice()) {
+        Some(place) => {
+            if is_less(list.as_slice(), place, held.row.bound) {
+                list.set(place, held);
+            }
+        }
+        None => list.push(held)?,
+    }
+    Ok(())
+}
+
+/// Adds the step and its cut, and gives the number of the cut.
+pub(crate) fn derive(steps: &mut Items<RowStep>, how: RowStep) -> Result<u32, NoMemory>
+    ensures number { IfOk result (λ n. n ≡ length steps.old + 1) }
+    ensures steps { OnOk result (steps.new ≡ steps.old ++ how ∷ RowStep.Cut (length steps.old) ∷ []) }
+{
+    let number = steps.len();
+    if number >= u32::MAX as usize {
+        return Err(NoMemory);
+    }
+    steps.push(how)?;
+    steps.push(RowStep::Cut(number as u32))?;
+    Ok(number as u32 + 1)
+}

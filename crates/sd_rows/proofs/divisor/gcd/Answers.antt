@@ -1,0 +1,8 @@
+use Rattle.std.proofs.lemmas.Nat.Gcd.{IsGcd-from_mod, IsGcd-from_zero}
+use Rattle.sd_rows.proofs.divisor.gcd.Goals as goal
+
+pub loop-lesser-preserved : goal.loop-lesser-preserved
+loop-lesser-preserved c = λ g k. c.loop-lesser.invariant g (IsGcd-from_mod c.loop-lesser.greater c.loop-lesser.lesser g k)
+
+pub returns : goal.returns
+returns c = c.loop-lesser.invariant c.loop-lesser.greater (IsGcd-from_zero c.loop-lesser.greater c.loop-lesser.lesser c.loop-lesser-test.false)

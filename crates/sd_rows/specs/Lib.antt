@@ -1,0 +1,4 @@
+pub mod Rows
+pub mod Divisors
+pub mod RowOps
+pub mod Forms
