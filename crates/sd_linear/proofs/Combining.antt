@@ -1,22 +1,22 @@
 -- rows in which a column falls away
-use Rattle.std.proofs.Common.{◌≡◌, ◌≢◌, ℕ, zero, suc, ◌+◌, ◌<◌, ◌≤◌, ◌^◌, List, [], ◌∷◌, ◌++◌, length, refl, sym, ap, ◌∙◌, subst, Bool, true, false, arith, nat_le, unsigned_abs, filter, drop, get_or, append_assoc, append-nil, add-one, drop-cons, ◌==◌}
+use Rattle.std.proofs.Common.{◌≡◌, ◌≢◌, ℕ, zero, suc, ◌+◌, ◌<◌, ◌≤◌, ◌^◌, List, [], ◌∷◌, ◌++◌, length, refl, sym, ap, ◌∙◌, subst, Bool, true, false, cond, not, map, arith, nat_le, unsigned_abs, filter, drop, get_or, append_assoc, append-nil, add-one, drop-cons, ◌==◌}
 use Rattle.std.proofs.Common.{ℤ, pos, ◌≤ℤ◌, ◌<ℤ◌}
 use Rattle.std.specs.Prelude.{int_lt}
 use Rattle.std.proofs.lemmas.Int.{ints}
 use Rattle.std.specs.Prelude.{if◌then◌else◌}
 use Rattle.std.specs.List.{flat_map}
-use borrow.Author.Tests.{leb-true}
+use borrow.Author.Tests.{leb-true, eqb-true}
 use Rattle.sd_rows.specs.declared.row.Row.{Row}
 use Rattle.sd_linear.specs.declared.list.Held.{Held}
-use Rattle.sd_rows.specs.Rows.{Parts, IsProper, are_small}
+use Rattle.sd_rows.specs.Rows.{Part, Parts, AllAbove, IsAscending, IsProper, are_small, is_within, AllComputable}
 use Rattle.sd_rows.specs.RowOps.{added, times, same_number}
 use Rattle.sd_rows.proofs.Integers.{same_number_is}
-use Rattle.sd_linear.specs.Elimination.{factor_of, combined, combined_with, is_positive, is_negative, is_free, Next, goes, ends, after, come_in, all_come_in}
+use Rattle.sd_linear.specs.Elimination.{factor_of, combined, combined_with, combinations, eliminated, is_positive, is_negative, is_free, Next, goes, ends, after, come_in, all_come_in}
 use Rattle.sd_linear.specs.declared.step.RowStep.{RowStep}
 use Rattle.sd_linear.specs.declared.elimination.Stop.{Stop}
 use Rattle.sd_linear.specs.declared.elimination.Stop.TheVariants.{Memory, Ends}
 use Rattle.sd_linear.specs.RowSteps.{rows_made}
-use Rattle.sd_linear.specs.Held.{rows_of, unheld, IsHeld, AllHeld, IsDerived, Extends, Stops}
+use Rattle.sd_linear.specs.Held.{rows_of, unheld, IsHeld, AllHeld, IsDerived, Extends, Stops, has_column}
 use Rattle.sd_linear.proofs.Coming.{all_come_in-append}
 use Rattle.sd_linear.proofs.Deriving.{AllHeld-extended}
 use Rattle.sd_rows.proofs.Cuts.{and-left, and-right}
@@ -32,6 +32,33 @@ small-factor k (p ∷ ps) h = go (p.0 == k) (small-factor k ps (and-right (nat_l
     go : (b : Bool) → unsigned_abs (factor_of k ps) ≤ 2 ^ 58 → unsigned_abs (if b then p.1 else factor_of k ps) ≤ 2 ^ 58
     go true i = leb-true (unsigned_abs p.1) (2 ^ 58) (and-left (nat_le (unsigned_abs p.1) (2 ^ 58)) (are_small ps) h)
     go false i = i
+
+above-none : (k j : ℕ) (ps : Parts) → k ≤ j → AllAbove j ps → factor_of k ps ≡ pos 0
+above-none k j [] h a = refl
+above-none k j (p ∷ ps) h a = go (p.0 == k) refl (above-none k j ps h a.1)
+  where
+    go : (b : Bool) → (p.0 == k) ≡ b → factor_of k ps ≡ pos 0 → (if b then p.1 else factor_of k ps) ≡ pos 0
+    go true e i = absurd (omega (arith, eqb-true p.0 k e, a.0))
+    go false e i = i
+
+-- a column below that of a part is in neither that part nor those after it
+pub factor_of-none : (k : ℕ) (ps : Parts) (i : ℕ) (z : Part) → i < length ps → IsAscending ps → k < (get_or ps i z).0 → factor_of k (drop i ps) ≡ pos 0
+factor_of-none k [] i z h a l = absurd (omega arith)
+factor_of-none k (p ∷ ps) zero z h a l = go (p.0 == k) refl
+  where
+    go : (b : Bool) → (p.0 == k) ≡ b → (if b then p.1 else factor_of k ps) ≡ pos 0
+    go true e = absurd (omega (arith, eqb-true p.0 k e))
+    go false e = above-none k p.0 ps (omega arith) a.0
+factor_of-none k (p ∷ ps) (suc i) z h a l = factor_of-none k ps i z (omega arith) a.1 l
+
+pub proper-at : (hs : List Held) (i : ℕ) (h : Held) → i < length hs → h ≡ get_or hs i h → AllComputable (rows_of hs) → IsProper h.row.parts × (is_within h.row ≡ true)
+proper-at [] i h l e a = absurd (omega arith)
+proper-at (g ∷ gs) zero h l e a = subst (λ (f : Held). IsProper f.row.parts × (is_within f.row ≡ true)) (sym e) a.0
+proper-at (g ∷ gs) (suc i) h l e a = proper-at gs i h (omega arith) e a.1
+
+pub AllComputable-held : (made : List Row) (hs : List Held) → AllHeld made hs → AllComputable (rows_of hs)
+AllComputable-held made [] a = tt
+AllComputable-held made (h ∷ hs) a = ((a.0.proper, a.0.within), AllComputable-held made hs a.1)
 
 -- ---- the loops
 
@@ -144,21 +171,22 @@ negative k r z e h = let f : factor_of k r.parts <ℤ pos 0 = subst (λ (y : ℤ
 
 -- ---- the rows without the column
 
-pub free-here : (k : ℕ) (made made' : List Held) (h : Held) (all rest whole : List Row) → all ≡ h.row ∷ rest → is_free k h.row ≡ true → made' ≡ made ++ h ∷ []
-    → rows_of made ++ filter (is_free k) all ≡ whole → rows_of made' ++ filter (is_free k) rest ≡ whole
-free-here k made made' h all rest whole e p f g =
-    ap (λ (l : List Row). l ++ filter (is_free k) rest) (ap rows_of f ∙ rows_of-append made (h ∷ []))
-    ∙ append_assoc (rows_of made) (h.row ∷ []) (filter (is_free k) rest)
-    ∙ ap (λ (l : List Row). rows_of made ++ l) (sym (ap (filter (is_free k)) e ∙ (rw p refl)))
-    ∙ g
+-- one more row that passes a test, or one that does not
+pub filter-here : (f : Row → Bool) (made made' : List Held) (h : Held) (all rest whole : List Row) → all ≡ h.row ∷ rest → f h.row ≡ true → made' ≡ made ++ h ∷ []
+    → rows_of made ++ filter f all ≡ whole → rows_of made' ++ filter f rest ≡ whole
+filter-here f made made' h all rest whole e p g w =
+    ap (λ (l : List Row). l ++ filter f rest) (ap rows_of g ∙ rows_of-append made (h ∷ []))
+    ∙ append_assoc (rows_of made) (h.row ∷ []) (filter f rest)
+    ∙ ap (λ (l : List Row). rows_of made ++ l) (sym (ap (filter f) e ∙ (rw p refl)))
+    ∙ w
   where
     rows_of-append : (hs gs : List Held) → rows_of (hs ++ gs) ≡ rows_of hs ++ rows_of gs
     rows_of-append [] gs = refl
     rows_of-append (i ∷ hs) gs = ap (λ (l : List Row). i.row ∷ l) (rows_of-append hs gs)
 
-pub free-past : (k : ℕ) (made : List Held) (h : Held) (all rest whole : List Row) → all ≡ h.row ∷ rest → is_free k h.row ≡ false
-    → rows_of made ++ filter (is_free k) all ≡ whole → rows_of made ++ filter (is_free k) rest ≡ whole
-free-past k made h all rest whole e p g = ap (λ (l : List Row). rows_of made ++ l) (sym (ap (filter (is_free k)) e ∙ (rw p refl))) ∙ g
+pub filter-past : (f : Row → Bool) (made : List Held) (h : Held) (all rest whole : List Row) → all ≡ h.row ∷ rest → f h.row ≡ false
+    → rows_of made ++ filter f all ≡ whole → rows_of made ++ filter f rest ≡ whole
+filter-past f made h all rest whole e p w = ap (λ (l : List Row). rows_of made ++ l) (sym (ap (filter f) e ∙ (rw p refl))) ∙ w
 
 pub free : (k : ℕ) (r : Row) (z : ℤ) → z ≡ factor_of k r.parts → z ≡ pos 0 → is_free k r ≡ true
 free k r z e h = ap (λ (y : ℤ). same_number y (pos 0)) (sym e ∙ h)
@@ -169,3 +197,30 @@ not_free k r z e h = go (same_number (factor_of k r.parts) (pos 0)) refl
     go : (b : Bool) → same_number (factor_of k r.parts) (pos 0) ≡ b → b ≡ false
     go true f = absurd (h (e ∙ same_number_is (factor_of k r.parts) (pos 0) f))
     go false f = refl
+
+-- ---- only rows with the column are combined
+
+filter-filter : (f g : Row → Bool) (rows : List Row) → ((r : Row) → f r ≡ true → g r ≡ true) → filter f (filter g rows) ≡ filter f rows
+filter-filter f g [] h = refl
+filter-filter f g (r ∷ rs) h = go (f r) (g r) refl refl (filter-filter f g rs h)
+  where
+    go : (a b : Bool) → f r ≡ a → g r ≡ b → filter f (filter g rs) ≡ filter f rs → filter f (cond b (r ∷ filter g rs) (filter g rs)) ≡ cond a (r ∷ filter f rs) (filter f rs)
+    go true true e d i = rw e (ap (λ (l : List Row). r ∷ l) i)
+    go true false e d i = absurd (let x : g r ≡ true = h r e in cc)
+    go false true e d i = rw e i
+    go false false e d i = i
+
+positive-has : (k : ℕ) (r : Row) → is_positive k r ≡ true → has_column k r ≡ true
+positive-has k r e = ap not (not_free k r (factor_of k r.parts) refl (λ z. absurd (cc (ap (λ (y : ℤ). int_lt (pos 0) y) z))))
+
+negative-has : (k : ℕ) (r : Row) → is_negative k r ≡ true → has_column k r ≡ true
+negative-has k r e = ap not (not_free k r (factor_of k r.parts) refl (λ z. absurd (cc (ap (λ (y : ℤ). int_lt y (pos 0)) z))))
+
+pub combinations-with : (k : ℕ) (rows with : List Row) → with ≡ filter (has_column k) rows → combined_from k with with ≡ combinations k rows
+combinations-with k rows with e =
+    ap (λ (l : List Row). combined_from k l l) e
+    ∙ ap (λ (l : List Row). flat_map (λ r. combined_with k r (filter (has_column k) rows)) l) (filter-filter (is_negative k) (has_column k) rows (negative-has k))
+    ∙ ap (λ (l : List Row). flat_map (λ r. map (combined k r) l) (filter (is_negative k) rows)) (filter-filter (is_positive k) (has_column k) rows (positive-has k))
+
+pub eliminated-is : (k : ℕ) (rows with free : List Row) → with ≡ filter (has_column k) rows → free ≡ filter (is_free k) rows → all_come_in k (combinations k with) free ≡ eliminated k rows
+eliminated-is k rows with free e f = ap (all_come_in k (combinations k with)) f ∙ ap (λ (rs : List Row). all_come_in k rs (filter (is_free k) rows)) (combinations-with k rows with e)

@@ -3,7 +3,7 @@ use Rattle.std.proofs.Common.{◌≡◌, ◌≢◌, ℕ, suc, ◌<◌, ◌≤◌
 use Rattle.std.proofs.Common.{ℤ, pos, ◌<ℤ◌}
 use Rattle.std.specs.Prelude.{int_lt, if◌then◌else◌}
 use Rattle.std.proofs.lemmas.Int.{ints}
-use borrow.Author.Tests.{leb-true, leb-false}
+use borrow.Author.Tests.{leb-true}
 use Rattle.sd_rows.specs.declared.row.Row.{Row}
 use Rattle.sd_linear.specs.declared.list.Held.{Held}
 use Rattle.sd_rows.specs.Rows.{Parts, is_within}
@@ -11,6 +11,7 @@ use Rattle.sd_rows.specs.RowOps.{reduced}
 use Rattle.sd_linear.specs.Elimination.{refuted, many, Next, goes, ends, after, joined, kept, taken, come_in, all_come_in}
 use Rattle.sd_rows.specs.Rows.{is_empty}
 use Rattle.sd_linear.specs.Held.{rows_of}
+use Rattle.sd_linear.proofs.Deriving.{le_yes}
 
 empty : (ps : Parts) → ps ≡ [] → is_empty ps ≡ true
 empty ps e = ap is_empty e
@@ -18,13 +19,6 @@ empty ps e = ap is_empty e
 not_empty : (ps : Parts) → ps ≢ [] → is_empty ps ≡ false
 not_empty [] n = absurd (n refl)
 not_empty (p ∷ ps) n = refl
-
-le_yes : (a b : ℕ) → a ≤ b → nat_le a b ≡ true
-le_yes a b h = go (nat_le a b) refl
-  where
-    go : (t : Bool) → nat_le a b ≡ t → t ≡ true
-    go true e = refl
-    go false e = absurd (omega (arith, leb-false a b e))
 
 le_no : (a b : ℕ) → b < a → nat_le a b ≡ false
 le_no a b h = go (nat_le a b) refl

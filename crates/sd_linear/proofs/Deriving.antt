@@ -12,9 +12,10 @@ use Rattle.sd_linear.specs.declared.list.Held.{Held}
 use Rattle.sd_rows.specs.Rows.{Parts, IsProper, is_within, are_small}
 use Rattle.sd_rows.specs.Divisors.{greatest_divisor, floor_div}
 use Rattle.sd_rows.specs.RowOps.{reduced, over, sizes}
-use Rattle.sd_linear.specs.RowSteps.{row_made, made_from, rows_made, IsStep, AreSteps, Refutes}
+use Rattle.sd_linear.specs.RowSteps.{row_made, made_from, rows_made, IsStep, AreSteps, Refutes, IsUseful, AreUseful}
+use Rattle.sd_linear.specs.Values.{AllWithin}
 use Rattle.sd_rows.specs.Rows.{nothing, IsAbsurd}
-use Rattle.sd_linear.specs.Held.{IsHeld, AllHeld}
+use Rattle.sd_linear.specs.Held.{IsHeld, AllHeld, with_cut}
 use Rattle.sd_rows.proofs.Cuts.{greatest_divisor-divides, and-left, and-right}
 use Rattle.sd_rows.proofs.Proper.{IsProper-over}
 
@@ -37,6 +38,10 @@ made_from-front inputs before (s ∷ ss) =
 pub AreSteps-append : (inputs before : List Row) (ss ts : List RowStep) → AreSteps inputs before ss → AreSteps inputs (made_from inputs before ss) ts → AreSteps inputs before (ss ++ ts)
 AreSteps-append inputs before [] ts a b = b
 AreSteps-append inputs before (s ∷ ss) ts a b = (a.0, AreSteps-append inputs (before ++ row_made inputs before s ∷ []) ss ts a.1 b)
+
+pub AreUseful-append : (inputs before : List Row) (ss ts : List RowStep) → AreUseful inputs before ss → AreUseful inputs (made_from inputs before ss) ts → AreUseful inputs before (ss ++ ts)
+AreUseful-append inputs before [] ts a b = b
+AreUseful-append inputs before (s ∷ ss) ts a b = (a.0, AreUseful-append inputs (before ++ row_made inputs before s ∷ []) ss ts a.1 b)
 
 pub at-front : (rs more : List Row) (i : ℕ) → i < length rs → slice_index_or (rs ++ more) i nothing ≡ slice_index_or rs i nothing
 at-front [] more i h = absurd (omega arith)
@@ -64,40 +69,12 @@ AllHeld-extended inputs ss ts hs a =
     let m = made_from-front inputs (rows_made inputs ss) ts in
     subst (λ (rs : List Row). AllHeld rs hs) (sym (made_from-append inputs [] ss ts ∙ m.1)) (AllHeld-more (rows_made inputs ss) m.0 hs a)
 
--- ---- a step and its cut
-
-pub record Derives (inputs : List Row) (old new : List RowStep) (r : Row) : Type 0 where
-  pub are_steps : AreSteps inputs [] new
-  pub count : length (rows_made inputs new) ≡ length old + 2
-  pub row : slice_index_or (rows_made inputs new) (length old + 1) nothing ≡ reduced r
-
-pub derives : (inputs : List Row) (old new : List RowStep) (how : RowStep) (r : Row) → row_made inputs (rows_made inputs old) how ≡ r → IsStep inputs (rows_made inputs old) how → AreSteps inputs [] old
-    → new ≡ old ++ how ∷ Cut (length old) ∷ [] → Derives inputs old new r
-derives inputs old new how r e s a f =
-    let before : List Row = rows_made inputs old in
-    let n : length before ≡ length old = length-made_from inputs [] old ∙ omega arith in
-    let two : List RowStep = how ∷ Cut (length old) ∷ [] in
-    let with_first : List Row = before ++ row_made inputs before how ∷ [] in
-    let m : length with_first ≡ length old + 1 = omega (arith, length-append before (row_made inputs before how ∷ [])) in
-    let first : slice_index_or with_first (length old) nothing ≡ r =
-    subst (λ (i : ℕ). slice_index_or with_first i nothing ≡ r) n (at-end before (row_made inputs before how) [] ∙ e) in
-    let g : rows_made inputs new ≡ with_first ++ reduced (slice_index_or with_first (length old) nothing) ∷ [] =
-    ap (rows_made inputs) f ∙ made_from-append inputs [] old two in
-    record {
-      are_steps = subst (AreSteps inputs []) (sym f) (AreSteps-append inputs [] old two a (s, (omega arith, tt)));
-      count = ap (λ (l : List Row). length l) g ∙ omega (arith, length-append with_first (reduced (slice_index_or with_first (length old) nothing) ∷ []));
-      row = ap (λ (l : List Row). slice_index_or l (length old + 1) nothing) g
-          ∙ ap (λ (i : ℕ). slice_index_or (with_first ++ reduced (slice_index_or with_first (length old) nothing) ∷ []) i nothing) (sym m)
-          ∙ at-end with_first (reduced (slice_index_or with_first (length old) nothing)) []
-          ∙ ap reduced first;
-    }
-
 -- ---- the reduced row
 
 pub IsProper-reduced : (r : Row) → IsProper r.parts → IsProper (reduced r).parts
 IsProper-reduced r h = IsProper-over (greatest_divisor (sizes r.parts)) r.parts (greatest_divisor-divides (sizes r.parts)) h
 
-le_yes : (a b : ℕ) → a ≤ b → nat_le a b ≡ true
+pub le_yes : (a b : ℕ) → a ≤ b → nat_le a b ≡ true
 le_yes a b h = go (nat_le a b) refl
   where
     go : (t : Bool) → nat_le a b ≡ t → t ≡ true
@@ -127,19 +104,78 @@ is_within-reduced r h =
     let c : are_small (over r.parts d) ≡ true = are_small-over r.parts d (and-left (are_small r.parts) (nat_le (unsigned_abs r.bound) (2 ^ 66)) h) in
     rw (c, b) refl
 
+-- ---- a step and its cut
+
+pub AllWithin-append : (rs ss : List Row) → AllWithin rs → AllWithin ss → AllWithin (rs ++ ss)
+AllWithin-append [] ss a b = b
+AllWithin-append (r ∷ rs) ss a b = (a.0, AllWithin-append rs ss a.1 b)
+
+pub record Derives (inputs : List Row) (new : List RowStep) (r : Row) : Type 0 where
+  pub are_steps : AreSteps inputs [] new
+  pub within : AllWithin (rows_made inputs new)
+  pub useful : AreUseful inputs [] new
+  pub count : length (rows_made inputs new) ≡ length new
+  pub last : (k : ℕ) × (k + 1 ≡ length (rows_made inputs new)) × (slice_index_or (rows_made inputs new) k nothing ≡ reduced r)
+
+rows_made-push : (inputs : List Row) (old : List RowStep) (how : RowStep) → rows_made inputs (old ++ how ∷ []) ≡ rows_made inputs old ++ row_made inputs (rows_made inputs old) how ∷ []
+rows_made-push inputs old how = made_from-append inputs [] old (how ∷ [])
+
+derives-one : (inputs : List Row) (old : List RowStep) (how : RowStep) (r : Row) → row_made inputs (rows_made inputs old) how ≡ r → IsStep inputs (rows_made inputs old) how → AreSteps inputs [] old
+    → AllWithin (rows_made inputs old) → is_within r ≡ true → (AreSteps inputs [] (old ++ how ∷ [])) × AllWithin (rows_made inputs (old ++ how ∷ [])) × (slice_index_or (rows_made inputs (old ++ how ∷ [])) (length old) nothing ≡ r)
+derives-one inputs old how r e s a w i =
+    let before : List Row = rows_made inputs old in
+    let n : length before ≡ length old = length-made_from inputs [] old ∙ omega arith in (
+      AreSteps-append inputs [] old (how ∷ []) a (s, tt),
+      subst AllWithin (sym (rows_made-push inputs old how)) (AllWithin-append before (row_made inputs before how ∷ []) w (ap is_within e ∙ i, tt)),
+      ap (λ (l : List Row). slice_index_or l (length old) nothing) (rows_made-push inputs old how)
+          ∙ ap (λ (k : ℕ). slice_index_or (before ++ row_made inputs before how ∷ []) k nothing) (sym n)
+          ∙ at-end before (row_made inputs before how) []
+          ∙ e,
+    )
+
+pub derives : (inputs : List Row) (old new : List RowStep) (how : RowStep) (r : Row) (is_cut : Bool) → row_made inputs (rows_made inputs old) how ≡ r → IsStep inputs (rows_made inputs old) how → IsUseful (rows_made inputs old) how
+    → AreSteps inputs [] old → AllWithin (rows_made inputs old) → AreUseful inputs [] old → is_within r ≡ true → (is_cut ≡ false → r ≡ reduced r) → (is_cut ≡ true → 1 < greatest_divisor (sizes r.parts))
+    → new ≡ old ++ with_cut how (length old) is_cut → Derives inputs new r
+derives inputs old new how r false e s u a w v i c o f =
+    let d = derives-one inputs old how r e s a w i in
+    let n : length (rows_made inputs (old ++ how ∷ [])) ≡ length (old ++ how ∷ []) = length-made_from inputs [] (old ++ how ∷ []) ∙ omega arith in
+    subst (λ (l : List RowStep). Derives inputs l r) (sym f)
+    (record {
+      are_steps = d.0;
+      within = d.1;
+      useful = AreUseful-append inputs [] old (how ∷ []) v (u, tt);
+      count = n;
+      last = (length old, omega (arith, length-append old (how ∷ [])), d.2 ∙ c refl);
+    })
+derives inputs old new how r true e s u a w v i c o f =
+    let d = derives-one inputs old how r e s a w i in
+    let mid : List RowStep = old ++ how ∷ [] in
+    let m : length mid ≡ length old + 1 = length-append old (how ∷ []) in
+    let p : length (rows_made inputs mid) ≡ length mid = length-made_from inputs [] mid ∙ omega arith in
+    let made : row_made inputs (rows_made inputs mid) (Cut (length old)) ≡ reduced r = ap reduced d.2 in
+    let g = derives-one inputs mid (Cut (length old)) (reduced r) made (omega arith) d.0 d.1 (is_within-reduced r i) in
+    let n : length (rows_made inputs (mid ++ Cut (length old) ∷ [])) ≡ length (mid ++ Cut (length old) ∷ []) = length-made_from inputs [] (mid ++ Cut (length old) ∷ []) ∙ omega arith in
+    let same : new ≡ mid ++ Cut (length old) ∷ [] = f ∙ sym (append_assoc old (how ∷ []) (Cut (length old) ∷ [])) in
+    let x : 1 < greatest_divisor (sizes (slice_index_or (rows_made inputs mid) (length old) nothing).parts) = subst (λ (t : Row). 1 < greatest_divisor (sizes t.parts)) (sym d.2) (o refl) in
+    subst (λ (l : List RowStep). Derives inputs l r) (sym same)
+    (record {
+      are_steps = g.0;
+      within = g.1;
+      useful = AreUseful-append inputs [] mid (Cut (length old) ∷ []) (AreUseful-append inputs [] old (how ∷ []) v (u, tt)) (x, tt);
+      count = n;
+      last = (length mid, omega (arith, length-append mid (Cut (length old) ∷ [])), g.2);
+    })
+
 -- ---- a held row, and a refutation
 
-pub IsHeld-derived : (inputs : List Row) (old new : List RowStep) (r : Row) (h : Held) → Derives inputs old new r → IsProper r.parts → is_within r ≡ true → h.row ≡ reduced r → h.step ≡ length old + 1
+pub IsHeld-derived : (inputs : List Row) (new : List RowStep) (r : Row) (h : Held) → Derives inputs new r → IsProper r.parts → is_within r ≡ true → h.row ≡ reduced r → h.step + 1 ≡ length new
     → IsHeld (rows_made inputs new) h
-IsHeld-derived inputs old new r h d p w e f = record {
+IsHeld-derived inputs new r h d p w e f = record {
   there = omega (arith, d.count);
-  row = ap (λ (i : ℕ). slice_index_or (rows_made inputs new) i nothing) f ∙ d.row ∙ sym e;
+  row = let k : h.step ≡ d.last.0 = omega (arith, d.count, d.last.1) in ap (λ (i : ℕ). slice_index_or (rows_made inputs new) i nothing) k ∙ d.last.2 ∙ sym e;
   proper = subst (λ (s : Row). IsProper s.parts) (sym e) (IsProper-reduced r p);
   within = ap is_within e ∙ is_within-reduced r w;
 }
 
-pub Refutes-derived : (inputs : List Row) (old new : List RowStep) (r : Row) → Derives inputs old new r → IsAbsurd (reduced r) → Refutes inputs new
-Refutes-derived inputs old new r d a = record {
-  are_steps = d.are_steps;
-  ends = (length old + 1, omega (arith, d.count), subst IsAbsurd (sym d.row) a);
-}
+pub Refutes-derived : (inputs : List Row) (new : List RowStep) (r : Row) → Derives inputs new r → IsAbsurd (reduced r) → Refutes inputs new
+Refutes-derived inputs new r d a = record { are_steps = d.are_steps; ends = (d.last.0, d.last.1, subst IsAbsurd (sym d.last.2) a) }

@@ -1,10 +1,13 @@
 pub mod Refuting
+pub mod Naming
+pub mod Marking
 pub mod Lists
+pub mod Copying
 pub mod Deriving
 pub mod Coming
 pub mod Combining
 pub mod Choosing
-pub mod Columns
+pub mod Falling
 pub mod Points
 pub mod Values
 pub mod Solving

@@ -19,7 +19,7 @@ use Rattle.sd_linear.proofs.Deriving.{IsProper-reduced}
 use Rattle.sd_linear.proofs.Combining.{IsProper-added}
 use Rattle.sd_rows.proofs.Greatest.{multipliers-positive}
 use Rattle.sd_linear.proofs.Choosing.{Puts, AllProper, HoldIfBound, InRange, range-holds, nearest-in}
-use Rattle.sd_linear.proofs.Columns.{ColumnsIn, AllColumnsIn, ColumnsIn-over, ColumnsIn-added, factor_of-combined, without, sum-elsewhere, in-columns}
+use Rattle.sd_linear.proofs.Falling.{ColumnsIn, AllColumnsIn, ColumnsIn-over, ColumnsIn-added, factor_of-combined, without, sum-elsewhere, in-columns}
 
 -- a row that may come in
 pub record IsGood (ks : List ℕ) (r : Row) : Type 0 where

@@ -5,11 +5,9 @@ use Rattle.std.specs.Prelude.{if◌then◌else◌}
 use Rattle.std.proofs.lemmas.List.{drop_all}
 use borrow.Author.Tests.{eqb-true, eq-eqb, leb-true, ltb-false}
 use Rattle.sd_rows.specs.declared.row.Row.{Row}
-use Rattle.sd_linear.specs.declared.list.Held.{Held}
-use Rattle.sd_linear.specs.Held.{rows_of, unheld}
 use Rattle.sd_rows.specs.Rows.{Part, Parts, are_small, is_within}
 use Rattle.sd_linear.specs.Elimination.{value_of, left_of, fits}
-use Rattle.sd_linear.specs.Values.{AllNear, AllWithin}
+use Rattle.sd_linear.specs.Values.{AllNear}
 use Rattle.sd_rows.proofs.Cuts.{and-left, and-right}
 
 eq_no : (a b : ℕ) → a ≢ b → (a == b) ≡ false
@@ -103,8 +101,3 @@ bound-fits r w =
         go : (t : Bool) → nat_lt m n ≡ t → t ≡ true
         go true e = refl
         go false e = absurd (omega (arith, ltb-false m n e))
-
-pub within-at : (hs : List Held) (i : ℕ) → i < length hs → AllWithin (rows_of hs) → is_within (get_or hs i unheld).row ≡ true
-within-at [] i l a = absurd (omega arith)
-within-at (h ∷ hs) zero l a = a.0
-within-at (h ∷ hs) (suc i) l a = within-at hs i (omega arith) a.1

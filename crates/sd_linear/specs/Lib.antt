@@ -2,3 +2,4 @@ pub mod Elimination
 pub mod RowSteps
 pub mod Held
 pub mod Values
+pub mod Pruning

@@ -1,35 +1,42 @@
-ghost use Rattle.std.specs.Prelude.{◌≡◌, ◌≢◌, ℕ, ◌+◌, ◌<◌, ◌≤◌, [], ◌∷◌, ◌++◌, true, IfOk, IfErr, OnOk, IsTrue, ◌↔◌, length, map, filter, unsigned_abs, ◌^◌, List};
+ghost use Rattle.std.specs.Prelude.{◌≡◌, ℕ, ◌+◌, ◌<◌, [], IfOk, IfErr, length, drop, List};
 ghost use Rattle.sd_rows.specs.declared.row.Row.{Row};
-ghost use Rattle.sd_rows.specs.Rows.{IsProper, is_within};
-ghost use Rattle.sd_linear.specs.RowSteps.{rows_made, row_made, IsStep};
-ghost use Rattle.sd_linear.specs.Elimination.{factor_of, is_negative, come_in, all_come_in, combined, combined_with, is_positive, is_free, eliminated, goes, solved, point, with_column, with_columns, columns, elimination};
-ghost use Rattle.sd_linear.specs.Values.{AllNear};
-ghost use Rattle.sd_linear.specs.Held.{rows_of, IsHeld, AllHeld, IsDerived, Extends, Stops, Fails, answer_of, Justified};
 ghost use Rattle.sd_rows.specs.Rows.{AllComputable};
+ghost use Rattle.sd_linear.specs.Elimination.{all_come_in, goes, solved, point, elimination};
+ghost use Rattle.sd_linear.specs.Held.{rows_of, IsDerived, Stops, Fails, answer_of, Justified, DescendsFrom, list_at};
 
-use crate::list::{Held, derive, join};
+use crate::columns::columns_of;
+use crate::combine::{comes_in, eliminate_column};
+use crate::list::Held;
 use crate::step::RowStep;
 use crate::value::choose;
 use sd_base::NoMemory;
-use sd_rows::{Row, multipliers};
+use sd_rows::Row;
 use sqlite_items::Items;
-use std::alloc::Global;
-use std::mem;
+use std::alloc::{AllocError, Global};
 
 /// What the rows come to.
 #[derive(Drop)]
 pub enum Eliminated {
+    /// No integers meet the rows: the last of these steps derives a row with no factor and a bound below 0. Each other step is one
+    /// from which a later step is made, each cut divides by more than 1, and all rows are within the bounds.
     Refuted(Items<RowStep>),
+    /// The values of the rows' columns, in ascending order of the columns. They meet all rows.
     Point(Items<i128>),
+    /// Given the values of the columns after it, no integer is left for this column. Other values may meet the rows.
     Gap(u32),
+    /// A number went beyond its bound at this column: a factor beyond 2^58 or a bound beyond 2^66 in a combination, what a row leaves
+    /// for the column beyond 128 bits, or a value beyond 2^56, all in absolute value.
     Wide(u32),
+    /// More than 20000 rows with left sides of their own were left at a time.
     Many,
 }
 
 /// Why elimination ends before its last column.
 #[derive(Drop)]
 pub enum Stop {
+    /// Memory is wanting, or a number of a step is.
     Memory,
+    /// The answer, which is no point.
     Ends(Eliminated),
 }
 
@@ -43,200 +50,43 @@ impl From<NoMemory> for Stop {
     }
 }
 
-/// The factor of a column, 0 where the row has none.
-pub(crate) fn factor_of(row: &Row, column: u32) -> i128
-    ensures { result ≡ factor_of column row.now.parts }
-{
-    for p in row.parts.as_slice() {
-        if p.0 == column {
-            return p.1;
-        }
+impl From<AllocError> for Stop {
+    ghost use Rattle.sd_linear.specs.declared.elimination.Stop.TheVariants.{Memory};
+
+    ghost from_gives = { λ _ stop. stop ≡ Memory };
+
+    fn from(_: AllocError) -> Stop {
+        Stop::Memory
     }
-    0
 }
 
-/// How many rows are held at most.
-const MAX_ROWS: usize = 20000;
-
-/// A row comes into the list, derived by a step.
-fn comes_in(
-    alloc: Global,
-    inputs: &[Row],
-    column: u32,
-    row: Row,
-    how: RowStep,
-    list: &mut Items<Held>,
-    steps: &mut Items<RowStep>,
-) -> Result<(), Stop>
-    requires proper { IsProper row.parts }
-    requires made { row_made inputs.now (rows_made inputs.now steps.old) how ≡ row }
-    requires step { IsStep inputs.now (rows_made inputs.now steps.old) how }
-    requires derived { IsDerived inputs.now steps.old list.old }
-
-    ensures goes { OnOk result (come_in column row (rows_of list.old) ≡ goes (rows_of list.new)) }
-    ensures derived { OnOk result (IsDerived inputs.now steps.new list.new) }
-    ensures extends { OnOk result (Extends steps.old steps.new) }
-    ensures stops { IfErr result (λ stop. Stops inputs.now stop (come_in column row (rows_of list.old))) }
+/// Eliminates the columns in ascending order, and then chooses a value for each, from the last to the first, as near to 0 as the rows
+/// let it be (Fourier-Motzkin elimination; Dantzig and Eaves 1973).
+///
+/// Want of memory is the only error. More than 2^32 - 1 rows or steps count as such.
+pub fn eliminate(alloc: Global, rows: &[Row]) -> Result<Eliminated, NoMemory>
+    requires { AllComputable rows.now }
+    ensures answer { IfOk result (λ answer. answer_of answer ≡ elimination rows.now) }
+    ensures justified { IfOk result (λ answer. Justified rows.now answer) }
 {
-    if !row.is_within() {
-        return Err(Stop::Ends(Eliminated::Wide(column)));
+    match values_of(alloc, rows) {
+        Ok(values) => Ok(Eliminated::Point(values)),
+        Err(Stop::Memory) => Err(NoMemory),
+        Err(Stop::Ends(answer)) => Ok(answer),
     }
-    let row = row.reduced(alloc)?;
-    if row.parts.is_empty() {
-        if row.bound < 0 {
-            derive(steps, how)?;
-            return Err(Stop::Ends(Eliminated::Refuted(mem::replace(steps, Items::new(alloc)))));
-        }
-        return Ok(());
-    }
-    let step = derive(steps, how)?;
-    join(list, Held { row, step })?;
-    if list.len() > MAX_ROWS {
-        return Err(Stop::Ends(Eliminated::Many));
-    }
-    Ok(())
 }
 
-/// The sum of two rows in which the column falls away comes into the list.
-fn combine(
-    alloc: Global,
-    inputs: &[Row],
-    column: u32,
-    r: &Held,
-    s: &Held,
-    list: &mut Items<Held>,
-    steps: &mut Items<RowStep>,
-) -> Result<(), Stop>
-    requires negative { is_negative column r.now.row ≡ true }
-    requires positive { is_positive column s.now.row ≡ true }
-    requires first { IsHeld (rows_made inputs.now steps.old) r.now }
-    requires second { IsHeld (rows_made inputs.now steps.old) s.now }
-    requires derived { IsDerived inputs.now steps.old list.old }
-
-    ensures goes { OnOk result (come_in column (combined column r.now.row s.now.row) (rows_of list.old) ≡ goes (rows_of list.new)) }
-    ensures derived { OnOk result (IsDerived inputs.now steps.new list.new) }
-    ensures extends { OnOk result (Extends steps.old steps.new) }
-    ensures stops { IfErr result (λ stop. Stops inputs.now stop (come_in column (combined column r.now.row s.now.row) (rows_of list.old))) }
+/// The values of all columns.
+fn values_of(alloc: Global, rows: &[Row]) -> Result<Items<i128>, Stop>
+    requires { AllComputable rows.now }
+    ensures point { IfOk result (λ values. elimination rows.now ≡ point values) }
+    ensures fails { IfErr result (λ stop. Fails rows.now stop (elimination rows.now)) }
 {
-    let p = size_of_factor(&r.row, column);
-    let q = size_of_factor(&s.row, column);
-    let (m, n) = multipliers(p, q);
-    let row = Row::added(alloc, m, &r.row, n, &s.row)?;
-    comes_in(
-        alloc,
-        inputs,
-        column,
-        row,
-        RowStep::Add(r.step, m, s.step, n),
-        list,
-        steps,
-    )
-}
-
-/// The absolute value of a column's factor.
-fn size_of_factor(row: &Row, column: u32) -> u64
-    requires { is_within row.now ≡ true }
-    ensures value { result ≡ unsigned_abs (factor_of column row.now.parts) }
-    ensures small { result ≤ 2 ^ 58 }
-{
-    factor_of(row, column).unsigned_abs() as u64
-}
-
-/// The combinations of a row with each row whose factor is positive come into the list, in order.
-fn combine_all(
-    alloc: Global,
-    inputs: &[Row],
-    column: u32,
-    r: &Held,
-    rows: &[Held],
-    list: &mut Items<Held>,
-    steps: &mut Items<RowStep>,
-) -> Result<(), Stop>
-    requires negative { is_negative column r.now.row ≡ true }
-    requires first { IsHeld (rows_made inputs.now steps.old) r.now }
-    requires rows { AllHeld (rows_made inputs.now steps.old) rows.now }
-    requires derived { IsDerived inputs.now steps.old list.old }
-
-    ensures goes { OnOk result (all_come_in column (combined_with column r.now.row (rows_of rows.now)) (rows_of list.old) ≡ goes (rows_of list.new)) }
-    ensures derived { OnOk result (IsDerived inputs.now steps.new list.new) }
-    ensures extends { OnOk result (Extends steps.old steps.new) }
-    ensures stops { IfErr result (λ stop. Stops inputs.now stop (all_come_in column (combined_with column r.now.row (rows_of rows.now)) (rows_of list.old))) }
-{
-    for s in rows {
-        if factor_of(&s.row, column) > 0 {
-            combine(alloc, inputs, column, r, s, list, steps)?;
-        }
-    }
-    Ok(())
-}
-
-/// The rows without the column, as they stand.
-fn free_rows(alloc: Global, column: u32, rows: &[Held]) -> Result<Items<Held>, NoMemory>
-    ensures rows { IfOk result (λ list. rows_of list ≡ filter (is_free column) (rows_of rows.now)) }
-    ensures held { IfOk result (λ list. (made : List Row) → AllHeld made rows.now → AllHeld made list) }
-{
-    let mut list = Items::new(alloc);
-    for r in rows {
-        if factor_of(&r.row, column) == 0 {
-            list.push(r.copy(alloc)?)?;
-        }
-    }
-    Ok(list)
-}
-
-/// The rows in which the column has fallen away.
-fn eliminate_column(
-    alloc: Global,
-    inputs: &[Row],
-    column: u32,
-    rows: &[Held],
-    steps: &mut Items<RowStep>,
-) -> Result<Items<Held>, Stop>
-    requires derived { IsDerived inputs.now steps.old rows.now }
-
-    ensures goes { IfOk result (λ list. eliminated column (rows_of rows.now) ≡ goes (rows_of list)) }
-    ensures derived { IfOk result (λ list. IsDerived inputs.now steps.new list) }
-    ensures extends { OnOk result (Extends steps.old steps.new) }
-    ensures stops { IfErr result (λ stop. Stops inputs.now stop (eliminated column (rows_of rows.now))) }
-{
-    let mut list = free_rows(alloc, column, rows)?;
-    for r in rows {
-        if factor_of(&r.row, column) < 0 {
-            combine_all(alloc, inputs, column, r, rows, &mut list, steps)?;
-        }
-    }
-    Ok(list)
-}
-
-/// The values of the columns, once those before them are gone.
-fn solve(
-    alloc: Global,
-    inputs: &[Row],
-    columns: &[u32],
-    list: &[Held],
-    steps: &mut Items<RowStep>,
-) -> Result<Vec<i128>, Stop>
-    requires derived { IsDerived inputs.now steps.old list.now }
-    ensures point { IfOk result (λ values. solved columns.now (rows_of list.now) ≡ point values.items) }
-    ensures near { IfOk result (λ values. AllNear values.items) }
-    ensures fails { IfErr result (λ stop. Fails inputs.now stop (solved columns.now (rows_of list.now))) }
-{
-    match columns.split_first() {
-        None => Ok(Vec::new(alloc)),
-        Some((column, later_columns)) => {
-            let later = eliminate_column(alloc, inputs, *column, list, steps)?;
-            let mut values = solve(alloc, inputs, later_columns, later.as_slice(), steps)?;
-            match choose(*column, later_columns, &values, list) {
-                Ok(value) => {
-                    if values.insert(0, value).is_err() {
-                        return Err(Stop::Memory);
-                    }
-                    Ok(values)
-                }
-                Err(answer) => Err(Stop::Ends(answer)),
-            }
-        }
-    }
+    let mut steps = Items::new(alloc);
+    let list = take_inputs(alloc, rows, &mut steps)?;
+    let columns = columns_of(alloc, rows)?;
+    let lists = eliminate_columns(alloc, rows, &columns, list, &mut steps)?;
+    choose_values(alloc, rows, &columns, lists.as_slice())
 }
 
 /// The input rows as a list.
@@ -270,63 +120,64 @@ fn take_inputs(
     Ok(list)
 }
 
-/// The columns with one more, in ascending order.
-fn add_column(columns: &mut Vec<u32>, column: u32) -> Result<(), NoMemory>
-    ensures { OnOk result (columns.new.items ≡ with_column column columns.old.items) }
+/// The list at a place.
+fn list_at(lists: &[Items<Held>], place: usize) -> &[Held]
+    requires { place < length lists.now }
+    ensures { result.now ≡ list_at lists.now place }
 {
-    let mut place = 0;
-    while place < columns.len() && columns[place] < column {
-        place += 1;
-    }
-    if place < columns.len() && columns[place] == column {
-        return Ok(());
-    }
-    columns.insert(place, column)?;
-    Ok(())
+    lists[place].as_slice()
 }
 
-/// The columns with those of the parts.
-fn add_columns(columns: &mut Vec<u32>, parts: &[(u32, i128)]) -> Result<(), NoMemory>
-    ensures { OnOk result (columns.new.items ≡ with_columns parts.now columns.old.items) }
+/// What stands after a place.
+fn after<T>(items: &[T], place: usize) -> &[T]
+    requires { place < length items.now }
+    ensures { result.now ≡ drop (place + 1) items.now }
 {
-    for p in parts {
-        add_column(columns, p.0)?;
-    }
-    Ok(())
+    items.split_at(place + 1).1
 }
 
-/// The columns of the rows, in ascending order.
-fn columns_of(alloc: Global, rows: &[Row]) -> Result<Vec<u32>, NoMemory>
-    ensures { IfOk result (λ ks. ks.items ≡ columns rows.now) }
+/// For each column the rows with it that are left once the columns before it have fallen away.
+fn eliminate_columns(
+    alloc: Global,
+    inputs: &[Row],
+    columns: &[u32],
+    first: Items<Held>,
+    steps: &mut Items<RowStep>,
+) -> Result<Items<Items<Held>>, Stop>
+    requires derived { IsDerived inputs.now steps.old first }
+    ensures descends { IfOk result (λ lists. DescendsFrom columns.now (rows_of first) lists) }
+    ensures fails { IfErr result (λ stop. Fails inputs.now stop (solved columns.now (rows_of first))) }
 {
-    let mut columns = Vec::new(alloc);
-    for r in rows {
-        add_columns(&mut columns, r.parts.as_slice())?;
+    let mut lists = Items::new(alloc);
+    let mut rows = first;
+    for column in columns {
+        let (with, later) = eliminate_column(alloc, inputs, *column, rows.as_slice(), steps)?;
+        lists.push(with)?;
+        rows = later;
     }
-    Ok(columns)
+    Ok(lists)
 }
 
-/// Eliminates the columns one after the other, and chooses a value for each.
-pub fn eliminate(alloc: Global, rows: &[Row]) -> Result<Eliminated, NoMemory>
-    requires { AllComputable rows.now }
-    ensures answer { IfOk result (λ answer. answer_of answer ≡ elimination rows.now) }
-    ensures justified { IfOk result (λ answer. Justified rows.now answer) }
+/// A value for each column, from the last to the first.
+fn choose_values(
+    alloc: Global,
+    inputs: &[Row],
+    columns: &[u32],
+    lists: &[Items<Held>],
+) -> Result<Items<i128>, Stop>
+    requires count { length lists.now ≡ length columns.now }
+    requires computable { (i : ℕ) → i < length columns.now → AllComputable (rows_of (list_at lists.now i)) }
+    ensures point { IfOk result (λ values. (first : List Row) → DescendsFrom columns.now first lists.now → solved columns.now first ≡ point values) }
+    ensures fails { IfErr result (λ stop. (first : List Row) → DescendsFrom columns.now first lists.now → Fails inputs.now stop (solved columns.now first)) }
 {
-    match values_of(alloc, rows) {
-        Ok(values) => Ok(Eliminated::Point(Items::from_vec(values))),
-        Err(Stop::Memory) => Err(NoMemory),
-        Err(Stop::Ends(answer)) => Ok(answer),
+    let mut values = Items::from_vec(vec![in alloc; 0; columns.len()]?);
+    for i in (0..columns.len()).rev() {
+        let later_columns = after(columns, i);
+        let later_values = after(values.as_slice(), i);
+        match choose(columns[i], later_columns, later_values, list_at(lists, i)) {
+            Ok(value) => values.set(i, value),
+            Err(answer) => return Err(Stop::Ends(answer)),
+        }
     }
-}
-
-/// The values of all columns.
-fn values_of(alloc: Global, rows: &[Row]) -> Result<Vec<i128>, Stop>
-    requires { AllComputable rows.now }
-    ensures point { IfOk result (λ values. elimination rows.now ≡ point values.items) }
-    ensures fails { IfErr result (λ stop. Fails rows.now stop (elimination rows.now)) }
-{
-    let mut steps = Items::new(alloc);
-    let list = take_inputs(alloc, rows, &mut steps)?;
-    let columns = columns_of(alloc, rows)?;
-    solve(alloc, rows, &columns, list.as_slice(), &mut steps)
+    Ok(values)
 }

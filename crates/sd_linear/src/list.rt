@@ -1,13 +1,14 @@
-ghost use Rattle.std.specs.Prelude.{◌≡◌, ◌≢◌, ℕ, ◌+◌, ◌<◌, ◌≤◌, [], ◌∷◌, ◌++◌, true, IfOk, OnOk, IsTrue, ◌↔◌, length, position, int_lt, slice_index_or, List};
+ghost use Rattle.std.specs.Prelude.{◌≡◌, ◌+◌, ◌<◌, ◌++◌, true, false, IfOk, OnOk, length, position, int_lt, slice_index_or, List};
 ghost use Rattle.sd_rows.specs.declared.row.Row.{Row};
-ghost use Rattle.sd_rows.specs.Rows.{IsProper, is_within, Parts};
-ghost use Rattle.sd_linear.specs.RowSteps.{rows_made, row_made, IsStep, AreSteps};
+ghost use Rattle.sd_rows.specs.Rows.{IsProper, is_within};
+ghost use Rattle.sd_rows.specs.Divisors.{greatest_divisor};
+ghost use Rattle.sd_rows.specs.RowOps.{reduced, sizes};
 ghost use Rattle.sd_linear.specs.Elimination.{joined, same_parts};
-ghost use Rattle.sd_linear.specs.Held.{rows_of, unheld, IsHeld, AllHeld};
+ghost use Rattle.sd_linear.specs.Held.{rows_of, unheld, IsHeld, AllHeld, with_cut};
 
 use crate::step::RowStep;
 use sd_base::NoMemory;
-use sd_rows::Row;
+use sd_rows::{Row, divisor_of};
 use sqlite_items::Items;
 use std::alloc::Global;
 
@@ -73,16 +74,38 @@ pub(crate) fn join(list: &mut Items<Held>, held: Held) -> Result<(), NoMemory>
     Ok(())
 }
 
-/// Adds the step and its cut, and gives the number of the cut.
-pub(crate) fn derive(steps: &mut Items<RowStep>, how: RowStep) -> Result<u32, NoMemory>
-    ensures number { IfOk result (λ n. n ≡ length steps.old + 1) }
-    ensures steps { OnOk result (steps.new ≡ steps.old ++ how ∷ RowStep.Cut (length steps.old) ∷ []) }
+/// Adds the step, and the cut of its row where that is another row, and gives the number of the last.
+pub(crate) fn derive(
+    steps: &mut Items<RowStep>,
+    how: RowStep,
+    is_cut: bool,
+) -> Result<u32, NoMemory>
+    ensures number { IfOk result (λ n. n + 1 ≡ length steps.new) }
+    ensures steps { OnOk result (steps.new ≡ steps.old ++ with_cut how (length steps.old) is_cut) }
 {
     let number = steps.len();
     if number >= u32::MAX as usize {
         return Err(NoMemory);
     }
     steps.push(how)?;
-    steps.push(RowStep::Cut(number as u32))?;
-    Ok(number as u32 + 1)
+    if is_cut {
+        steps.push(RowStep::Cut(number as u32))?;
+        return Ok(number as u32 + 1);
+    }
+    Ok(number as u32)
+}
+
+/// The reduced row, and whether it is another than the row.
+pub(crate) fn cut(alloc: Global, row: Row) -> Result<(Row, bool), NoMemory>
+    requires proper { IsProper row.parts }
+    requires within { is_within row ≡ true }
+    ensures row { IfOk result (λ t. t.0 ≡ reduced row) }
+    ensures same { IfOk result (λ t. t.1 ≡ false → row ≡ reduced row) }
+    ensures cut { IfOk result (λ t. t.1 ≡ true → 1 < greatest_divisor (sizes row.parts)) }
+{
+    if divisor_of(row.parts.as_slice()) == 1 {
+        return Ok((row, false));
+    }
+    let row = row.reduced(alloc)?;
+    Ok((row, true))
 }

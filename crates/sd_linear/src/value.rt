@@ -1,11 +1,12 @@
-ghost use Rattle.std.specs.Prelude.{◌≡◌, ◌≢◌, pos, [], neg_ℤ, ◌≤◌, ◌<◌, ◌^◌, ℕ, true, unsigned_abs, List, ◌∷◌, IfOk, IfErr, ◌*ℤ◌, ◌-ℤ◌, if◌then◌else◌};
-ghost use Rattle.sd_rows.specs.Rows.{is_within, are_small};
+ghost use Rattle.std.specs.Prelude.{◌≡◌, ◌≢◌, pos, [], neg_ℤ, ◌≤◌, ◌<◌, ◌^◌, true, unsigned_abs, List, ◌∷◌, IfOk, IfErr, ◌*ℤ◌, ◌-ℤ◌, if◌then◌else◌};
+ghost use Rattle.sd_rows.specs.Rows.{IsProper, is_within, AllComputable};
 ghost use Rattle.sd_linear.specs.Elimination.{fits, value_of, left_of, factor_of, limited, range_in, nearest, from, up_to, in_range, point};
 ghost use Rattle.sd_linear.specs.Held.{rows_of, answer_of, Justified, IsNoPoint};
 ghost use Rattle.sd_rows.specs.declared.row.Row.{Row};
-ghost use Rattle.sd_linear.specs.Values.{AllNear, AllWithin};
+ghost use Rattle.sd_linear.specs.Values.{AllNear};
 
-use crate::elimination::{Eliminated, factor_of};
+use crate::combine::factor_of;
+use crate::elimination::Eliminated;
 use crate::list::Held;
 use sd_rows::{Row, quotient_down};
 
@@ -101,7 +102,7 @@ fn negative(z: i128) -> i128
     -z
 }
 
-/// The number of the range that is nearest to 0.
+/// The number of the range that is nearest to 0, if there is one.
 fn nearest(range: Range) -> Option<i128>
     ensures { result ≡ nearest range }
 {
@@ -121,7 +122,7 @@ fn nearest(range: Range) -> Option<i128>
 
 /// The range that the rows with the column give for its value.
 fn range_in(column: u32, columns: &[u32], values: &[i128], rows: &[Held]) -> Option<Range>
-    requires rows { AllWithin (rows_of rows.now) }
+    requires rows { AllComputable (rows_of rows.now) }
     requires values { AllNear values.now }
     ensures { result ≡ range_in column (value_of columns.now values.now) (rows_of rows.now) (None, None) }
 {
@@ -134,6 +135,7 @@ fn range_in(column: u32, columns: &[u32], values: &[i128], rows: &[Held]) -> Opt
 
 /// The part of the range that a row leaves.
 fn narrowed(column: u32, columns: &[u32], values: &[i128], row: &Row, range: Range) -> Option<Range>
+    requires proper { IsProper row.now.parts }
     requires within { is_within row.now ≡ true }
     requires values { AllNear values.now }
     ensures { result ≡ range_in column (value_of columns.now values.now) (row.now ∷ []) range }
@@ -156,7 +158,7 @@ pub(crate) fn choose(
     values: &[i128],
     rows: &[Held],
 ) -> Result<i128, Eliminated>
-    requires rows { AllWithin (rows_of rows.now) }
+    requires rows { AllComputable (rows_of rows.now) }
     requires values { AllNear values.now }
     ensures chosen { IfOk result (λ v. in_range column values.now (range_in column (value_of columns.now values.now) (rows_of rows.now) (None, None)) ≡ point (v ∷ values.now)) }
     ensures near { IfOk result (λ v. unsigned_abs v ≤ 2 ^ 56) }

@@ -1,13 +1,13 @@
 -- the values of forms
 use Rattle.std.proofs.Common.{◌≡◌, ℕ, [], ◌∷◌, refl, sym, ap, ◌∙◌, Bool, true, false, ◌&&◌, arith, nat_le, unsigned_abs, ◌^◌}
-use Rattle.std.proofs.Common.{ℤ, pos, neg_ℤ, ◌+ℤ◌, ◌-ℤ◌, ◌*ℤ◌}
+use Rattle.std.proofs.Common.{ℤ, pos, negsuc, ◌+ℤ◌, ◌-ℤ◌, ◌*ℤ◌, ◌≤ℤ◌}
 use Rattle.std.specs.Prelude.{if◌then◌else◌}
 use Rattle.std.proofs.lemmas.Int.{ints}
 use Rattle.std.proofs.Math.IntN.{*ℤ_comm}
-use Rattle.sd_rows.specs.Rows.{Parts, sum_at, are_small, is_empty}
+use Rattle.sd_rows.specs.Rows.{Parts, sum_at, are_small, is_empty, Holds}
 use Rattle.sd_rows.specs.RowOps.{sum_of}
 use Rattle.sd_rows.specs.declared.form.Form.{Form}
-use Rattle.sd_rows.specs.Forms.{value_at, times_by, plus, scaled, column, bounded, product}
+use Rattle.sd_rows.specs.Forms.{value_at, times_by, plus, less, scaled, constant, column, bounded, product, at_most}
 use Rattle.sd_rows.proofs.Integers.{*ℤ-+ℤ_right, *ℤ_assoc}
 use Rattle.sd_rows.proofs.Sums.{sum_at-unless_zero, sum_at-sum_of}
 
@@ -54,3 +54,20 @@ value_at-product x k f g e = go (is_empty f.parts) refl (is_empty g.parts) refl
         value_at-bounded x k (scaled g.constant f) (value_at x f *ℤ value_at x g) e
         (value_at-scaled x g.constant f ∙ ap (λ (v : ℤ). v *ℤ value_at x f) (sym (constant-only x g i)) ∙ *ℤ_comm (value_at x g) (value_at x f))
     go false h false i = value_at-column x k ∙ e
+
+pub value_at-number : (x : ℕ → ℤ) (z : ℤ) → value_at x (constant z) ≡ z
+value_at-number x z = omega (arith, ints)
+
+pub value_at-less : (x : ℕ → ℤ) (f g : Form) → value_at x (less f g) ≡ value_at x f -ℤ value_at x g
+value_at-less x f g =
+    value_at-plus x f (scaled (negsuc 0) g) ∙ ap (λ (v : ℤ). value_at x f +ℤ v) (value_at-scaled x (negsuc 0) g) ∙ taken (value_at x f) (value_at x g)
+  where
+    taken : (a b : ℤ) → a +ℤ negsuc 0 *ℤ b ≡ a -ℤ b
+    taken a b = omega (arith, ints)
+
+-- the row that a form is at most a number says so
+pub Holds-at_most : (x : ℕ → ℤ) (c : ℤ) (f : Form) → value_at x f ≤ℤ c → Holds x (at_most c f)
+Holds-at_most x c f h = moved (sum_at x f.parts) f.constant c h
+  where
+    moved : (s k c : ℤ) → (s +ℤ k) ≤ℤ c → s ≤ℤ (c -ℤ k)
+    moved s k c h = omega (arith, ints)

@@ -6,3 +6,4 @@ pub mod Merging
 pub mod Greatest
 pub mod Computable
 pub mod FormValues
+pub mod FormLemmas

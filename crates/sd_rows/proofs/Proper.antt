@@ -14,7 +14,7 @@ pub AllAbove-lower : (j k : ℕ) (ps : Parts) → j < k → AllAbove k ps → Al
 AllAbove-lower j k [] h a = tt
 AllAbove-lower j k (p ∷ ps) h a = (omega (arith, a.0), AllAbove-lower j k ps h a.1)
 
-AllAbove-unless_zero : (k : ℕ) (p : Part) (ps : Parts) → k < p.0 → AllAbove k ps → AllAbove k (unless_zero p ps)
+pub AllAbove-unless_zero : (k : ℕ) (p : Part) (ps : Parts) → k < p.0 → AllAbove k ps → AllAbove k (unless_zero p ps)
 AllAbove-unless_zero k p ps h a = go (same_number p.1 (pos 0))
   where
     go : (b : Bool) → AllAbove k (if b then ps else p ∷ ps)
@@ -31,7 +31,7 @@ AllAbove-with_part k p (q ∷ qs) h a = go (nat_lt p.0 q.0) (p.0 == q.0) (AllAbo
     go false true i = AllAbove-unless_zero k (p.0, p.1 +ℤ q.1) qs h a.1
     go false false i = (a.0, i)
 
-IsAscending-unless_zero : (p : Part) (ps : Parts) → AllAbove p.0 ps → IsAscending ps → IsAscending (unless_zero p ps)
+pub IsAscending-unless_zero : (p : Part) (ps : Parts) → AllAbove p.0 ps → IsAscending ps → IsAscending (unless_zero p ps)
 IsAscending-unless_zero p ps a h = go (same_number p.1 (pos 0))
   where
     go : (b : Bool) → IsAscending (if b then ps else p ∷ ps)
@@ -48,7 +48,7 @@ IsAscending-with_part p (q ∷ qs) h = go (nat_lt p.0 q.0) (p.0 == q.0) refl ref
     go false true e f i = IsAscending-unless_zero (p.0, p.1 +ℤ q.1) qs (subst (λ (k : ℕ). AllAbove k qs) (sym (eqb-true p.0 q.0 f)) h.0) h.1
     go false false e f i = (AllAbove-with_part q.0 p qs (omega (arith, ltb-false p.0 q.0 e, eqb-false p.0 q.0 f)) h.0, i)
 
-HasNoZero-unless_zero : (p : Part) (ps : Parts) → HasNoZero ps → HasNoZero (unless_zero p ps)
+pub HasNoZero-unless_zero : (p : Part) (ps : Parts) → HasNoZero ps → HasNoZero (unless_zero p ps)
 HasNoZero-unless_zero p ps h = go (same_number p.1 (pos 0)) refl
   where
     go : (b : Bool) → same_number p.1 (pos 0) ≡ b → HasNoZero (if b then ps else p ∷ ps)

@@ -1,9 +1,15 @@
 -- linear forms: a sum of columns with their factors, and a constant
-use Rattle.std.specs.Prelude.{ℕ, ◌^◌, ℤ, pos, neg_ℤ, ◌+ℤ◌, ◌*ℤ◌, ◌-ℤ◌, nat_le, unsigned_abs, ◌&&◌, if◌then◌else◌, [], ◌∷◌}
+use Rattle.std.specs.Prelude.{◌≡◌, ℕ, ◌≤◌, ◌^◌, ℤ, pos, neg_ℤ, ◌+ℤ◌, ◌*ℤ◌, ◌-ℤ◌, nat_le, unsigned_abs, true, ◌&&◌, if◌then◌else◌, [], ◌∷◌}
 use Rattle.sd_rows.specs.declared.form.Form.{Form}
 use Rattle.sd_rows.specs.declared.row.Row.{Row}
-use Rattle.sd_rows.specs.Rows.{Parts, sum_at, are_small, is_empty}
+use Rattle.sd_rows.specs.Rows.{Parts, sum_at, are_small, is_empty, IsProper}
 use Rattle.sd_rows.specs.RowOps.{unless_zero, sum_of}
+
+-- a form that may be computed with: its columns ascend, each once, no factor is 0, and factors and constant are within the bounds
+pub record IsFit (f : Form) : Type 0 where
+  pub proper : IsProper f.parts
+  pub small : are_small f.parts ≡ true
+  pub near : unsigned_abs f.constant ≤ 2 ^ 66
 
 -- the value where each column k has the value x k
 abbrev pub value_at : (ℕ → ℤ) → Form → ℤ

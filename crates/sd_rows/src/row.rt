@@ -71,7 +71,7 @@ impl Row {
     }
 }
 
-fn are_small(parts: &[(u32, i128)]) -> bool
+pub(crate) fn are_small(parts: &[(u32, i128)]) -> bool
     ensures { result ≡ are_small parts.now }
 {
     parts.iter().all(|p| p.1.unsigned_abs() <= MAX_FACTOR)
@@ -99,7 +99,7 @@ fn sum_of_multiples(m: u64, a: i128, n: u64, b: i128) -> i128
 }
 
 /// m times the first parts and n times the second.
-fn added_parts(
+pub(crate) fn added_parts(
     alloc: Global,
     m: u64,
     a: &[(u32, i128)],

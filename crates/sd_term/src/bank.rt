@@ -282,3 +282,29 @@ impl Bank {
         Ok(id)
     }
 }
+
+// ---- copies
+
+/// A list of copies.
+fn clone_all<T: CloneOf>(alloc: Global, list: &[T]) -> Result<Vec<T>, NoMemory>
+    ensures { IfOk result (λ copies. copies.items ≡ list.now) }
+{
+    let mut copies = Vec::new(alloc);
+    for item in list {
+        copies.push(item.clone_of(alloc)?)?;
+    }
+    Ok(copies)
+}
+
+impl CloneOf for Bank {
+    /// A bank with the same terms. What is kept of each term is copied, so that none is compared with others.
+    fn clone_of(&self, alloc: Global) -> Result<Bank, NoMemory> {
+        Ok(Bank {
+            alloc,
+            nodes: clone_all(alloc, self.nodes.as_slice())?,
+            first: Vec::from_slice(alloc, self.first.as_slice())?,
+            sorts: clone_all(alloc, self.sorts.as_slice())?,
+            symbols: self.symbols,
+        })
+    }
+}

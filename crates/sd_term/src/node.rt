@@ -120,3 +120,12 @@ pub struct TermNode {
     pub head: Head,
     pub parts: Items<TermId>,
 }
+
+impl CloneOf for TermNode {
+    fn clone_of(&self, alloc: Global) -> Result<TermNode, NoMemory> {
+        Ok(TermNode {
+            head: self.head.clone_of(alloc)?,
+            parts: Items::from_slice(alloc, self.parts.as_slice())?,
+        })
+    }
+}

@@ -1,0 +1,8 @@
+pub mod Places
+pub mod FormNodes
+pub mod FitForms
+pub mod TwoParts
+pub mod ClosedTerms
+pub mod Growing
+pub mod FormMeaning
+pub mod RowsHold

@@ -1,0 +1,4 @@
+pub mod LinearForms
+pub mod FactRows
+pub mod Closed
+pub mod Laws

@@ -1,0 +1,9 @@
+use Rattle.sd_linear.specs.Elimination.{all_come_in, combinations}
+use Rattle.sd_linear.specs.Held.{rows_of}
+use Rattle.sd_linear.proofs.Combining.{Continues, from_place, combined_from}
+use Rattle.sd_linear.proofs.combine.combine_rows.Given as goal
+
+abbrev pub invariant-loop-r : goal.invariant-loop-r
+invariant-loop-r l =
+    Continues l.inputs (all_come_in l.column (combinations l.column (rows_of l.rows)) (rows_of l.fn.list)) l.column
+    (combined_from l.column (rows_of l.rows) (from_place l.r-index l.rows)) l.list l.fn.steps l.steps

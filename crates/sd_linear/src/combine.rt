@@ -1,0 +1,220 @@
+ghost use Rattle.std.specs.Prelude.{◌≡◌, ◌<◌, ◌≤◌, true, IfOk, IfErr, OnOk, filter, unsigned_abs, ◌^◌, List};
+ghost use Rattle.sd_rows.specs.declared.row.Row.{Row};
+ghost use Rattle.sd_rows.specs.Rows.{IsProper, is_within};
+ghost use Rattle.sd_linear.specs.RowSteps.{rows_made, row_made, IsStep, IsUseful};
+ghost use Rattle.sd_linear.specs.Elimination.{factor_of, is_negative, come_in, all_come_in, combined, combined_with, combinations, is_positive, is_free, eliminated, goes, elimination};
+ghost use Rattle.sd_linear.specs.Held.{rows_of, IsHeld, AllHeld, IsDerived, Extends, Stops, has_column};
+ghost use Rattle.sd_rows.specs.Rows.{AllComputable};
+
+use crate::elimination::{Eliminated, Stop};
+use crate::list::{Held, cut, derive, join};
+use crate::refutation::needed;
+use crate::step::RowStep;
+use sd_base::NoMemory;
+use sd_rows::{Row, multipliers};
+use sqlite_items::Items;
+use std::alloc::Global;
+
+/// How many rows are held at most.
+const MAX_ROWS: usize = 20000;
+
+/// The factor of a column, 0 where the row has none. The columns of a row ascend, so that no part after a greater one is looked at.
+pub(crate) fn factor_of(row: &Row, column: u32) -> i128
+    requires { IsProper row.now.parts }
+    ensures { result ≡ factor_of column row.now.parts }
+{
+    for p in row.parts.as_slice() {
+        if p.0 == column {
+            return p.1;
+        }
+        if p.0 > column {
+            return 0;
+        }
+    }
+    0
+}
+
+/// A row comes into the list, derived by a step: divided by the greatest common divisor of its factors, with its bound rounded down
+/// (Gomory 1958; Chvátal 1973). A row that says nothing is left out, and one that cannot be met ends the elimination.
+pub(crate) fn comes_in(
+    alloc: Global,
+    inputs: &[Row],
+    column: u32,
+    row: Row,
+    how: RowStep,
+    list: &mut Items<Held>,
+    steps: &mut Items<RowStep>,
+) -> Result<(), Stop>
+    requires proper { IsProper row.parts }
+    requires made { row_made inputs.now (rows_made inputs.now steps.old) how ≡ row }
+    requires step { IsStep inputs.now (rows_made inputs.now steps.old) how }
+    requires useful { IsUseful (rows_made inputs.now steps.old) how }
+    requires derived { IsDerived inputs.now steps.old list.old }
+
+    ensures goes { OnOk result (come_in column row (rows_of list.old) ≡ goes (rows_of list.new)) }
+    ensures derived { OnOk result (IsDerived inputs.now steps.new list.new) }
+    ensures extends { OnOk result (Extends steps.old steps.new) }
+    ensures stops { IfErr result (λ stop. Stops inputs.now stop (come_in column row (rows_of list.old))) }
+{
+    if !row.is_within() {
+        return Err(Stop::Ends(Eliminated::Wide(column)));
+    }
+    let (row, is_cut) = cut(alloc, row)?;
+    if row.parts.is_empty() {
+        if row.bound < 0 {
+            derive(steps, how, is_cut)?;
+            let kept = needed(alloc, inputs, steps.as_slice())?;
+            return Err(Stop::Ends(Eliminated::Refuted(kept)));
+        }
+        return Ok(());
+    }
+    let step = derive(steps, how, is_cut)?;
+    join(list, Held { row, step })?;
+    if list.len() > MAX_ROWS {
+        return Err(Stop::Ends(Eliminated::Many));
+    }
+    Ok(())
+}
+
+/// The sum of two rows in which the column falls away comes into the list (Dantzig and Eaves 1973).
+fn combine(
+    alloc: Global,
+    inputs: &[Row],
+    column: u32,
+    r: &Held,
+    s: &Held,
+    list: &mut Items<Held>,
+    steps: &mut Items<RowStep>,
+) -> Result<(), Stop>
+    requires negative { is_negative column r.now.row ≡ true }
+    requires positive { is_positive column s.now.row ≡ true }
+    requires first { IsHeld (rows_made inputs.now steps.old) r.now }
+    requires second { IsHeld (rows_made inputs.now steps.old) s.now }
+    requires derived { IsDerived inputs.now steps.old list.old }
+
+    ensures goes { OnOk result (come_in column (combined column r.now.row s.now.row) (rows_of list.old) ≡ goes (rows_of list.new)) }
+    ensures derived { OnOk result (IsDerived inputs.now steps.new list.new) }
+    ensures extends { OnOk result (Extends steps.old steps.new) }
+    ensures stops { IfErr result (λ stop. Stops inputs.now stop (come_in column (combined column r.now.row s.now.row) (rows_of list.old))) }
+{
+    let p = size_of_factor(&r.row, column);
+    let q = size_of_factor(&s.row, column);
+    let (m, n) = multipliers(p, q);
+    let row = Row::added(alloc, m, &r.row, n, &s.row)?;
+    comes_in(
+        alloc,
+        inputs,
+        column,
+        row,
+        RowStep::Add(r.step, m, s.step, n),
+        list,
+        steps,
+    )
+}
+
+/// The absolute value of a column's factor.
+fn size_of_factor(row: &Row, column: u32) -> u64
+    requires proper { IsProper row.now.parts }
+    requires within { is_within row.now ≡ true }
+    ensures value { result ≡ unsigned_abs (factor_of column row.now.parts) }
+    ensures small { result ≤ 2 ^ 58 }
+{
+    factor_of(row, column).unsigned_abs() as u64
+}
+
+/// The combinations of a row with each row whose factor is positive come into the list, in order.
+fn combine_all(
+    alloc: Global,
+    inputs: &[Row],
+    column: u32,
+    r: &Held,
+    rows: &[Held],
+    list: &mut Items<Held>,
+    steps: &mut Items<RowStep>,
+) -> Result<(), Stop>
+    requires negative { is_negative column r.now.row ≡ true }
+    requires first { IsHeld (rows_made inputs.now steps.old) r.now }
+    requires rows { AllHeld (rows_made inputs.now steps.old) rows.now }
+    requires derived { IsDerived inputs.now steps.old list.old }
+
+    ensures goes { OnOk result (all_come_in column (combined_with column r.now.row (rows_of rows.now)) (rows_of list.old) ≡ goes (rows_of list.new)) }
+    ensures derived { OnOk result (IsDerived inputs.now steps.new list.new) }
+    ensures extends { OnOk result (Extends steps.old steps.new) }
+    ensures stops { IfErr result (λ stop. Stops inputs.now stop (all_come_in column (combined_with column r.now.row (rows_of rows.now)) (rows_of list.old))) }
+{
+    for s in rows {
+        if factor_of(&s.row, column) > 0 {
+            combine(alloc, inputs, column, r, s, list, steps)?;
+        }
+    }
+    Ok(())
+}
+
+/// The rows with the column, and those without it, as they stand.
+fn partition(
+    alloc: Global,
+    column: u32,
+    rows: &[Held],
+) -> Result<(Items<Held>, Items<Held>), NoMemory>
+    requires { AllComputable (rows_of rows.now) }
+    ensures with { IfOk result (λ lists. rows_of lists.0 ≡ filter (has_column column) (rows_of rows.now)) }
+    ensures free { IfOk result (λ lists. rows_of lists.1 ≡ filter (is_free column) (rows_of rows.now)) }
+    ensures held { IfOk result (λ lists. (made : List Row) → AllHeld made rows.now → AllHeld made lists.0 × AllHeld made lists.1) }
+{
+    let mut with = Items::new(alloc);
+    let mut free = Items::new(alloc);
+    for r in rows {
+        let held = r.copy(alloc)?;
+        if factor_of(&r.row, column) == 0 {
+            free.push(held)?;
+        } else {
+            with.push(held)?;
+        }
+    }
+    Ok((with, free))
+}
+
+/// The combinations of each row whose factor is negative come into the list, in order.
+fn combine_rows(
+    alloc: Global,
+    inputs: &[Row],
+    column: u32,
+    rows: &[Held],
+    list: &mut Items<Held>,
+    steps: &mut Items<RowStep>,
+) -> Result<(), Stop>
+    requires rows { AllHeld (rows_made inputs.now steps.old) rows.now }
+    requires derived { IsDerived inputs.now steps.old list.old }
+
+    ensures goes { OnOk result (all_come_in column (combinations column (rows_of rows.now)) (rows_of list.old) ≡ goes (rows_of list.new)) }
+    ensures derived { OnOk result (IsDerived inputs.now steps.new list.new) }
+    ensures extends { OnOk result (Extends steps.old steps.new) }
+    ensures stops { IfErr result (λ stop. Stops inputs.now stop (all_come_in column (combinations column (rows_of rows.now)) (rows_of list.old))) }
+{
+    for r in rows {
+        if factor_of(&r.row, column) < 0 {
+            combine_all(alloc, inputs, column, r, rows, list, steps)?;
+        }
+    }
+    Ok(())
+}
+
+/// The rows with the column, and the rows in which it has fallen away.
+pub(crate) fn eliminate_column(
+    alloc: Global,
+    inputs: &[Row],
+    column: u32,
+    rows: &[Held],
+    steps: &mut Items<RowStep>,
+) -> Result<(Items<Held>, Items<Held>), Stop>
+    requires derived { IsDerived inputs.now steps.old rows.now }
+
+    ensures with { IfOk result (λ lists. rows_of lists.0 ≡ filter (has_column column) (rows_of rows.now)) }
+    ensures goes { IfOk result (λ lists. eliminated column (rows_of rows.now) ≡ goes (rows_of lists.1)) }
+    ensures derived { IfOk result (λ lists. IsDerived inputs.now steps.new lists.1) }
+    ensures stops { IfErr result (λ stop. Stops inputs.now stop (eliminated column (rows_of rows.now))) }
+{
+    let (with, mut list) = partition(alloc, column, rows)?;
+    combine_rows(alloc, inputs, column, with.as_slice(), &mut list, steps)?;
+    Ok((with, list))
+}
