@@ -1,21 +1,27 @@
 -- the branches of a walk before and after a step
-use Rattle.std.proofs.Common.{◌≡◌, ℕ, zero, suc, ◌+◌, ◌<◌, ◌≤◌, List, [], ◌∷◌, ◌++◌, map, get_or, refl, sym, ap, ◌∙◌, subst, Bool, true, false, not, ◌||◌, length, slice_get, Some, take, reverse, arith, All, length-append}
-use Rattle.std.proofs.lemmas.List.{reverse-append, take-append-le, take-take, length-take-le}
+use Rattle.std.proofs.Common.{◌≡◌, ℕ, zero, suc, ◌+◌, ◌<◌, ◌≤◌, List, [], ◌∷◌, ◌++◌, map, get_or, refl, sym, ap, ◌∙◌, subst, Bool, true, false, length, slice_get, Some, take, reverse, arith, All, length-append}
+use Rattle.std.proofs.lemmas.List.{reverse-append, take-append-le, take-take, length-take-le, take_all}
+use Rattle.std.proofs.lemmas.List.Elements.{All-map}
 use Rattle.std.proofs.Math.Seq.{take-append_seam}
-use Rattle.sd_base.specs.declared.sort.Sort.{Bool as Truth}
-use Rattle.sd_term.specs.Tree.{Tree}
-use Rattle.sd_term.specs.Bank.{tree_at}
-use Rattle.sd_term.specs.Sorts.{is_truth_sort, sort_of}
-use Rattle.sd_kernel.specs.declared.step.Step.TheVariants.{Split, Close}
-use Rattle.sd_kernel.specs.declared.step.StepCause.TheVariants.{Shape, Value as Value'}
+use Rattle.sd_term.specs.declared.node.Head.TheVariants.{Op as Plain}
+use Rattle.sd_term.specs.declared.node.Op.{Op}
+use Rattle.sd_term.specs.declared.node.TermNode.{TermNode}
+use Rattle.sd_term.specs.Tree.{Tree, tree}
+use Rattle.sd_term.specs.Bank.{tree_at, tree_of}
+use Rattle.sd_term.specs.Sorts.{AllWellSorted}
+use Rattle.sd_term.proofs.Trees.{tree_at-append}
+use Rattle.sd_kernel.specs.declared.step.Step.{Step}
+use Rattle.sd_kernel.specs.declared.effect.Effect.{Effect}
+use Rattle.sd_kernel.specs.declared.effect.Effect.TheVariants.{Grows, Adds, Splits, Closes}
 use Rattle.sd_kernel.specs.declared.known.Fact.{Fact as NumberedFact}
 use Rattle.sd_kernel.specs.declared.walk.Waiting.{Waiting}
-use Rattle.sd_kernel.specs.Known.{Fact, Trail, known, is_known, known_by_parts, has_fact}
+use Rattle.sd_kernel.specs.Known.{known}
 use Rattle.sd_kernel.specs.Facts.{fact_of, trail_of}
-use Rattle.sd_kernel.specs.Steps.{leaves, named, needs, outcome}
-use Rattle.std.proofs.lemmas.List.Elements.{All-map}
-use Rattle.sd_kernel.specs.Proof.{start, State, IsOpen, front, fails, goes, after, next}
+use Rattle.sd_kernel.specs.Steps.{outcome}
+use Rattle.sd_kernel.specs.Proof.{start, State, IsOpen, front, goes, after, next}
+use Rattle.sd_kernel.specs.Effects.{outcome_of, after_effect, IsEffectOn}
 use Rattle.sd_kernel.specs.Branches.{waiting_branches, open_branches, AreFronts, IsWalk}
+use Rattle.sd_kernel.proofs.Members.{sorted-append}
 
 pub slice_get-at : (ts : List Tree) (n : ℕ) → n < length ts → slice_get ts n ≡ Some (tree_at ts n)
 slice_get-at [] n h = absurd (omega arith)
@@ -43,20 +49,6 @@ pub fronts-more : (m n k : ℕ) (ws : List Waiting) → n ≤ k → AreFronts m 
 fronts-more m n k [] le f = tt
 fronts-more m n k (w ∷ ws) le f = (omega (arith, f.0, le), f.1, f.2)
 
-outcome-split : (terms : List Tree) (trail : Trail) (n : ℕ) → n < length terms → sort_of (tree_at terms n) ≡ Truth
-    → outcome terms trail (Split n) ≡ leaves terms ((trail ++ (tree_at terms n, true) ∷ []) ∷ (trail ++ (tree_at terms n, false) ∷ []) ∷ [])
-outcome-split terms trail n h s =
-    ap (λ o. named o (λ t. needs (is_truth_sort (sort_of t)) Shape (leaves terms ((trail ++ (t, true) ∷ []) ∷ (trail ++ (t, false) ∷ []) ∷ [])))) (slice_get-at terms n h)
-    ∙ ap (λ k. needs (is_truth_sort k) Shape (leaves terms ((trail ++ (tree_at terms n, true) ∷ []) ∷ (trail ++ (tree_at terms n, false) ∷ []) ∷ []))) s
-
-pub outcome-close : (terms : List Tree) (fs : List NumberedFact) (n : ℕ) (f : NumberedFact) (r : Bool) → n < length fs → f ≡ get_or fs n f
-    → r ≡ is_known (known_by_parts (trail_of terms fs) (tree_at terms f.term)) (not f.value) || has_fact (take n (trail_of terms fs)) (tree_at terms f.term) (not f.value)
-    → outcome terms (trail_of terms fs) (Close n) ≡ needs r Value' (leaves terms [])
-outcome-close terms fs n f r h e is =
-    ap (λ o. named o (λ (g : Fact). needs (is_known (known_by_parts (trail_of terms fs) g.0) (not g.1) || has_fact (take n (trail_of terms fs)) g.0 (not g.1)) Value' (leaves terms [])))
-    (slice_get-fact terms fs n f h ∙ ap (λ g. Some (fact_of terms g)) (sym e))
-    ∙ ap (λ b. needs b Value' (leaves terms [])) (sym is)
-
 pub facts-more : (terms : List Tree) (fs : List NumberedFact) (n : ℕ) (g : NumberedFact) → All (λ (h : NumberedFact). h.term < length terms) fs → g.term < length terms → All (λ (h : NumberedFact). h.term < length terms) (take n fs ++ g ∷ [])
 facts-more terms fs zero g a lt zero d k = lt
 facts-more terms fs zero g a lt (suc j) d k = absurd (omega (arith, k))
@@ -65,73 +57,166 @@ facts-more terms [] (suc n) g a lt (suc j) d k = absurd (omega (arith, k))
 facts-more terms (f ∷ fs) (suc n) g a lt zero d k = a 0 d (omega arith)
 facts-more terms (f ∷ fs) (suc n) g a lt (suc j) d k = facts-more terms fs n g (λ i e l. a (suc i) e (omega (arith, l))) lt j d (omega (arith, k))
 
-module _ (terms : List Tree) (fs : List NumberedFact) (ws : List Waiting) (w : IsWalk terms fs ws) where
-  pub split-goes : (n : ℕ) (o : Bool) (fs' : List NumberedFact) (ws' : List Waiting) (f : NumberedFact) (u : Waiting) → n < length terms → sort_of (tree_at terms n) ≡ Truth → o ≡ true
+-- ---- a step and its effect
+
+-- what a step makes of the first open branch is what its effect does
+pub next-effect : (terms : List Tree) (fs : List NumberedFact) (ws : List Waiting) (o : Bool) (s : State) (x : Step) (e : Effect) → ◌≡◌ {A = State} (terms, open_branches terms fs ws o) s
+    → outcome terms (trail_of terms fs) x ≡ outcome_of terms (trail_of terms fs) e → next s x ≡ after_effect s e
+next-effect terms fs ws o s x e is h = ap (λ t. next t x) (sym is) ∙ go o ∙ ap (λ t. after_effect t e) is
+  where
+    go : (b : Bool) → next (terms, open_branches terms fs ws b) x ≡ after_effect (terms, open_branches terms fs ws b) e
+    go true = ap (after (waiting_branches terms fs (reverse ws))) h
+    go false = refl
+
+pub open-true : (terms : List Tree) (fs : List NumberedFact) (ws : List Waiting) (o : Bool) (s : State) → ◌≡◌ {A = State} (terms, open_branches terms fs ws o) s → IsOpen s → o ≡ true
+open-true terms fs ws true s is h = refl
+open-true terms fs ws false s is h = absurd (h (sym (ap (λ (t : State). t.1) is)))
+
+-- the terms of a walk
+pub terms-is : (terms : List Tree) (fs : List NumberedFact) (ws : List Waiting) (o : Bool) (s : State) → ◌≡◌ {A = State} (terms, open_branches terms fs ws o) s → terms ≡ s.0
+terms-is terms fs ws o s is = ap (λ (t : State). t.0) is
+
+module _ (terms : List Tree) (fs : List NumberedFact) (ws : List Waiting) (w : IsWalk terms fs ws) (o : Bool) (s : State) (is : ◌≡◌ {A = State} (terms, open_branches terms fs ws o) s) (opened : IsOpen s) where
+  op : o ≡ true
+  op = open-true terms fs ws o s is opened
+
+  at-front : (e : Effect) → after_effect s e ≡ after (waiting_branches terms fs (reverse ws)) (outcome_of terms (trail_of terms fs) e)
+  at-front e = ap (λ t. after_effect t e) (sym is) ∙ ap (λ b. after_effect (terms, open_branches terms fs ws b) e) op
+
+  -- ---- one more fact
+
+  pub add-goes : (n : ℕ) (b : Bool) (fs' : List NumberedFact) (f : NumberedFact) → fs' ≡ fs ++ f ∷ [] → fact_of terms f ≡ (tree_at terms n, b) → after_effect s (Adds n b) ≡ goes (terms, open_branches terms fs' ws o)
+  add-goes n b fs' f ef is2 =
+      let keep : (k : ℕ) → k ≤ length fs → take k fs ≡ take k fs' = λ k le. sym (ap (λ l. take k l) ef ∙ take-append-le k fs (f ∷ []) le) in
+      let others : waiting_branches terms fs (reverse ws) ≡ waiting_branches terms fs' (reverse ws) = waiting-same terms fs fs' (length terms) (length fs) (reverse ws) keep w.fronts in
+      let first : trail_of terms fs ++ (tree_at terms n, b) ∷ [] ≡ trail_of terms fs' = ap (λ g. trail_of terms fs ++ g ∷ []) (sym is2) ∙ sym (ap (trail_of terms) ef ∙ trail_of-snoc terms fs f) in
+      at-front (Adds n b) ∙ (λ i. goes (terms, first i ∷ others i)) ∙ ap (λ c. goes (terms, open_branches terms fs' ws c)) (sym op)
+
+  pub add-walk : (fs' : List NumberedFact) (f : NumberedFact) → fs' ≡ fs ++ f ∷ [] → f.term < length s.0 → IsWalk terms fs' ws
+  add-walk fs' f ef lt =
+      let below : f.term < length terms = subst (λ ts. f.term < length ts) (sym (terms-is terms fs ws o s is)) lt in
+      let all : take (length fs) fs ≡ fs = take_all (length fs) fs (omega arith) in
+      let long : length fs' ≡ length fs + 1 = ap length ef ∙ length-append fs (f ∷ []) in
+      record {
+        facts = subst (λ l. All (λ (h : NumberedFact). h.term < length terms) l) (sym (ef ∙ ap (λ l. l ++ f ∷ []) (sym all))) (facts-more terms fs (length fs) f w.facts below);
+        sorted = w.sorted;
+        fronts = fronts-more (length terms) (length fs) (length fs') (reverse ws) (omega (arith, long)) w.fronts;
+      }
+
+  -- ---- a split
+
+  pub split-goes : (n : ℕ) (fs' : List NumberedFact) (ws' : List Waiting) (f : NumberedFact) (u : Waiting)
       → fs' ≡ fs ++ f ∷ [] → ws' ≡ ws ++ u ∷ [] → fact_of terms f ≡ (tree_at terms n, true) → u.length ≡ length fs → u.term ≡ n
-      → next (terms, open_branches terms fs ws o) (Split n) ≡ goes (terms, open_branches terms fs' ws' o)
-  split-goes n o fs' ws' f u lt sort op ef ew is long term =
+      → after_effect s (Splits n) ≡ goes (terms, open_branches terms fs' ws' o)
+  split-goes n fs' ws' f u ef ew is2 long term =
       let back : reverse ws' ≡ u ∷ reverse ws = ap reverse ew ∙ reverse-append ws (u ∷ []) in
       let keep : (k : ℕ) → k ≤ length fs → take k fs ≡ take k fs' = λ k le. sym (ap (λ l. take k l) ef ∙ take-append-le k fs (f ∷ []) le) in
       let others : waiting_branches terms fs (reverse ws) ≡ waiting_branches terms fs' (reverse ws) = waiting-same terms fs fs' (length terms) (length fs) (reverse ws) keep w.fronts in
       let whole : take u.length fs' ≡ fs = ap (λ k. take k fs') long ∙ ap (λ l. take (length fs) l) ef ∙ take-append_seam fs (f ∷ []) in
-      let first : trail_of terms fs ++ (tree_at terms n, true) ∷ [] ≡ trail_of terms fs' = ap (λ g. trail_of terms fs ++ g ∷ []) (sym is) ∙ sym (ap (trail_of terms) ef ∙ trail_of-snoc terms fs f) in
+      let first : trail_of terms fs ++ (tree_at terms n, true) ∷ [] ≡ trail_of terms fs' = ap (λ g. trail_of terms fs ++ g ∷ []) (sym is2) ∙ sym (ap (trail_of terms) ef ∙ trail_of-snoc terms fs f) in
       let second : trail_of terms fs ++ (tree_at terms n, false) ∷ [] ≡ trail_of terms (take u.length fs') ++ (tree_at terms u.term, false) ∷ [] =
       λ i. trail_of terms (sym whole i) ++ (tree_at terms (sym term i), false) ∷ [] in
-      ap (λ b. next (terms, open_branches terms fs ws b) (Split n)) op
-      ∙ ap (λ k. after (waiting_branches terms fs (reverse ws)) k) (outcome-split terms (trail_of terms fs) n lt sort)
+      at-front (Splits n)
       ∙ (λ i. goes (terms, first i ∷ second i ∷ others i))
       ∙ ap (λ l. goes (terms, trail_of terms fs' ∷ waiting_branches terms fs' l)) (sym back)
       ∙ ap (λ b. goes (terms, open_branches terms fs' ws' b)) (sym op)
 
-  module _ (n : ℕ) (o : Bool) (f : NumberedFact) (r : Bool) (lt : n < length fs) (e : f ≡ get_or fs n f) (op : o ≡ true)
-      (is : r ≡ is_known (known_by_parts (trail_of terms fs) (tree_at terms f.term)) (not f.value) || has_fact (take n (trail_of terms fs)) (tree_at terms f.term) (not f.value)) where
-    close-next : next (terms, open_branches terms fs ws o) (Close n) ≡ after (waiting_branches terms fs (reverse ws)) (needs r Value' (leaves terms []))
-    close-next = ap (λ b. next (terms, open_branches terms fs ws b) (Close n)) op ∙ ap (λ k. after (waiting_branches terms fs (reverse ws)) k) (outcome-close terms fs n f r lt e is)
+  -- ---- a branch that is closed
 
-    pub close-fails : r ≡ false → next (terms, open_branches terms fs ws o) (Close n) ≡ fails 0 Value'
-    close-fails un = close-next ∙ ap (λ b. after (waiting_branches terms fs (reverse ws)) (needs b Value' (leaves terms []))) un
+  pub close-last : (ws' : List Waiting) → ws ≡ ws' ++ [] → length ws ≡ 0 → after_effect s Closes ≡ goes (terms, [])
+  close-last ws' ew none = at-front Closes ∙ ap (λ l. goes (terms, waiting_branches terms fs (reverse l))) (empty ws none)
+    where
+      empty : (l : List Waiting) → length l ≡ 0 → l ≡ []
+      empty [] e = refl
+      empty (x ∷ l) e = absurd (omega (arith, e))
 
-    pub close-last : r ≡ true → (ws' : List Waiting) → ws ≡ ws' ++ [] → length ws ≡ 0 → next (terms, open_branches terms fs ws o) (Close n) ≡ goes (terms, [])
-    close-last ye ws' ew none =
-        close-next ∙ ap (λ b. after (waiting_branches terms fs (reverse ws)) (needs b Value' (leaves terms []))) ye
-        ∙ ap (λ l. goes (terms, waiting_branches terms fs (reverse l))) (empty ws none)
-      where
-        empty : (l : List Waiting) → length l ≡ 0 → l ≡ []
-        empty [] e = refl
-        empty (x ∷ l) e = absurd (omega (arith, e))
+  pub close-more : (fs' fs'' : List NumberedFact) (ws' : List Waiting) (u : Waiting) (g : NumberedFact) → ws ≡ ws' ++ u ∷ [] → fs'' ≡ take u.length fs → fs' ≡ fs'' ++ g ∷ [] → fact_of terms g ≡ (tree_at terms u.term, false)
+      → after_effect s Closes ≡ goes (terms, open_branches terms fs' ws' o)
+  close-more fs' fs'' ws' u g ew et ef is2 =
+      let back : reverse ws ≡ u ∷ reverse ws' = ap reverse ew ∙ reverse-append ws' (u ∷ []) in
+      let fronts : AreFronts (length terms) (length fs) (u ∷ reverse ws') = subst (AreFronts (length terms) (length fs)) back w.fronts in
+      let long : length fs'' ≡ u.length = ap length et ∙ length-take-le u.length fs fronts.0 in
+      let keep : (k : ℕ) → k ≤ u.length → take k fs ≡ take k fs' = λ k le. sym (ap (λ l. take k l) ef ∙ take-append-le k fs'' (g ∷ []) (omega (arith, le, long)) ∙ ap (λ l. take k l) et ∙ take-take k u.length fs le) in
+      let others : waiting_branches terms fs (reverse ws') ≡ waiting_branches terms fs' (reverse ws') = waiting-same terms fs fs' (length terms) u.length (reverse ws') keep fronts.2 in
+      let first : trail_of terms (take u.length fs) ++ (tree_at terms u.term, false) ∷ [] ≡ trail_of terms fs' =
+      (λ i. trail_of terms (sym et i) ++ sym is2 i ∷ []) ∙ sym (ap (trail_of terms) ef ∙ trail_of-snoc terms fs'' g) in
+      at-front Closes
+      ∙ ap (λ l. goes (terms, waiting_branches terms fs l)) back
+      ∙ (λ i. goes (terms, first i ∷ others i))
+      ∙ ap (λ b. goes (terms, open_branches terms fs' ws' b)) (sym op)
 
-    pub close-more : r ≡ true → (fs' fs'' : List NumberedFact) (ws' : List Waiting) (u : Waiting) (g : NumberedFact) → ws ≡ ws' ++ u ∷ [] → fs'' ≡ take u.length fs → fs' ≡ fs'' ++ g ∷ [] → fact_of terms g ≡ (tree_at terms u.term, false)
-        → next (terms, open_branches terms fs ws o) (Close n) ≡ goes (terms, open_branches terms fs' ws' o)
-    close-more ye fs' fs'' ws' u g ew et ef is2 =
-        let back : reverse ws ≡ u ∷ reverse ws' = ap reverse ew ∙ reverse-append ws' (u ∷ []) in
-        let fronts : AreFronts (length terms) (length fs) (u ∷ reverse ws') = subst (AreFronts (length terms) (length fs)) back w.fronts in
-        let long : length fs'' ≡ u.length = ap length et ∙ length-take-le u.length fs fronts.0 in
-        let keep : (k : ℕ) → k ≤ u.length → take k fs ≡ take k fs' = λ k le. sym (ap (λ l. take k l) ef ∙ take-append-le k fs'' (g ∷ []) (omega (arith, le, long)) ∙ ap (λ l. take k l) et ∙ take-take k u.length fs le) in
-        let others : waiting_branches terms fs (reverse ws') ≡ waiting_branches terms fs' (reverse ws') = waiting-same terms fs fs' (length terms) u.length (reverse ws') keep fronts.2 in
-        let first : trail_of terms (take u.length fs) ++ (tree_at terms u.term, false) ∷ [] ≡ trail_of terms fs' =
-        (λ i. trail_of terms (sym et i) ++ sym is2 i ∷ []) ∙ sym (ap (trail_of terms) ef ∙ trail_of-snoc terms fs'' g) in
-        close-next ∙ ap (λ b. after (waiting_branches terms fs (reverse ws)) (needs b Value' (leaves terms []))) ye
-        ∙ ap (λ l. goes (terms, waiting_branches terms fs l)) back
-        ∙ (λ i. goes (terms, first i ∷ others i))
-        ∙ ap (λ b. goes (terms, open_branches terms fs' ws' b)) (sym op)
+pub close-walk : (terms : List Tree) (fs : List NumberedFact) (ws : List Waiting) → IsWalk terms fs ws → (fs' fs'' : List NumberedFact) (ws' : List Waiting) (u : Waiting) (g : NumberedFact)
+    → ws ≡ ws' ++ u ∷ [] → fs'' ≡ take u.length fs → fs' ≡ fs'' ++ g ∷ [] → g.term ≡ u.term → IsWalk terms fs' ws'
+close-walk terms fs ws w fs' fs'' ws' u g ew et ef eg =
+    let back : reverse ws ≡ u ∷ reverse ws' = ap reverse ew ∙ reverse-append ws' (u ∷ []) in
+    let fronts : AreFronts (length terms) (length fs) (u ∷ reverse ws') = subst (AreFronts (length terms) (length fs)) back w.fronts in
+    let long : length fs'' ≡ u.length = ap length et ∙ length-take-le u.length fs fronts.0 in
+    let long' : length fs' ≡ u.length + 1 = ap length ef ∙ omega (arith, length-append fs'' (g ∷ []), long) in
+    record {
+      facts = subst (λ l. All (λ (h : NumberedFact). h.term < length terms) l) (sym (ef ∙ ap (λ l. l ++ g ∷ []) et)) (facts-more terms fs u.length g w.facts (subst (λ k. k < length terms) (sym eg) fronts.1));
+      sorted = w.sorted;
+      fronts = fronts-more (length terms) u.length (length fs') (reverse ws') (omega (arith, long')) fronts.2;
+    }
 
-    pub close-walk : (fs' fs'' : List NumberedFact) (ws' : List Waiting) (u : Waiting) (g : NumberedFact) → ws ≡ ws' ++ u ∷ [] → fs'' ≡ take u.length fs → fs' ≡ fs'' ++ g ∷ [] → g.term ≡ u.term → IsWalk terms fs' ws'
-    close-walk fs' fs'' ws' u g ew et ef eg =
-        let back : reverse ws ≡ u ∷ reverse ws' = ap reverse ew ∙ reverse-append ws' (u ∷ []) in
-        let fronts : AreFronts (length terms) (length fs) (u ∷ reverse ws') = subst (AreFronts (length terms) (length fs)) back w.fronts in
-        let long : length fs'' ≡ u.length = ap length et ∙ length-take-le u.length fs fronts.0 in
-        let long' : length fs' ≡ u.length + 1 = ap length ef ∙ omega (arith, length-append fs'' (g ∷ []), long) in
-        record {
-          facts = subst (λ l. All (λ (h : NumberedFact). h.term < length terms) l) (sym (ef ∙ ap (λ l. l ++ g ∷ []) et)) (facts-more terms fs u.length g w.facts (subst (λ k. k < length terms) (sym eg) fronts.1));
-          fronts = fronts-more (length terms) u.length (length fs') (reverse ws') (omega (arith, long')) fronts.2;
-        }
+-- ---- a new term
+
+trail-grown : (terms more : List Tree) (fs : List NumberedFact) → All (λ (f : NumberedFact). f.term < length terms) fs → trail_of (terms ++ more) fs ≡ trail_of terms fs
+trail-grown terms more [] a = refl
+trail-grown terms more (f ∷ fs) a =
+    let here : tree_at (terms ++ more) f.term ≡ tree_at terms f.term = tree_at-append terms more f.term (a 0 f (omega arith)) in
+    λ i. (here i, f.value) ∷ trail-grown terms more fs (λ k d lt. a (suc k) d (omega (arith, lt))) i
+
+all-take : (n : ℕ) (fs : List NumberedFact) (m : ℕ) → All (λ (f : NumberedFact). f.term < m) fs → All (λ (f : NumberedFact). f.term < m) (take n fs)
+all-take zero fs m a k d lt = absurd (omega (arith, lt))
+all-take (suc n) [] m a k d lt = absurd (omega (arith, lt))
+all-take (suc n) (f ∷ fs) m a zero d lt = a 0 d (omega arith)
+all-take (suc n) (f ∷ fs) m a (suc k) d lt = all-take n fs m (λ j e l. a (suc j) e (omega (arith, l))) k d (omega (arith, lt))
+
+waiting-grown : (terms more : List Tree) (fs : List NumberedFact) (n : ℕ) (ws : List Waiting) → All (λ (f : NumberedFact). f.term < length terms) fs → AreFronts (length terms) n ws
+    → waiting_branches (terms ++ more) fs ws ≡ waiting_branches terms fs ws
+waiting-grown terms more fs n [] a f = refl
+waiting-grown terms more fs n (w ∷ ws) a f =
+    let trail : trail_of (terms ++ more) (take w.length fs) ≡ trail_of terms (take w.length fs) = trail-grown terms more (take w.length fs) (all-take w.length fs (length terms) a) in
+    let here : tree_at (terms ++ more) w.term ≡ tree_at terms w.term = tree_at-append terms more w.term f.1 in
+    λ i. (trail i ++ (here i, false) ∷ []) ∷ waiting-grown terms more fs w.length ws a f.2 i
+
+fronts-grown : (m k n : ℕ) (ws : List Waiting) → m ≤ k → AreFronts m n ws → AreFronts k n ws
+fronts-grown m k n [] le f = tt
+fronts-grown m k n (w ∷ ws) le f = (f.0, omega (arith, f.1, le), fronts-grown m k w.length ws le f.2)
+
+module _ (terms : List Tree) (fs : List NumberedFact) (ws : List Waiting) (w : IsWalk terms fs ws) (o : Bool) (s : State) (is : ◌≡◌ {A = State} (terms, open_branches terms fs ws o) s)
+    (c : Op) (a b : ℕ) (node : TermNode) (head : node.head ≡ Plain c) (parts : node.parts ≡ a ∷ b ∷ []) (terms' : List Tree) (more : terms' ≡ terms ++ tree_of terms node ∷ []) where
+  grown : terms' ≡ terms ++ tree (Plain c) (tree_at terms a ∷ tree_at terms b ∷ []) ∷ []
+  grown = more ∙ (λ i. terms ++ tree (head i) (map (λ n. tree_at terms n) (parts i)) ∷ [])
+
+  pub grow-walk : IsEffectOn s.0 (Grows c a b) → IsWalk terms' fs ws
+  grow-walk e =
+      let here : IsEffectOn terms (Grows c a b) = subst (λ ts. IsEffectOn ts (Grows c a b)) (sym (terms-is terms fs ws o s is)) e in
+      let t : Tree = tree (Plain c) (tree_at terms a ∷ tree_at terms b ∷ []) in
+      let long : length (terms ++ t ∷ []) ≡ length terms + 1 = length-append terms (t ∷ []) in
+      subst (λ ts. IsWalk ts fs ws) (sym grown) (record {
+        facts = λ k d lt. omega (arith, w.facts k d lt, long);
+        sorted = sorted-append terms (t ∷ []) w.sorted (here.3, tt);
+        fronts = fronts-grown (length terms) (length (terms ++ t ∷ [])) (length fs) (reverse ws) (omega (arith, long)) w.fronts;
+      })
+
+  pub grow-goes : IsOpen s → after_effect s (Grows c a b) ≡ goes (terms', open_branches terms' fs ws o)
+  grow-goes h =
+      let t : Tree = tree (Plain c) (tree_at terms a ∷ tree_at terms b ∷ []) in
+      let trail : trail_of (terms ++ t ∷ []) fs ≡ trail_of terms fs = trail-grown terms (t ∷ []) fs w.facts in
+      let others : waiting_branches (terms ++ t ∷ []) fs (reverse ws) ≡ waiting_branches terms fs (reverse ws) = waiting-grown terms (t ∷ []) fs (length fs) (reverse ws) w.facts w.fronts in
+      at-front terms fs ws w o s is h (Grows c a b)
+      ∙ (λ i. goes (terms ++ t ∷ [], sym trail i ∷ sym others i))
+      ∙ ap (λ c. goes (terms ++ t ∷ [], open_branches (terms ++ t ∷ []) fs ws c)) (sym (open-true terms fs ws o s is h))
+      ∙ ap (λ ts. goes (ts, open_branches ts fs ws o)) (sym grown)
 
 -- the walk at its start
 abbrev pub true_fact : ℕ → NumberedFact
 true_fact n = record { term = n; value = true }
 
-pub new-walk : (terms : List Tree) (fs : List NumberedFact) (ws : List Waiting) (ids : List ℕ) → All (λ n. n < length terms) ids → fs ≡ map true_fact ids → ws ≡ [] → IsWalk terms fs ws
-new-walk terms fs ws ids a e n = record {
+pub new-walk : (terms : List Tree) (fs : List NumberedFact) (ws : List Waiting) (ids : List ℕ) → All (λ n. n < length terms) ids → AllWellSorted terms → fs ≡ map true_fact ids → ws ≡ [] → IsWalk terms fs ws
+new-walk terms fs ws ids a w e n = record {
+  sorted = w;
   facts = subst (λ l. All (λ (f : NumberedFact). f.term < length terms) l) (sym e) (All-map (λ (f : NumberedFact). f.term < length terms) true_fact ids a);
   fronts = subst (λ l. AreFronts (length terms) (length fs) (reverse l)) (sym n) tt;
 }

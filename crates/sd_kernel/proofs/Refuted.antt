@@ -13,10 +13,12 @@ use Rattle.sd_kernel.specs.Known.{Trail}
 use Rattle.sd_kernel.specs.Steps.{Outcome, bad, leaves, outcome}
 use Rattle.sd_term.specs.Numbering.{with_new, numbered}
 use Rattle.sd_term.specs.Bank.{tree_at}
-use Rattle.sd_kernel.specs.Proof.{start, fails, goes, after, judged, verdict, Proves}
+use Rattle.sd_kernel.specs.Proof.{start, fails, goes, after, lines_of, judged, verdict, Proves}
 use Rattle.sd_kernel.proofs.Walks.{accepted-proves, proves-accepted}
 use Rattle.sd_kernel.proofs.Says.{AllTrue}
-use Rattle.sd_kernel.proofs.Sound.{AnyTrue, step-sorted, step-covers}
+use Rattle.sd_kernel.proofs.Members.{sorted-append, AllAbout, all-about-more, all-about-append, start-about}
+use Rattle.sd_kernel.proofs.Grows.{AreTerms, step-grows, numbered-terms}
+use Rattle.sd_kernel.proofs.Sound.{AnyTrue, step-covers}
 
 any-append : (v : Valuation) (a b : List Trail) → AnyTrue v a ⊎ AnyTrue v b → AnyTrue v (a ++ b)
 any-append v [] b (inl x) = absurd x
@@ -27,26 +29,25 @@ any-append v (t ∷ a) b (inr y) = inr (any-append v a b (inr y))
 not-accepted : (line : ℕ) (c : StepCause) → Rejected line c ≡ Accepted → ⊥
 not-accepted line c e = cc
 
-pub judged-false : (v : Valuation) → (ss : List Step) (terms : List Tree) (branches : List Trail) (line : ℕ) → AllSorted terms → judged (terms, branches) line ss ≡ Accepted → AnyTrue v branches → ⊥
-judged-false v [] terms [] line w e a = a
-judged-false v [] terms (b ∷ bs) line w e a = not-accepted line Shape' e
-judged-false v (s ∷ ss) terms [] line w e a = a
-judged-false v (s ∷ ss) terms (b ∷ bs) line w e a = go (outcome terms b s) refl e (λ mid next_branches x k y. judged-false v ss mid (next_branches ++ bs) (line + 1) x k y)
+pub judged-false : (v : Valuation) → (ss : List Step) (terms : List Tree) (branches : List Trail) (line : ℕ) → AreTerms terms → AllAbout terms branches → judged (terms, branches) line ss ≡ Accepted → AnyTrue v branches → ⊥
+judged-false v [] terms [] line w b e a = a
+judged-false v [] terms (t ∷ ts) line w b e a = not-accepted line Shape' e
+judged-false v (s ∷ ss) terms [] line w b e a = a
+judged-false v (s ∷ ss) terms (t ∷ ts) line w b e a = go (outcome terms t s) refl e (λ mid next_branches x k f y. judged-false v ss mid (next_branches ++ ts) (line + lines_of s) x k f y)
   where
-    go : (o : Outcome) → outcome terms b s ≡ o → elim (after bs o) as (λ _. Verdict) [ fails n c ↦ Rejected (line + n) c | goes s' ↦ judged s' (line + 1) ss ] ≡ Accepted
-        → ((mid : List Tree) (next_branches : List Trail) → AllSorted mid → judged (mid, next_branches ++ bs) (line + 1) ss ≡ Accepted → AnyTrue v (next_branches ++ bs) → ⊥) → ⊥
+    go : (o : Outcome) → outcome terms t s ≡ o → elim (after ts o) as (λ _. Verdict) [ fails n c ↦ Rejected (line + n) c | goes s' ↦ judged s' (line + lines_of s) ss ] ≡ Accepted
+        → ((mid : List Tree) (next_branches : List Trail) → AreTerms mid → AllAbout mid (next_branches ++ ts) → judged (mid, next_branches ++ ts) (line + lines_of s) ss ≡ Accepted → AnyTrue v (next_branches ++ ts) → ⊥) → ⊥
     go (bad n c) is e ih = not-accepted (line + n) c e
-    go (leaves mid branches) is e ih = ih mid branches (step-sorted terms b w s mid branches is) e (any-append v branches bs (covered (λ t. step-covers v terms w b t s mid branches is) a))
+    go (leaves mid branches) is e ih =
+        let grows = step-grows terms t w b.0 mid branches s is in
+        ih mid branches grows.are_terms (all-about-append mid branches ts grows.about (all-about-more terms mid ts grows.kept b.1)) e
+        (any-append v branches ts (covered (λ h. step-covers v terms w t b.0 h mid branches s is) a))
       where
-        covered : (AllTrue v b → AnyTrue v branches) → AllTrue v b ⊎ AnyTrue v bs → AnyTrue v branches ⊎ AnyTrue v bs
-        covered f (inl t) = inl (f t)
-        covered f (inr t) = inr t
+        covered : (AllTrue v t → AnyTrue v branches) → AllTrue v t ⊎ AnyTrue v ts → AnyTrue v branches ⊎ AnyTrue v ts
+        covered f (inl h) = inl (f h)
+        covered f (inr h) = inr h
 
 -- the subterms of a well-sorted tree are well sorted
-sorted-append : (a b : List Tree) → AllSorted a → AllSorted b → AllSorted (a ++ b)
-sorted-append [] b p q = q
-sorted-append (t ∷ a) b p q = (p.0, sorted-append a b p.1 q)
-
 below-sorted : (t : Tree) → PartsWellSorted t → AllSorted (below t)
 below-sorted (leaf h) w = tt
 below-sorted (call f x) w = sorted-append (below f) (below x ++ x ∷ []) (below-sorted f w.0) (sorted-append (below x) (x ∷ []) (below-sorted x w.1.0) ((w.1.0, w.1.1), tt))
@@ -72,7 +73,7 @@ start-true v (t ∷ ts) m = (m.0, start-true v ts m.1)
 
 -- an accepted list of steps refutes its facts
 pub accepted-unsatisfiable : (facts : List Tree) (steps : List Step) → AllSorted facts → verdict facts steps ≡ Accepted → IsUnsatisfiable facts
-accepted-unsatisfiable facts steps w e v m = judged-false v steps (numbered facts) (start facts ∷ []) 0 (numbered-sorted facts w) e (inl (start-true v facts m))
+accepted-unsatisfiable facts steps w e v m = judged-false v steps (numbered facts) (start facts ∷ []) 0 (numbered-terms facts (numbered-sorted facts w)) (start-about facts, tt) e (inl (start-true v facts m))
 
 pub verdict-exact : (facts : List Tree) (steps : List Step) (r : Verdict) → r ≡ verdict facts steps → (r ≡ Accepted) ↔ Proves facts steps
 verdict-exact facts steps r e = (λ a. accepted-proves facts steps (sym e ∙ a), λ p. e ∙ proves-accepted facts steps p)

@@ -3,6 +3,7 @@ use Rattle.std.specs.Prelude.{ℕ, ◌<◌, ◌≤◌, Bool, true, false, List, 
 use Rattle.std.specs.Coded.{Coded, coded×, coded_list, coded_bool}
 use Rattle.sd_term.specs.Tree.{Tree, tree_code, trees_code}
 use Rattle.sd_term.specs.Bank.{tree_at}
+use Rattle.sd_term.specs.Sorts.{AllWellSorted}
 use Rattle.sd_kernel.specs.declared.known.Fact.{Fact as NumberedFact}
 use Rattle.sd_kernel.specs.declared.walk.Waiting.{Waiting}
 use Rattle.sd_kernel.specs.Known.{Trail}
@@ -25,6 +26,7 @@ AreFronts terms n (w ∷ ws) = (w.length ≤ n) × (w.term < terms) × AreFronts
 
 pub record IsWalk (terms : List Tree) (trail : List NumberedFact) (ws : List Waiting) : Type 0 where
   pub facts : All (λ (f : NumberedFact). f.term < length terms) trail
+  pub sorted : AllWellSorted terms
   pub fronts : AreFronts (length terms) (length trail) (reverse ws)
 
 abbrev pub state_code : Coded State

@@ -4,5 +4,7 @@ pub mod Steps
 pub mod Proof
 pub mod Branches
 pub mod Told
-pub mod OpenCube
+pub mod Boolean
+pub mod MadeRows
+pub mod Effects
 pub mod Propositions

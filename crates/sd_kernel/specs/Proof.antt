@@ -1,6 +1,7 @@
 -- proofs as trees of steps, and the verdict on a list of steps
-use Rattle.std.specs.Prelude.{◌≡◌, ℕ, ◌+◌, true, List, [], ◌∷◌, ◌++◌, map}
+use Rattle.std.specs.Prelude.{◌≡◌, ℕ, ◌+◌, true, List, [], ◌∷◌, ◌++◌, map, length}
 use Rattle.sd_kernel.specs.declared.step.Step.{Step}
+use Rattle.sd_kernel.specs.declared.step.Step.TheVariants.{Rows}
 use Rattle.sd_kernel.specs.declared.step.StepCause.{StepCause}
 use Rattle.sd_kernel.specs.declared.step.StepCause.TheVariants.{Shape}
 use Rattle.sd_kernel.specs.declared.step.Verdict.{Verdict}
@@ -71,9 +72,14 @@ after others (leaves terms branches) = goes (terms, branches ++ others)
 abbrev pub next : State → Step → Next
 next s x = elim s.1 [ [] ↦ fails 0 Shape | b ∷ others ↦ after others (outcome s.0 b x) ]
 
--- how many lines a step has
+-- how many lines a step has: one, and one more for each row
 abbrev pub lines_of : Step → ℕ
-lines_of x = 1
+lines_of (Rows lines) = 1 + length lines
+lines_of _ = 1
+
+abbrev pub lines_in : List Step → ℕ
+lines_in [] = 0
+lines_in (x ∷ xs) = lines_of x + lines_in xs
 
 abbrev pub at_end : List Trail → ℕ → Verdict
 at_end [] line = Accepted

@@ -170,6 +170,25 @@ pub fn known_values(
     Ok(values)
 }
 
+/// The known value of a term.
+pub fn value_of(values: &[Option<bool>], id: TermId) -> Option<bool>
+    requires { id < length values.now }
+    ensures { result ≡ known_at values.now id }
+{
+    values[id.number() as usize]
+}
+
+/// Whether a term is known to have a value.
+pub fn is_value(values: &[Option<bool>], id: TermId, value: bool) -> bool
+    requires { id < length values.now }
+    ensures { result ≡ is_known (known_at values.now id) value }
+{
+    match value_of(values, id) {
+        Some(known) => known == value,
+        None => false,
+    }
+}
+
 /// Whether a term has the opposite of a value, by its parts or by one of the first facts.
 pub fn is_contradicted(
     alloc: Global,

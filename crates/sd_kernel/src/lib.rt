@@ -1,12 +1,23 @@
 //! Checks proofs that no valuation makes all facts of a query true.
 #![tactic(auto)]
 
+mod branch;
+mod chain;
+mod choice;
+mod effect;
 mod known;
-pub mod laws;
+mod nodes;
+mod order;
 mod proved;
+mod rows;
 mod step;
+mod term;
 mod walk;
 
+pub use known::{Fact, known_values};
 pub use proved::{How, Proved};
-pub use step::{Proof, Step, StepCause, Verdict};
+pub use step::{BadLine, NodeLine, Proof, RowLine, Step, StepCause, Verdict};
 pub use walk::{Walk, proves};
+
+#[cfg(test)]
+mod tests;

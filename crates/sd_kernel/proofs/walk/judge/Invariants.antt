@@ -5,4 +5,4 @@ use Rattle.sd_kernel.proofs.walk.judge.Given as goal
 
 abbrev pub invariant-loop-step : goal.invariant-loop-step
 invariant-loop-step l =
-    (l.line ≡ l.step-index) × (judged l.walk l.line (drop l.step-index l.steps) ≡ judged (l.fn.terms, start (map (λ f. tree_at l.fn.terms f) l.facts) ∷ []) 0 l.steps)
+    judged l.walk l.line (drop l.step-index l.steps) ≡ judged (l.fn.terms, start (map (λ f. tree_at l.fn.terms f) l.facts) ∷ []) 0 l.steps

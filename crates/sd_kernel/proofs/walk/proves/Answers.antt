@@ -1,7 +1,8 @@
-use Rattle.std.proofs.Common.{◌∙◌, map, [], ◌∷◌}
+use Rattle.std.proofs.Common.{sym, subst, ◌∙◌, map, [], ◌∷◌}
 use Rattle.sd_term.specs.Bank.{tree_at}
+use Rattle.sd_term.specs.Sorts.{AllWellSorted}
 use Rattle.sd_kernel.specs.Proof.{judged, start}
-use Rattle.sd_kernel.proofs.Refuted.{verdict-exact, verdict-sound, judged-numbered}
+use Rattle.sd_kernel.proofs.Refuted.{verdict-exact, verdict-sound, judged-numbered, numbered-sorted}
 use Rattle.sd_kernel.proofs.walk.proves.Goals as goal
 
 pub returns-clause-verdict : goal.returns-clause-verdict
@@ -15,3 +16,6 @@ returns-clause-exact c = verdict-exact c.args.query.now c.args.proof.now.steps c
 
 pub returns-clause-sound : goal.returns-clause-sound
 returns-clause-sound c = λ a. verdict-sound c.args.query.now c.args.proof.now.steps c.in_ok-answer.answer (returns-clause-verdict c) a c.is_well_sorted.ensures
+
+pub judge-requires-clause-sorted : goal.judge-requires-clause-sorted
+judge-requires-clause-sorted c = subst AllWellSorted (sym c.in_ok-numbered.ensures.terms) (numbered-sorted c.args.query.now c.is_well_sorted.ensures)

@@ -5,7 +5,7 @@ use Rattle.sd_kernel.proofs.walk.Walk.new.Goals as goal
 
 pub invariant_of-result : goal.invariant_of-result
 invariant_of-result c =
-    new-walk c.args.terms c.loop-term.trail.items c.new.result.items c.args.facts.now c.requires
+    new-walk c.args.terms c.loop-term.trail.items c.new.result.items c.args.facts.now c.requires.facts c.requires.sorted
     (c.loop-term.invariant ∙ ap (map (λ f. record { term = f; value = true })) (take_all c.loop-term.term-index c.args.facts.now c.loop-term-test.false)) c.new.ensures.items
 
 pub returns : goal.returns

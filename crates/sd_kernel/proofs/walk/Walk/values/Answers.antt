@@ -8,5 +8,5 @@ pub returns : goal.returns
 returns c =
     subst (λ (vs : List (Option Bool)). IfOk c.known_values.result (λ values. values ≡ vs))
     (ap (λ fs. map (λ t. known (trail_of c.self.inside.terms fs) t) c.self.inside.terms) c.deref.ensures.value
-    ∙ values-front c.self.inside.terms c.self.inside.trail.items c.self.inside.waiting.items c.self.inside.«open» c.args.self.now c.self.view_is c.requires)
+    ∙ values-front c.self.inside.terms c.self.inside.trail.items c.self.inside.waiting.items c.self.inside.has_open c.args.self.now c.self.view_is c.requires)
     c.known_values.ensures

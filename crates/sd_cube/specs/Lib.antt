@@ -1,0 +1,8 @@
+pub mod Atoms
+pub mod CubeTerms
+pub mod Asked
+pub mod Needed
+pub mod CubeRows
+pub mod OpenCube
+pub mod Spent
+pub mod Laws
