@@ -1,43 +1,73 @@
--- the literals of the atoms, one number after another
-use Rattle.std.proofs.Common.{◌≡◌, ℕ, suc, ◌+◌, ◌<◌, ◌≤◌, List, [], ◌∷◌, ◌++◌, zero, append-nil, length, drop, get_or, refl, sym, ap, ◌∙◌, Bool, true, false, cond, Option, None, unwrap_or, arith, append_assoc, add-one}
-use Rattle.std.proofs.lemmas.Grind.{common_steps}
+-- the literals of the atoms by number
+use Rattle.std.proofs.Common.{◌≡◌, ℕ, zero, suc, ◌+◌, ◌<◌, ◌≤◌, List, [], ◌∷◌, ◌++◌, map, length, get_or, refl, sym, ap, ◌∙◌, Bool, true, false, cond, Option, unwrap_or, All, arith, append_assoc, length-append}
+use Rattle.std.proofs.lemmas.List.Elements.{All-cons, All-nil}
 use Rattle.sd_term.specs.declared.cube.Literal.{Literal}
 use Rattle.sd_term.specs.Tree.{Tree}
 use Rattle.sd_term.specs.Bank.{tree_at}
-use Rattle.sd_search.specs.Atoms.{is_atom, atom_literals}
+use Rattle.sd_term.specs.Sorts.{is_truth_valued}
+use Rattle.sd_kernel.specs.Known.{Trail, known}
+use Rattle.sd_cube.specs.Atoms.{is_atom}
+use Rattle.sd_cube.specs.CubeTerms.{literals_of}
+use Rattle.sd_cube.specs.OpenCube.{NoneTwice}
+use Rattle.sd_search.specs.Atoms.{atom_literals}
+use Rattle.sd_search.proofs.AtomFacts.{atom-truth}
+use Rattle.sd_search.proofs.Same.{atom_facts}
 
-drop-tree : (ts : List Tree) (i : ℕ) → i < length ts → drop i ts ≡ tree_at ts i ∷ drop (i + 1) ts
-drop-tree ts i h = grind (arith, common_steps)
+tree_at-mid : (pre ts : List Tree) (t : Tree) → tree_at (pre ++ t ∷ ts) (length pre) ≡ t
+tree_at-mid [] ts t = refl
+tree_at-mid (u ∷ pre) ts t = tree_at-mid pre ts t
 
-drop-value : (ks : List (Option Bool)) (i : ℕ) (k : Option Bool) → i < length ks → k ≡ get_or ks i k → drop i ks ≡ k ∷ drop (i + 1) ks
-drop-value ks i k h e = grind (arith, common_steps)
+module _ (terms : List Tree) (b : Trail) where
+  -- one term on
+  place-next : (pre : List Tree) (t : Tree) (i : ℕ) → i ≡ length pre → suc i ≡ length (pre ++ t ∷ [])
+  place-next pre t i e = omega (arith, e, length-append pre (t ∷ []))
 
-module _ (terms : List Tree) (ks : List (Option Bool)) (i : ℕ) (k : Option Bool) (lt : i < length terms) (as_long : length ks ≡ length terms) where
-  one-more : (k ≡ get_or ks i k) → (q : Bool) → is_atom (tree_at terms i) ≡ q
-      → atom_literals i (drop i terms) (drop i ks) ≡ cond q (record { term = i; value = unwrap_or k false } ∷ atom_literals (i + 1) (drop (i + 1) terms) (drop (i + 1) ks)) (atom_literals (i + 1) (drop (i + 1) terms) (drop (i + 1) ks))
-  one-more e q a =
-      (λ j. atom_literals i (drop-tree terms i lt j) (drop-value ks i k (omega (arith, lt, as_long)) e j))
-      ∙ (λ j. cond (a j) (record { term = i; value = unwrap_or k false } ∷ atom_literals (sym (add-one i) j) (drop (i + 1) terms) (drop (i + 1) ks)) (atom_literals (sym (add-one i) j) (drop (i + 1) terms) (drop (i + 1) ks)))
+  place-tree : (pre ts : List Tree) (t : Tree) (i : ℕ) → i ≡ length pre → terms ≡ pre ++ t ∷ ts → tree_at terms i ≡ t
+  place-tree pre ts t i e f = (λ j. tree_at (f j) (e j)) ∙ tree_at-mid pre ts t
 
-  pub with-atom : (old new whole : List Literal) (l : Literal) → k ≡ get_or ks i k → is_atom (tree_at terms i) ≡ true → l ≡ record { term = i; value = unwrap_or k false } → new ≡ old ++ l ∷ []
-      → whole ≡ old ++ atom_literals i (drop i terms) (drop i ks) → whole ≡ new ++ atom_literals (i + 1) (drop (i + 1) terms) (drop (i + 1) ks)
-  with-atom old new whole l e a is n w =
-      w ∙ ap (λ x. old ++ x) (one-more e true a) ∙ (λ j. old ++ (sym is j ∷ atom_literals (i + 1) (drop (i + 1) terms) (drop (i + 1) ks)))
-      ∙ sym (append_assoc old (l ∷ []) (atom_literals (i + 1) (drop (i + 1) terms) (drop (i + 1) ks))) ∙ ap (λ x. x ++ atom_literals (i + 1) (drop (i + 1) terms) (drop (i + 1) ks)) (sym n)
+  place-below : (pre ts : List Tree) (t : Tree) (i : ℕ) → i ≡ length pre → terms ≡ pre ++ t ∷ ts → i < length terms
+  place-below pre ts t i e f = let k : length terms ≡ length (pre ++ t ∷ ts) = ap length f in omega (arith, e, k, length-append pre (t ∷ ts))
 
-pub without-atom : (terms : List Tree) (ks : List (Option Bool)) (i : ℕ) (old whole : List Literal) → i < length terms → length ks ≡ length terms → is_atom (tree_at terms i) ≡ false
-    → whole ≡ old ++ atom_literals i (drop i terms) (drop i ks) → whole ≡ old ++ atom_literals (i + 1) (drop (i + 1) terms) (drop (i + 1) ks)
-without-atom terms ks i old whole lt as_long a w =
-    w ∙ ap (λ x. old ++ x) (one-more terms ks i (get_or ks i None) lt as_long (other ks i (get_or ks i None) (omega (arith, lt, as_long))) false a)
-  where
-    other : (xs : List (Option Bool)) (m : ℕ) (d : Option Bool) → m < length xs → get_or xs m None ≡ get_or xs m d
-    other [] m d h = absurd (omega (arith, h))
-    other (x ∷ xs) zero d h = refl
-    other (x ∷ xs) (suc m) d h = other xs m d (omega (arith, h))
+  pub literals-facts : (pre ts : List Tree) (i : ℕ) → i ≡ length pre → terms ≡ pre ++ ts → literals_of terms (atom_literals i ts (map (λ t. known b t) ts)) ≡ atom_facts b ts
+  literals-facts pre [] i e f = refl
+  literals-facts pre (t ∷ ts) i e f =
+      go (is_atom t) (place-tree pre ts t i e f) (literals-facts (pre ++ t ∷ []) ts (suc i) (place-next pre t i e) (f ∙ sym (append_assoc pre (t ∷ []) ts)))
+    where
+      go : (q : Bool) → tree_at terms i ≡ t → literals_of terms (atom_literals (suc i) ts (map (λ u. known b u) ts)) ≡ atom_facts b ts
+          → literals_of terms (cond q (record { term = i; value = unwrap_or (known b t) false } ∷ atom_literals (suc i) ts (map (λ u. known b u) ts)) (atom_literals (suc i) ts (map (λ u. known b u) ts)))
+          ≡ cond q ((t, unwrap_or (known b t) false) ∷ atom_facts b ts) (atom_facts b ts)
+      go true here more = λ j. (here j, unwrap_or (known b t) false) ∷ more j
+      go false here more = more
 
-pub all-atoms : (terms : List Tree) (ks : List (Option Bool)) (i : ℕ) (old whole : List Literal) → length terms ≤ i → whole ≡ old ++ atom_literals i (drop i terms) (drop i ks) → old ≡ whole
-all-atoms terms ks i old whole h w =
-    sym (append-nil old) ∙ ap (λ x. old ++ x) (sym (ap (λ l. atom_literals i l (drop i ks)) (drop-all terms i h))) ∙ sym w
-  where
-    drop-all : (ts : List Tree) (m : ℕ) → length ts ≤ m → drop m ts ≡ []
-    drop-all ts m le = grind (arith, common_steps)
+  -- each literal has one of these numbers, and names a truth value
+  pub record IsNamed (i n : ℕ) (l : Literal) : Type 0 where
+    pub from : i ≤ l.term
+    pub below : l.term < n
+    pub sort : is_truth_valued (tree_at terms l.term) ≡ true
+
+  named-more : (i n : ℕ) (l : Literal) → IsNamed (suc i) n l → IsNamed i n l
+  named-more i n l h = record { from = let k = h.from in omega (arith, k); below = h.below; sort = h.sort }
+
+  pub literals-named : (pre ts : List Tree) (i : ℕ) → i ≡ length pre → terms ≡ pre ++ ts → All (IsNamed i (length terms)) (atom_literals i ts (map (λ t. known b t) ts))
+  literals-named pre [] i e f = All-nil (IsNamed i (length terms))
+  literals-named pre (t ∷ ts) i e f =
+      go (is_atom t) refl (place-tree pre ts t i e f) (place-below pre ts t i e f) (literals-named (pre ++ t ∷ []) ts (suc i) (place-next pre t i e) (f ∙ sym (append_assoc pre (t ∷ []) ts)))
+    where
+      go : (q : Bool) → is_atom t ≡ q → tree_at terms i ≡ t → i < length terms → All (IsNamed (suc i) (length terms)) (atom_literals (suc i) ts (map (λ u. known b u) ts))
+          → All (IsNamed i (length terms)) (cond q (record { term = i; value = unwrap_or (known b t) false } ∷ atom_literals (suc i) ts (map (λ u. known b u) ts)) (atom_literals (suc i) ts (map (λ u. known b u) ts)))
+      go true a here long more =
+          All-cons (IsNamed i (length terms)) (record { term = i; value = unwrap_or (known b t) false }) (atom_literals (suc i) ts (map (λ u. known b u) ts))
+          (record { from = omega arith; below = long; sort = ap is_truth_valued here ∙ atom-truth t a })
+          (λ k d lt. named-more i (length terms) (get_or (atom_literals (suc i) ts (map (λ u. known b u) ts)) k d) (more k d lt))
+      go false a here long more = λ k d lt. named-more i (length terms) (get_or (atom_literals (suc i) ts (map (λ u. known b u) ts)) k d) (more k d lt)
+
+  pub literals-once : (pre ts : List Tree) (i : ℕ) → i ≡ length pre → terms ≡ pre ++ ts → NoneTwice (atom_literals i ts (map (λ t. known b t) ts))
+  literals-once pre [] i e f = tt
+  literals-once pre (t ∷ ts) i e f =
+      go (is_atom t) (literals-named (pre ++ t ∷ []) ts (suc i) (place-next pre t i e) (f ∙ sym (append_assoc pre (t ∷ []) ts)))
+      (literals-once (pre ++ t ∷ []) ts (suc i) (place-next pre t i e) (f ∙ sym (append_assoc pre (t ∷ []) ts)))
+    where
+      go : (q : Bool) → All (IsNamed (suc i) (length terms)) (atom_literals (suc i) ts (map (λ u. known b u) ts)) → NoneTwice (atom_literals (suc i) ts (map (λ u. known b u) ts))
+          → NoneTwice (cond q (record { term = i; value = unwrap_or (known b t) false } ∷ atom_literals (suc i) ts (map (λ u. known b u) ts)) (atom_literals (suc i) ts (map (λ u. known b u) ts)))
+      go true names more = ((λ k d lt same. let h = (names k d lt).from in absurd (omega (arith, h, same))), more)
+      go false names more = more

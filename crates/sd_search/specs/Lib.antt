@@ -1,4 +1,8 @@
 pub mod Atoms
+pub mod Terms
+pub mod Path
+pub mod Reading
+pub mod Settled
 pub mod Choice
 pub mod Outcome
-pub mod Connectives
+pub mod Running

@@ -1,38 +1,51 @@
-ghost use Rattle.std.specs.Prelude.{◌≡◌, ◌<◌, IfOk, length};
-ghost use Rattle.sd_term.specs.Bank.{tree_at};
-ghost use Rattle.std.specs.Prelude.{unwrap_or, false};
-ghost use Rattle.sd_term.specs.Sorts.{is_truth_sort};
-ghost use Rattle.sd_search.specs.Atoms.{is_atom, is_atom_head, atom_literals};
+ghost use Rattle.std.specs.Prelude.{◌≡◌, ℕ, ◌<◌, IfOk, [], map, length, is_some, unwrap_or, false};
+ghost use Rattle.sd_term.specs.Bank.{tree_at, PartsBelow};
+ghost use Rattle.sd_term.specs.Sorts.{is_truth_sort, sort_at, sort_of};
+ghost use Rattle.sd_kernel.specs.Known.{by_parts};
+ghost use Rattle.sd_cube.specs.Atoms.{is_atom};
+ghost use Rattle.sd_search.specs.Atoms.{atom_literals};
 
-use sd_base::{NoMemory, Sort};
-use sd_term::{Bank, Head, Literal, TermId};
+use sd_base::NoMemory;
+use sd_term::{Bank, Head, Literal, Op, TermId, TermNode};
 use sqlite_items::Items;
 use std::alloc::Global;
 
-/// Whether a term is a symbol or a starting value of truth values.
+/// Whether a term is truth-valued and isn't judged by its parts.
 pub fn is_atom(terms: &Bank, id: TermId) -> bool
     requires { id < length terms.now }
     ensures { result ≡ is_atom (tree_at terms.now id) }
 {
-    is_atom_head(&terms.node(id).head)
+    terms.is_truth_valued(id) && !is_judged(terms, terms.node(id))
 }
 
-fn is_atom_head(head: &Head) -> bool
-    ensures { result ≡ is_atom_head head.now }
+/// Whether the value of a node is that of its parts.
+fn is_judged(terms: &Bank, node: &TermNode) -> bool
+    requires { PartsBelow (length terms.now) node.now }
+    ensures { result ≡ is_some (by_parts node.now.head (map (λ p. sort_of (tree_at terms.now p)) node.now.parts) []) }
 {
-    match head {
-        Head::Sym(_, sort) => is_truth(sort),
-        Head::Start(sort) => is_truth(sort),
+    let Head::Op(op) = &node.head else {
+        return false;
+    };
+    match *op {
+        Op::True => true,
+        Op::False => true,
+        Op::Not => true,
+        Op::And => true,
+        Op::Or => true,
+        Op::Eq => is_truth_part(terms, node, 0),
+        Op::Ite => is_truth_part(terms, node, 1),
         _ => false,
     }
 }
 
-fn is_truth(sort: &Sort) -> bool
-    ensures { result ≡ is_truth_sort sort.now }
+/// Whether the part at a place is truth-valued.
+fn is_truth_part(terms: &Bank, node: &TermNode, place: usize) -> bool
+    requires { PartsBelow (length terms.now) node.now }
+    ensures { result ≡ is_truth_sort (sort_at (map (λ p. sort_of (tree_at terms.now p)) node.now.parts) place) }
 {
-    match sort {
-        Sort::Bool => true,
-        _ => false,
+    match node.parts.get(place) {
+        Some(part) => terms.is_truth_valued(*part),
+        None => true,
     }
 }
 

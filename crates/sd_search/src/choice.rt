@@ -1,145 +1,122 @@
-ghost use Rattle.std.specs.Prelude.{◌≡◌, ◌≢◌, ℕ, ◌<◌, ◌^◌, All, IfSome, IfNone, IsTrue, ◌↔◌, Some, None, true, false, length, get_or};
+ghost use Rattle.std.specs.Prelude.{◌≡◌, ℕ, ◌<◌, ◌^◌, [], ◌∷◌, All, IfOk, true, length, map, IfSome, IfNone, get_or};
+ghost use Rattle.sd_kernel.specs.declared.step.Step.{Step};
 ghost use Rattle.sd_term.specs.Bank.{tree_at};
-ghost use Rattle.sd_kernel.specs.Known.{known_at};
-ghost use Rattle.sd_search.specs.Atoms.{is_atom};
-ghost use Rattle.sd_search.specs.Choice.{IsFalseFact, IsOpenAtom, IsChoice, IsDecided};
+ghost use Rattle.sd_kernel.specs.Facts.{trail_of};
+ghost use Rattle.sd_kernel.specs.Proof.{IsOpen, front};
+ghost use Rattle.sd_search.specs.Choice.{IsChoice, Begins, Asks, choice_of, IsLeftAtom};
+ghost use Rattle.sd_search.specs.Terms.{AreTerms, AllTruthValued, AreValuesUnder};
 
-use crate::atoms::is_atom;
-use sd_kernel::Step;
-use sd_term::{Bank, Head, Op, TermId};
+use crate::descent::{false_fact, open_atom, reached_atom};
+use sd_arith::refuting_rows;
+use sd_base::NoMemory;
+use sd_euf::{Closed, close};
+use sd_kernel::{Fact, NodeLine, Step, Walk};
+use sd_term::{Bank, Query, TermId};
+use sqlite_items::Items;
+use std::alloc::Global;
 
-/// The next step in a branch with these values: it is closed by a false fact, or it is split on an atom without a value.
-/// Such an atom is taken from below a fact without a value where there is one, the last such fact first.
-pub fn next_step(terms: &Bank, facts: &[TermId], values: &[Option<bool>]) -> Option<Step>
-    requires facts { All (λ f. f < length terms.now) facts.now }
-    requires short { length facts.now < 2 ^ 32 }
-    requires values { length values.now ≡ length terms.now }
-    ensures some { IfSome result (λ step. IsChoice terms.now facts.now values.now step) }
-    ensures none { IfNone result (IsDecided terms.now facts.now values.now) }
+/// What comes next on a branch.
+#[derive(Drop)]
+pub enum Choice {
+    /// Steps that close the branch.
+    Close(Items<Step>),
+    /// A new term.
+    Number(NodeLine),
+    /// The branches where an atom is true and where it is false.
+    Split(u32),
+    /// Nothing is left to do.
+    Settled,
+}
+
+/// What comes next on a walk's first open branch.
+pub fn next_choice(
+    query: &Query,
+    walk: &Walk,
+    facts: &[TermId],
+    values: &[Option<bool>],
+) -> Result<Choice, NoMemory>
+    requires open { IsOpen walk.now }
+    requires terms { AreTerms query.now walk.now.0 }
+    requires truths { AllTruthValued query.now }
+    requires begins { Begins query.now (front walk.now) }
+    requires facts { map (λ f. tree_at walk.now.0 f) facts.now ≡ query.now }
+    requires below { All (λ f. f < length walk.now.0) facts.now }
+    requires values { AreValuesUnder (front walk.now) walk.now.0 values.now }
+    ensures { IfOk result (λ c. IsChoice query.now walk.now.0 (front walk.now) c) }
 {
+    let terms = walk.terms();
+    let trail = walk.facts();
+    if trail.len() > u32::MAX as usize {
+        return Err(NoMemory);
+    }
+    branch_choice(query, terms, trail, facts, values)
+}
+
+/// The branch is closed by a false fact, by rows or by equalities, where it can be. Else an atom without a value that is
+/// reached from a fact without one is split. Once all facts are true, what is asked for gets a number or is split, and
+/// then each atom is split.
+fn branch_choice(
+    query: &Query,
+    terms: &Bank,
+    trail: &[Fact],
+    facts: &[TermId],
+    values: &[Option<bool>],
+) -> Result<Choice, NoMemory>
+    requires short { length trail.now < 2 ^ 32 }
+    requires trail { All (λ f. f.term < length terms.now) trail.now }
+    requires terms { AreTerms query.now terms.now }
+    requires truths { AllTruthValued query.now }
+    requires begins { Begins query.now (trail_of terms.now trail.now) }
+    requires facts { map (λ f. tree_at terms.now f) facts.now ≡ query.now }
+    requires below { All (λ f. f < length terms.now) facts.now }
+    requires values { AreValuesUnder (trail_of terms.now trail.now) terms.now values.now }
+    ensures { IfOk result (λ c. IsChoice query.now terms.now (trail_of terms.now trail.now) c) }
+{
+    let alloc = query.allocator();
     if let Some(fact) = false_fact(facts, values) {
-        return Some(Step::Close(fact));
+        return closing_by(alloc, Step::Close(fact));
     }
-    if let Some(atom) = reached_atom(terms, facts, values) {
-        return Some(Step::Split(atom));
+    if let Some(lines) = refuting_rows(alloc, terms, trail, values)? {
+        return closing_by(alloc, Step::Rows(lines));
     }
-    match open_atom(terms, values) {
-        Some(atom) => Some(Step::Split(atom)),
-        None => None,
+    let left = match close(alloc, terms, trail, values)? {
+        Closed::Conflict(steps) => return Ok(Choice::Close(steps)),
+        Closed::Missing(step) => asked(step),
+        Closed::Classes(_) => left_atom(terms, values),
+    };
+    match reached_atom(terms, facts, values) {
+        Some(atom) => Ok(Choice::Split(atom)),
+        None => Ok(left),
     }
 }
 
-/// The place of the first fact that is known to be false.
-fn false_fact(facts: &[TermId], values: &[Option<bool>]) -> Option<u32>
-    requires facts { All (λ f. f < length values.now) facts.now }
-    requires short { length facts.now < 2 ^ 32 }
-    ensures some { IfSome result (λ k. IsFalseFact facts.now values.now k) }
-    ensures none { IfNone result ((k : ℕ) → k < length facts.now → known_at values.now (get_or facts.now k 0) ≢ Some false) }
+/// The choice of a step that numbers a term or splits one.
+fn asked(step: Step) -> Choice
+    requires { Asks step }
+    ensures { result ≡ choice_of step }
 {
-    for i in 0..facts.len() {
-        if is_false(values[facts[i].number() as usize]) {
-            return Some(i as u32);
-        }
-    }
-    None
-}
-
-fn is_false(value: Option<bool>) -> bool
-    ensures { IsTrue result ↔ (value ≡ Some false) }
-{
-    match value {
-        Some(value) => !value,
-        None => false,
+    match step {
+        Step::Term(line) => Choice::Number(line),
+        Step::Split(atom) => Choice::Split(atom),
+        _ => unreachable!(),
     }
 }
 
-/// Whether a term is an atom without a value.
-fn is_open_atom(terms: &Bank, values: &[Option<bool>], id: TermId) -> bool
-    requires id { id < length terms.now }
-    requires values { length values.now ≡ length terms.now }
-    ensures { IsTrue result ↔ IsOpenAtom terms.now values.now id }
-{
-    is_atom(terms, id) && values[id.number() as usize].is_none()
-}
-
-/// The first atom without a value.
-fn open_atom(terms: &Bank, values: &[Option<bool>]) -> Option<u32>
+/// The first atom without a value is split, where there is one.
+fn left_atom(terms: &Bank, values: &[Option<bool>]) -> Choice
     requires { length values.now ≡ length terms.now }
-    ensures some { IfSome result (λ n. n < length terms.now × IsOpenAtom terms.now values.now n) }
-    ensures none { IfNone result ((n : ℕ) → n < length terms.now → is_atom (tree_at terms.now n) ≡ true → known_at values.now n ≢ None) }
+    ensures { IsLeftAtom terms.now values.now result }
 {
-    for i in 0..terms.len() {
-        if is_open_atom(terms, values, TermId::new(i as u32)) {
-            return Some(i as u32);
-        }
+    match open_atom(terms, values) {
+        Some(atom) => Choice::Split(atom),
+        None => Choice::Settled,
     }
-    None
 }
 
-/// An atom without a value that is reached from a fact without one, the last such fact first.
-fn reached_atom(terms: &Bank, facts: &[TermId], values: &[Option<bool>]) -> Option<u32>
-    requires facts { All (λ f. f < length terms.now) facts.now }
-    requires values { length values.now ≡ length terms.now }
-    ensures { IfSome result (λ n. n < length terms.now × IsOpenAtom terms.now values.now n) }
+fn closing_by(alloc: Global, step: Step) -> Result<Choice, NoMemory>
+    ensures { IfOk result (λ c. c ≡ Choice.Close (step ∷ [])) }
 {
-    for i in 0..facts.len() {
-        let fact = facts[facts.len() - 1 - i];
-        if let Some(atom) = atom_below(terms, values, fact) {
-            return Some(atom);
-        }
-    }
-    None
-}
-
-/// An atom without a value, going from terms without a value to parts without a value.
-fn atom_below(terms: &Bank, values: &[Option<bool>], fact: TermId) -> Option<u32>
-    requires fact { fact < length terms.now }
-    requires values { length values.now ≡ length terms.now }
-    ensures { IfSome result (λ n. n < length terms.now × IsOpenAtom terms.now values.now n) }
-{
-    let mut term = fact;
-    while let Some(part) = open_part(terms, values, term) {
-        term = part;
-    }
-    if is_open_atom(terms, values, term) {
-        return Some(term.number());
-    }
-    None
-}
-
-/// A part without a value that matters to the value of a term without one.
-fn open_part(terms: &Bank, values: &[Option<bool>], id: TermId) -> Option<TermId>
-    requires id { id < length terms.now }
-    requires values { length values.now ≡ length terms.now }
-    ensures { IfSome result (λ part. part < id) }
-{
-    if values[id.number() as usize].is_some() {
-        return None;
-    }
-    let node = terms.node(id);
-    let parts = node.parts.as_slice();
-    let first = if chooses_the_second(&node.head, values, parts) {
-        2
-    } else {
-        0
-    };
-    for place in first..parts.len() {
-        if values[parts[place].number() as usize].is_none() {
-            return Some(parts[place]);
-        }
-    }
-    None
-}
-
-/// Whether the head is a choice with a false condition.
-fn chooses_the_second(head: &Head, values: &[Option<bool>], parts: &[TermId]) -> bool
-    requires { All (λ p. p < length values.now) parts.now }
-{
-    let Head::Op(Op::Ite) = head else {
-        return false;
-    };
-    match parts.get(0) {
-        Some(condition) => is_false(values[condition.number() as usize]),
-        None => false,
-    }
+    let mut steps = Items::new(alloc);
+    steps.push(step)?;
+    Ok(Choice::Close(steps))
 }

@@ -3,6 +3,9 @@
 
 mod atoms;
 mod choice;
+mod descent;
+mod leaf;
+mod progress;
 mod search;
 #[cfg(test)]
 mod tests;

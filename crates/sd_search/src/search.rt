@@ -1,50 +1,54 @@
-ghost use Rattle.std.specs.Prelude.{◌≡◌, IfOk};
+ghost use Rattle.std.specs.Prelude.{◌≡◌, ◌≤◌, IfOk};
 ghost use Rattle.sd_kernel.specs.Proof.{Proves, verdict};
-ghost use Rattle.sd_kernel.specs.OpenCube.{AllBoolean, IsOpenCube};
 ghost use Rattle.sd_kernel.specs.declared.step.Verdict.{Verdict};
-ghost use Rattle.sd_search.specs.Outcome.{IfRefuted, IfOpen};
+ghost use Rattle.sd_cube.specs.OpenCube.{IsOpenCube};
+ghost use Rattle.sd_cube.specs.Spent.{IsSpent};
+ghost use Rattle.sd_search.specs.Terms.{AllTruthValued};
+ghost use Rattle.sd_search.specs.Outcome.{IfRefuted, IfOpen, IfSpent, closings};
 
-use crate::atoms::atom_literals;
-use crate::choice::next_step;
+use crate::progress::Search;
 use sd_base::NoMemory;
-use sd_kernel::{Proof, Verdict, Walk};
-use sd_term::{Cube, Numbered, Query};
+use sd_kernel::{Proof, Verdict};
+use sd_term::{Cube, Query};
 use sqlite_items::Items;
 use std::alloc::Global;
 
-/// What a search finds: a proof that no valuation makes all facts true, or values of the atoms under which they are.
+/// What a search finds.
 #[derive(Drop)]
 pub enum Outcome {
+    /// A proof that no valuation makes all facts true.
     Refuted(Proof),
+    /// Values of the atoms under which the facts are true.
     Open(Cube),
+    /// The cubes that were closed, where there were to be no more of them.
+    Spent(Items<Cube>),
 }
 
-/// Decides whether some values of the atoms make all facts of a query true. It splits on atoms alone, each at most once on
-/// a branch, and closes a branch as soon as a fact is false in it (Davis, Logemann and Loveland 1962). A query of 2^32
-/// facts or more is out of memory.
-pub fn refute(alloc: Global, query: &Query) -> Result<Outcome, NoMemory>
-    requires { AllBoolean query.now }
+/// Looks for a proof that no valuation makes all facts of a query true. It splits on atoms, each at most once on a branch, and
+/// closes a branch as soon as a fact is false in it, its rows can't be met by integers, or its equalities clash (Davis, Logemann
+/// and Loveland 1962; Nelson and Oppen 1979). At most `leaves` branches are closed. A search of 2^32 - 1 steps or more is out of
+/// memory, and so is a query of 2^32 facts or more.
+pub fn refute(alloc: Global, query: &Query, leaves: u32) -> Result<Outcome, NoMemory>
+    requires leaves { 1 ≤ leaves }
+    requires truths { AllTruthValued query.now }
     ensures accepted { IfOk result (λ r. IfRefuted r (λ proof. verdict query.now proof.steps ≡ Verdict.Accepted)) }
     ensures refuted { IfOk result (λ r. IfRefuted r (λ proof. Proves query.now proof.steps)) }
+    ensures few { IfOk result (λ r. IfRefuted r (λ proof. closings proof.steps ≤ leaves)) }
     ensures cube { IfOk result (λ r. IfOpen r (λ cube. IsOpenCube query.now cube)) }
+    ensures spent { IfOk result (λ r. IfSpent r (λ cubes. IsSpent query.now cubes leaves)) }
 {
-    query.is_well_sorted();
-    let numbered = query.numbered()?;
-    let Numbered { terms, facts } = numbered;
-    if facts.len() > u32::MAX as usize {
-        return Err(NoMemory);
+    let mut search = Search::new(alloc, query)?;
+    'branches: while search.walk.is_open() {
+        if search.steps.len() >= u32::MAX as usize {
+            return Err(NoMemory);
+        }
+        if search.cubes.len() >= leaves as usize {
+            return Ok(Outcome::Spent(search.cubes));
+        }
+        if let Some(cube) = search.advance(query)? {
+            return Ok(Outcome::Open(cube));
+        }
     }
-    let mut walk = Walk::new(alloc, terms, facts.as_slice())?;
-    let mut steps = Items::new(alloc);
-    'branches: while walk.is_open() {
-        let values = walk.values()?;
-        let Some(step) = next_step(walk.terms(), facts.as_slice(), values.as_slice()) else {
-            let literals = atom_literals(alloc, walk.terms(), values.as_slice())?;
-            let extra = Items::new(alloc);
-            return Ok(Outcome::Open(Cube { extra, literals }));
-        };
-        walk.step(&step)?;
-        steps.push(step)?;
-    }
+    let steps = search.steps;
     Ok(Outcome::Refuted(Proof { steps }))
 }

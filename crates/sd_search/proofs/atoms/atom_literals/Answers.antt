@@ -1,7 +1,8 @@
-use Rattle.std.proofs.Common.{sym, ap, ◌∙◌, arith}
+use Rattle.std.proofs.Common.{sym, ap, ◌∙◌, arith, false, true}
 use Rattle.sd_term.specs.Bank.{tree_at}
-use Rattle.sd_search.specs.Atoms.{is_atom, atom_literals}
-use Rattle.sd_search.proofs.Literals.{without-atom}
+use Rattle.sd_cube.specs.Atoms.{is_atom}
+use Rattle.sd_search.specs.Atoms.{atom_literals}
+use Rattle.sd_search.proofs.AtomSteps.{without-atom}
 use Rattle.sd_search.proofs.atoms.atom_literals.Goals as goal
 
 pub loop-i-preserved-then-not-is_atom : goal.loop-i-preserved-then-not-is_atom

@@ -1,0 +1,5 @@
+pub mod Refuting
+pub mod Placing
+pub mod Knowing
+pub mod Giving
+pub mod Closing

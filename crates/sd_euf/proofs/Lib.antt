@@ -1,0 +1,12 @@
+pub mod Shapes
+pub mod Outcomes
+pub mod Loops
+pub mod ChoiceLemmas
+pub mod OrderLemmas
+pub mod Joined
+pub mod LinkLemmas
+pub mod ClassLemmas
+pub mod ChainLemmas
+pub mod Settling
+pub mod Grown
+pub mod TableLemmas

@@ -1,0 +1,4 @@
+pub mod Closed
+pub mod Judged
+pub mod Links
+pub mod Table
