@@ -1,4 +1,4 @@
--- The queries of two programs over truth values are over truth values.
+-- The facts about two programs over truth values are over truth values.
 use Rattle.std.proofs.Common.{◌≡◌, ℕ, suc, ◌+◌, List, [], ◌∷◌, ◌++◌, length, sym, subst, refl}
 use Rattle.std.specs.Prelude.{Bool, true, false, ◌&&◌, Option, Some, None, map, slice_get, if◌then◌else◌}
 use Rattle.std.specs.List.{AllByRecursion}
@@ -19,13 +19,12 @@ use Rattle.sd_match.specs.declared.pair.SpotPair.{SpotPair}
 use Rattle.sd_cand.specs.declared.candidate.Relation.{Relation}
 use Rattle.sd_cand.specs.declared.candidate.Claim.{Claim}
 use Rattle.sd_cand.specs.declared.candidate.Claim.TheVariants.{Flag, Output}
-use Rattle.sd_kernel.specs.OpenCube.{IsBoolean, AllBoolean}
+use Rattle.sd_kernel.specs.Boolean.{IsBoolean, AllBoolean}
 use Rattle.sd_kernel.proofs.Propositions.{not-boolean, or-boolean}
 use Rattle.sd_vcgen.specs.Body.{Site, State, Context, nothing, symbols, term_in, count_all, body_of, outs_of}
 use Rattle.sd_product.specs.Relations.{entry, exit, term_at, term_of, claim_term}
 use Rattle.sd_product.specs.Query.{Claimed, Work, Quiets, old_context, new_context, is_live, inputs_from, input_count, Side, side_of, side_from, first_call, old_side, new_side, under, site_inputs, site_ends, implication, is_about, calls_related, with_each, all_related, no_terms, axioms_of, apart, conditions_of, claim_of, premises_of, facts_of, query_by, query_of}
 use Rattle.sd_product.specs.Work.{Held, IsHeld, claims_in, work_of, queries_under, pairs_in, quiets_in}
-use Rattle.sd_product.specs.Boolean.{AreBoolean, QueriesAreBoolean}
 use Rattle.sd_product.proofs.Booleans.{constant-boolean, eq-boolean, implies-boolean, append-boolean, all-found, truth-sorts, symbols-boolean, BooleanStore, read-boolean, reads-boolean, BooleanSite, BooleanState, body-boolean}
 use Rattle.sd_product.proofs.OnlyEqual.{IsEqual, IsEqualClaim, IsOnlyEqual, IsEqualClaimed, claims-equal}
 
@@ -147,29 +146,3 @@ module _ (w : Work) (table : List Bool) (old : IsBooleanCore w.old) (new : IsBoo
       append-boolean (premises_of w table x a b) _ (premises-boolean x a b e h k calls)
       (append-boolean (apart all w.old.uniques) _ (apart-boolean all w.old.uniques old.uniques)
       (append-boolean (apart all w.new.uniques) (not_of (claim_of x a b) ∷ []) (apart-boolean all w.new.uniques new.uniques) last))
-
-  module _ (z : Quiets) (claims : AllByRecursion IsEqualClaimed w.claims) (old_formed : WellFormed w.old) (new_formed : WellFormed w.new) where
-    by-boolean : (x : Claimed) → IsEqualClaimed x → (i j : ℕ) (o o' : Option CoreProc) → slice_get w.old.procs i ≡ o → slice_get w.new.procs j ≡ o' → AllBoolean (query_by w z table x o o')
-    by-boolean x e i j None None f g = tt
-    by-boolean x e i j None (Some q) f g = tt
-    by-boolean x e i j (Some p) None f g = tt
-    by-boolean x e i j (Some p) (Some q) f g =
-        let C = old_context w z in
-        let D = new_context w z in
-        let a : BooleanSide (old_side C D p q) = side-boolean C i p old_formed old f 0 (first_call C D p q) in
-        let b : BooleanSide (new_side C D p q) = side-boolean D j q new_formed new g (input_count C.program p) (first_call C D p q + count_all C p.body) in
-        let calls = related-boolean table w.claims (old_side C D p q).body.sites (new_side C D p q).body.sites claims a.body.sites b.body.sites in
-        facts-boolean x (old_side C D p q) (new_side C D p q) e a b calls
-
-    query-boolean : (x : Claimed) → IsEqualClaimed x → AllBoolean (query_of w z table x)
-    unfolding query_of
-    query-boolean x e = by-boolean x e x.pair.old x.pair.new (slice_get w.old.procs x.pair.old) (slice_get w.new.procs x.pair.new) refl refl
-
-    queries-boolean : (xs : List Claimed) → AllByRecursion IsEqualClaimed xs → AllByRecursion AllBoolean (map (query_of w z table) xs)
-    queries-boolean [] e = tt
-    queries-boolean (x ∷ xs) e = (query-boolean x e.0, queries-boolean xs e.1)
-
-pub queries-are-boolean : QueriesAreBoolean
-queries-are-boolean h is truths table =
-    let claims : AllByRecursion IsEqualClaimed (claims_in h) = claims-equal (pairs_in h) in
-    queries-boolean (work_of h.old h.new) table truths.old truths.new (quiets_in h) claims is.old_formed is.new_formed (claims_in h) claims

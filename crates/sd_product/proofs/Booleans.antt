@@ -1,5 +1,5 @@
 -- The terms of a body over truth values are over truth values.
-use Rattle.std.proofs.Common.{◌≡◌, ℕ, zero, suc, ◌+◌, List, [], ◌∷◌, ◌++◌, length, get_or, sym, subst, ◌∙◌, refl}
+use Rattle.std.proofs.Common.{◌≡◌, ℕ, zero, suc, ◌+◌, List, [], ◌∷◌, ◌++◌, length, get_or, sym, subst, refl}
 use Rattle.std.specs.Prelude.{Bool, true, false, Option, Some, None, map, set, slice_get}
 use Rattle.std.specs.List.{AllByRecursion}
 use Rattle.sd_base.specs.declared.Sort.{Sort, Int, Bool as BoolSort}
@@ -23,7 +23,7 @@ use Rattle.sd_core.specs.Boolean.{IsBooleanProc, IsBooleanCore}
 use Rattle.sd_term.specs.declared.node.Head.TheVariants as head
 use Rattle.sd_term.specs.Tree.{Tree, leaf}
 use Rattle.sd_term.specs.Build.{not_of, and_of, or_of, eq_of, ite_of}
-use Rattle.sd_kernel.specs.OpenCube.{IsBoolean, AllBoolean}
+use Rattle.sd_kernel.specs.Boolean.{IsBoolean, AllBoolean}
 use Rattle.sd_kernel.proofs.Propositions.{not-boolean, and-boolean, or-boolean, ite-boolean}
 use Rattle.sd_vcgen.specs.Body.{Site, State, Context, constant, nothing, op_term, term_in, terms_in, guard_of, assign, symbols, site_flag, modified_sorts, changed, site_of, count, row_count, step, steps, all_steps, begun, body_of}
 use Rattle.sd_vcgen.specs.Body.{call as call_term}

@@ -22,8 +22,8 @@ use Rattle.sd_term.specs.Tree.{Tree, leaf}
 use Rattle.sd_term.specs.Truth.{Valuation, value, MakesTrue}
 use Rattle.sd_term.specs.Build.{not_of}
 use Rattle.sd_term.proofs.Typed.{value-sorted}
-use Rattle.sd_kernel.specs.OpenCube.{AllBoolean}
-use Rattle.sd_kernel.proofs.Cubes.{cubes-satisfy}
+use Rattle.sd_kernel.specs.Boolean.{AllBoolean}
+use Rattle.sd_cube.proofs.Cubes.{cubes-satisfy}
 use Rattle.sd_cand.specs.declared.candidate.Relation.{Relation}
 use Rattle.sd_cand.specs.declared.candidate.Claim.{Claim}
 use Rattle.sd_cand.specs.Candidates.{equal_inputs}

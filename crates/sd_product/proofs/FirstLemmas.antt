@@ -12,7 +12,7 @@ use Rattle.sd_product.specs.Numbering.{firsts_from}
 abbrev claim : Pair → Candidate → Claimed
 claim pair c = record { pair = pair; candidate = c }
 
-one_pair : (p : Pair) (ps : List Pair) → length (claims_of (p ∷ ps)) ≡ length (candidates_of p) + length (claims_of ps)
+pub one_pair : (p : Pair) (ps : List Pair) → length (claims_of (p ∷ ps)) ≡ length (candidates_of p) + length (claims_of ps)
 one_pair p ps = omega (arith, length-append (map (claim p) (candidates_of p)) (claims_of ps), length-map (candidates_of p) (claim p))
 
 pub firsts_at : (n i : ℕ) (ps : List Pair) → i < length ps → slice_get (firsts_from n (map candidates_of ps)) i ≡ Some (n + length (claims_of (take i ps)))

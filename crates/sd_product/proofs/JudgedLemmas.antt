@@ -5,7 +5,7 @@ use Rattle.std.specs.Option.{option_map}
 use Rattle.std.specs.List.{AllByRecursion}
 use Rattle.std.proofs.lemmas.Option.{slice_get-map, get_or_from_slice_get}
 use Rattle.sd_term.specs.Tree.{Tree}
-use Rattle.sd_kernel.specs.OpenCube.{IsOpenCube}
+use Rattle.sd_cube.specs.OpenCube.{IsOpenCube}
 use Rattle.sd_kernel.specs.Proof.{Proves}
 use Rattle.sd_kernel.specs.declared.step.Step.{Step}
 use Rattle.sd_kernel.specs.declared.proved.How.{How}

@@ -26,3 +26,6 @@ pub mod EqualConditions
 pub mod FailureLemmas
 pub mod RootLemmas
 pub mod JudgedLemmas
+pub mod TruthFacts
+pub mod BodyLemmas
+pub mod RangeLemmas

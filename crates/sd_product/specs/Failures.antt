@@ -4,7 +4,7 @@ use Rattle.sd_core.specs.Straight.{IsStraightCore}
 use Rattle.sd_core.specs.Failure.{NewFailureOf}
 use Rattle.sd_term.specs.declared.Cube.{Cube}
 use Rattle.sd_term.specs.Truth.{Valuation, MakesTrue}
-use Rattle.sd_kernel.specs.OpenCube.{IsOpenCube}
+use Rattle.sd_cube.specs.OpenCube.{IsOpenCube}
 use Rattle.sd_cand.specs.declared.candidate.Claim.TheVariants.{Flag}
 use Rattle.sd_cand.specs.Candidates.{equal_inputs}
 use Rattle.sd_product.specs.Query.{Claimed, Work, Quiets, query_of}

@@ -6,7 +6,7 @@ pub mod Work
 pub mod WorkErrors
 pub mod WorkInvariant
 pub mod Inductive
-pub mod Boolean
+pub mod TruthQueries
 pub mod Numbers
 pub mod Claims
 pub mod Unique
@@ -15,3 +15,5 @@ pub mod Questions
 pub mod Fits
 pub mod Failures
 pub mod Judged
+pub mod Bodies
+pub mod BodiesInvariant

@@ -1,11 +1,14 @@
 -- What a query is about.
-use Rattle.std.specs.Prelude.{◌≡◌, length}
+use Rattle.std.specs.Prelude.{◌≡◌, List, length, Option, slice_get}
 use Rattle.std.specs.List.{AllByRecursion}
 use Rattle.sd_core.specs.Formed.{WellFormed}
+use Rattle.sd_term.specs.Tree.{Tree}
 use Rattle.sd_vcgen.specs.Numbers.{context_of}
 use Rattle.sd_product.specs.Query.{Claimed, Work, Quiets}
 use Rattle.sd_product.specs.Claims.{claims_of, AreTables}
 use Rattle.sd_product.specs.Fits.{FitsPair}
+use Rattle.sd_product.specs.Sides.{AreSides}
+use Rattle.sd_product.specs.declared.sides.Sides.{Sides}
 use Rattle.sd_product.specs.declared.facts.Question.{Question}
 
 -- the two programs with the candidates of all their pairs
@@ -31,3 +34,7 @@ pub record IsSorted (q : Question) : Type 0 where
   pub new : WellFormed q.new.program.now
   pub claims : AllByRecursion (FitsPair (work_in q)) (claims_of q.claims)
   pub asked : FitsPair (work_in q) (asked q)
+
+-- the numbers of the bodies of its pair
+abbrev pub AreSidesFor : Question → List Tree → Option Sides → Type 0
+AreSidesFor q bank = AreSides (context_of q.old) (context_of q.new) bank (slice_get q.old.program.now.procs q.pair.now.old) (slice_get q.new.program.now.procs q.pair.now.new)

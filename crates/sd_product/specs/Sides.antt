@@ -1,12 +1,15 @@
 -- Which sides the numbers of a body stand for.
-use Rattle.std.specs.Prelude.{List, [], ◌++◌, map}
+use Rattle.std.specs.Prelude.{List, [], ◌++◌, map, Option, Some, None}
+use Rattle.sd_core.specs.declared.CoreProc.{CoreProc}
 use Rattle.sd_term.specs.Tree.{Tree}
 use Rattle.sd_term.specs.Bank.{tree_at}
-use Rattle.sd_vcgen.specs.Body.{nothing}
+use Rattle.sd_vcgen.specs.Body.{Context, nothing}
 use Rattle.sd_vcgen.specs.Numbers.{Denotes, DenoteAll, DenoteSites, site_at}
 use Rattle.sd_product.specs.Relations.{entry}
 use Rattle.sd_product.specs.Query as query
+use Rattle.sd_product.specs.Query.{old_side, new_side}
 use Rattle.sd_product.specs.declared.sides.Side.{Side}
+use Rattle.sd_product.specs.declared.sides.Sides.{Sides}
 
 -- the numbers of a side stand for this one
 pub record DenotesSide (bank : List Tree) (n : Side) (s : query.Side) : Type 0 where
@@ -29,3 +32,11 @@ side_at bank n = record {
 -- its numbers are in the bank
 abbrev pub IsSideWithin : List Tree → Side → Type 0
 IsSideWithin bank n = DenotesSide bank n (side_at bank n)
+
+-- the numbers of the bodies of two procedures, where both are there
+abbrev pub AreSides : Context → Context → List Tree → Option CoreProc → Option CoreProc → Option Sides → Type 0
+AreSides C D bank (Some p) (Some q) (Some n) = DenotesSide bank n.old (old_side C D p q) × DenotesSide bank n.new (new_side C D p q)
+AreSides C D bank (Some p) (Some q) None = ⊥
+AreSides C D bank (Some p) None None = Unit {0}
+AreSides C D bank None q None = Unit {0}
+AreSides C D bank _ _ (Some n) = ⊥

@@ -1,21 +1,20 @@
 //! The facts of a query.
-ghost use Rattle.std.specs.Prelude.{◌≡◌, ◌<◌, [], All, IfOk, OnOk, length, Some};
-ghost use Rattle.std.specs.Option.{option_copied};
+ghost use Rattle.std.specs.Prelude.{◌≡◌, ◌<◌, [], All, IfOk, OnOk, length};
 ghost use Rattle.sd_term.specs.Bank.{tree_at};
 ghost use Rattle.sd_term.specs.Build.{Extends};
-ghost use Rattle.sd_vcgen.specs.Numbers.{Denotes, DenoteAll, context_of};
-ghost use Rattle.sd_product.specs.Query.{axioms_of, conditions_of, all_related, premises_of, claim_of, facts_of, old_side, new_side, query_by, query_of};
+ghost use Rattle.sd_vcgen.specs.Numbers.{Denotes, DenoteAll};
+ghost use Rattle.sd_product.specs.Query.{axioms_of, conditions_of, all_related, premises_of, claim_of, facts_of, query_of};
 ghost use Rattle.sd_product.specs.Numbers.{Adds};
-ghost use Rattle.sd_product.specs.Sides.{DenotesSide, side_at, IsSideWithin};
-ghost use Rattle.sd_product.specs.Questions.{work_in, quiets_in, asked, IsQuestion, IsSorted};
+ghost use Rattle.sd_product.specs.Sides.{side_at, IsSideWithin};
+ghost use Rattle.sd_product.specs.Questions.{work_in, quiets_in, asked, IsQuestion, IsSorted, AreSidesFor};
 
 use crate::apart::put_uniques;
 use crate::calls::{Claims, put_all_related};
 use crate::relations::{EndTerms, put_claim, put_relations};
-use crate::sides::{Side, input_count, put_side, side_ends, side_inputs};
-use sd_base::NoMemory;
+use crate::sides::{Side, Sides, side_ends, side_inputs};
+use sd_base::{CloneOf, NoMemory};
 use sd_cand::{Candidate, LiveTable};
-use sd_core::{CoreProc, CoreProgram};
+use sd_core::CoreProgram;
 use sd_match::Pair;
 use sd_term::{Bank, Query, TermId};
 use sd_vcgen::{Context, put_axioms};
@@ -189,53 +188,6 @@ fn put_facts(
 
 // ---- the query
 
-/// The two bodies of a query, with the old one's symbols first: old inputs, new inputs, old calls, new calls.
-#[derive(Drop)]
-struct Sides {
-    old: Side,
-    new: Side,
-}
-
-fn put_sides(
-    alloc: Global,
-    bank: &mut Bank,
-    question: &Question<'_>,
-    old: &CoreProc,
-    new: &CoreProc,
-) -> Result<Sides, NoMemory>
-    ensures old { IfOk result (λ s. DenotesSide bank.new s.old (old_side (context_of question.now.old) (context_of question.now.new) old.now new.now)) }
-    ensures new { IfOk result (λ s. DenotesSide bank.new s.new (new_side (context_of question.now.old) (context_of question.now.new) old.now new.now)) }
-{
-    let old_count = input_count(&question.old, old)?;
-    let new_count = input_count(&question.new, new)?;
-    if new_count > u32::MAX - old_count {
-        return Err(NoMemory);
-    }
-    let calls = old_count + new_count;
-    let old_side = put_side(alloc, bank, &question.old, old, 0, calls)?;
-    let next = old_side.body.next;
-    let new_side = put_side(alloc, bank, &question.new, new, old_count, next)?;
-    Ok(Sides {
-        old: old_side,
-        new: new_side,
-    })
-}
-
-fn put_bodies(
-    alloc: Global,
-    bank: &mut Bank,
-    question: &Question<'_>,
-    old: &CoreProc,
-    new: &CoreProc,
-) -> Result<Items<TermId>, NoMemory>
-    requires { IsQuestion question.now }
-    ensures { IfOk result (λ ids. DenoteAll bank.new ids (query_by (work_in question.now) (quiets_in question.now) question.now.table.now (asked question.now) (Some old.now) (Some new.now))) }
-{
-    let sides = put_sides(alloc, bank, question, old, new)?;
-    let facts = put_facts(bank, question, &sides.old, &sides.new)?;
-    Ok(facts)
-}
-
 /// No terms, whatever the bank.
 fn no_facts(alloc: Global, bank: &Bank) -> Items<TermId>
     ensures { DenoteAll bank.now result [] }
@@ -244,47 +196,36 @@ fn no_facts(alloc: Global, bank: &Bank) -> Items<TermId>
     Items::new(alloc)
 }
 
-fn put_found(
-    alloc: Global,
-    bank: &mut Bank,
-    question: &Question<'_>,
-    old: Option<&CoreProc>,
-    new: Option<&CoreProc>,
-) -> Result<Items<TermId>, NoMemory>
-    requires { IsQuestion question.now }
-    ensures { IfOk result (λ ids. DenoteAll bank.new ids (query_by (work_in question.now) (quiets_in question.now) question.now.table.now (asked question.now) (option_copied old.entry) (option_copied new.entry))) }
-{
-    match old {
-        Some(old) => match new {
-            Some(new) => put_bodies(alloc, bank, question, old, new),
-            None => Ok(no_facts(alloc, bank)),
-        },
-        None => Ok(no_facts(alloc, bank)),
-    }
-}
-
-/// The facts of the query of a candidate. Where one of the procedures isn't there, there are none.
+/// The facts of the query of a candidate, over the bodies of its pair. Where there are no bodies, there are none.
 fn put_question(
     alloc: Global,
     bank: &mut Bank,
     question: &Question<'_>,
+    sides: &Option<Sides>,
 ) -> Result<Items<TermId>, NoMemory>
-    requires { IsQuestion question.now }
+    requires question { IsQuestion question.now }
+    requires sides { AreSidesFor question.now bank.old sides.now }
     ensures { IfOk result (λ ids. DenoteAll bank.new ids (query_of (work_in question.now) (quiets_in question.now) question.now.table.now (asked question.now))) }
 {
-    let old = question.old.program.procs.get(question.pair.old as usize);
-    let new = question.new.program.procs.get(question.pair.new as usize);
-    let facts = put_found(alloc, bank, question, old, new)?;
-    Ok(facts)
+    match sides {
+        Some(sides) => put_facts(bank, question, &sides.old, &sides.new),
+        None => Ok(no_facts(alloc, bank)),
+    }
 }
 
-/// The query that a question asks for.
-pub(crate) fn put_query(alloc: Global, question: &Question<'_>) -> Result<Query, NoMemory>
+/// The query that a question asks for, from a copy of the bank with the bodies of its pair.
+pub(crate) fn put_query(
+    alloc: Global,
+    question: &Question<'_>,
+    bodies: &Bank,
+    sides: &Option<Sides>,
+) -> Result<Query, NoMemory>
     requires question { IsQuestion question.now }
     requires sorts { IsSorted question.now }
+    requires sides { AreSidesFor question.now bodies.now sides.now }
     ensures { IfOk result (λ q. q ≡ query_of (work_in question.now) (quiets_in question.now) question.now.table.now (asked question.now)) }
 {
-    let mut bank = Bank::new(alloc);
-    let facts = put_question(alloc, &mut bank, question)?;
+    let mut bank = bodies.clone_of(alloc)?;
+    let facts = put_question(alloc, &mut bank, question, sides)?;
     Ok(Query::new(bank, facts))
 }

@@ -1,5 +1,5 @@
 //! What live candidates are good for.
-ghost use Rattle.sd_product.specs.Boolean.{QueriesAreBoolean};
+ghost use Rattle.sd_product.specs.TruthQueries.{QueriesAreTruths};
 ghost use Rattle.sd_product.specs.Failures.{ValuationsAreFailures, OpenCubesAreFailures};
 ghost use Rattle.sd_product.specs.Judged.{LiveFlagsAreSafe, OpenFlagsAreFailures};
 ghost use Rattle.sd_product.specs.Summaries.{MutualSummaries, NoNewFailure};
@@ -19,9 +19,9 @@ pub fn no_new_failure()
     mutual_summaries();
 }
 
-/// The queries of two programs over truth values are over truth values.
-pub fn queries_are_boolean()
-    ensures { QueriesAreBoolean }
+/// Each fact of each query is truth-valued.
+pub fn queries_are_truths()
+    ensures { QueriesAreTruths }
 {}
 
 /// Where nothing is called, a valuation that makes the query of the claim on the flag with equal inputs true is a failure of the new

@@ -2,6 +2,7 @@
 #![tactic(auto)]
 
 mod apart;
+mod bodies;
 mod calls;
 mod facts;
 pub mod laws;
@@ -11,5 +12,6 @@ mod sides;
 mod tables;
 mod work;
 
+pub use bodies::PairBodies;
 pub use queries::query;
 pub use work::{Work, WorkError};

@@ -2,7 +2,7 @@
 ghost use Rattle.std.specs.Prelude.{◌≡◌, ◌<◌, IfOk, Some, length, slice_get};
 ghost use Rattle.sd_product.specs.Work.{claims_in, queries_under};
 
-use crate::facts::put_query;
+use crate::bodies::PairBodies;
 use crate::work::Work;
 use sd_base::NoMemory;
 use sd_cand::LiveTable;
@@ -21,7 +21,8 @@ pub fn query(
     requires size { length table.now ≡ length (claims_in work.now) }
     ensures { IfOk result (λ q. slice_get (queries_under work.now table.now) candidate ≡ Some q) }
 {
-    let question = work.question(table, candidate);
-    let query = put_query(alloc, &question)?;
+    let (pair, _) = work.candidate_place(candidate);
+    let bodies = PairBodies::new(alloc, work, pair)?;
+    let query = bodies.query(alloc, table, candidate)?;
     Ok(query)
 }

@@ -1,12 +1,13 @@
 //! Bodies between their inputs and their ends, as terms.
 ghost use Rattle.std.specs.Prelude.{◌≡◌, ◌+◌, IfOk, OnOk, [], length};
+ghost use Rattle.std.specs.Option.{option_copied};
 ghost use Rattle.sd_core.specs.Formed.{sorts_of};
 ghost use Rattle.sd_term.specs.Build.{Extends};
 ghost use Rattle.sd_vcgen.specs.Body.{symbols, count_all};
 ghost use Rattle.sd_vcgen.specs.Numbers.{DenoteAll, context_of};
 ghost use Rattle.sd_product.specs.Query as query;
-ghost use Rattle.sd_product.specs.Query.{side_from};
-ghost use Rattle.sd_product.specs.Sides.{DenotesSide};
+ghost use Rattle.sd_product.specs.Query.{side_from, old_side, new_side};
+ghost use Rattle.sd_product.specs.Sides.{DenotesSide, AreSides};
 
 use crate::relations::StateTerms;
 use sd_base::{CloneOf, NoMemory, Var};
@@ -25,7 +26,7 @@ pub(crate) struct Side {
 }
 
 /// How many symbols the inputs of a procedure take. More than a `u32` counts are answered as want of memory.
-pub(crate) fn input_count(context: &Context<'_>, procedure: &CoreProc) -> Result<u32, NoMemory>
+fn input_count(context: &Context<'_>, procedure: &CoreProc) -> Result<u32, NoMemory>
     ensures { IfOk result (λ n. n ≡ query.input_count context.now.program.now procedure.now) }
 {
     let ins = procedure.ins.len();
@@ -59,7 +60,7 @@ fn put_symbols(
 }
 
 /// The terms of a procedure: its inputs are symbols from `first` on, and its calls have symbols from `calls` on.
-pub(crate) fn put_side(
+fn put_side(
     alloc: Global,
     bank: &mut Bank,
     context: &Context<'_>,
@@ -84,6 +85,63 @@ pub(crate) fn put_side(
         globals.as_slice(),
     )?;
     Ok(Side { ins, globals, body })
+}
+
+/// The two bodies of a pair, with the old one's symbols first: old inputs, new inputs, old calls, new calls.
+#[derive(Drop)]
+pub(crate) struct Sides {
+    pub(crate) old: Side,
+    pub(crate) new: Side,
+}
+
+/// The terms of both procedures.
+fn put_both(
+    alloc: Global,
+    bank: &mut Bank,
+    old_context: &Context<'_>,
+    new_context: &Context<'_>,
+    old: &CoreProc,
+    new: &CoreProc,
+) -> Result<Sides, NoMemory>
+    ensures old { IfOk result (λ s. DenotesSide bank.new s.old (old_side (context_of old_context.now) (context_of new_context.now) old.now new.now)) }
+    ensures new { IfOk result (λ s. DenotesSide bank.new s.new (new_side (context_of old_context.now) (context_of new_context.now) old.now new.now)) }
+{
+    let old_count = input_count(old_context, old)?;
+    let new_count = input_count(new_context, new)?;
+    if new_count > u32::MAX - old_count {
+        return Err(NoMemory);
+    }
+    let calls = old_count + new_count;
+    let old_side = put_side(alloc, bank, old_context, old, 0, calls)?;
+    let next = old_side.body.next;
+    let new_side = put_side(alloc, bank, new_context, new, old_count, next)?;
+    Ok(Sides {
+        old: old_side,
+        new: new_side,
+    })
+}
+
+/// The bodies of two procedures, where both are there.
+pub(crate) fn put_sides(
+    alloc: Global,
+    bank: &mut Bank,
+    old_context: &Context<'_>,
+    new_context: &Context<'_>,
+    old: Option<&CoreProc>,
+    new: Option<&CoreProc>,
+) -> Result<Option<Sides>, NoMemory>
+    ensures { IfOk result (AreSides (context_of old_context.now) (context_of new_context.now) bank.new (option_copied old.entry) (option_copied new.entry)) }
+{
+    match old {
+        Some(old) => match new {
+            Some(new) => {
+                let sides = put_both(alloc, bank, old_context, new_context, old, new)?;
+                Ok(Some(sides))
+            }
+            None => Ok(None),
+        },
+        None => Ok(None),
+    }
 }
 
 /// The state that a side begins with.

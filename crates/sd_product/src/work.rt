@@ -1,12 +1,15 @@
 //! Two programs with their pairs and the candidates of each pair.
-ghost use Rattle.std.specs.Prelude.{◌≡◌, ◌<◌, IfOk, IfErr, OnOk, Some, None, length, slice_get};
+ghost use Rattle.std.specs.Prelude.{◌≡◌, ℕ, ◌<◌, ◌≤◌, ◌+◌, IfOk, IfErr, OnOk, Some, None, length, slice_get};
 ghost use Rattle.sd_core.specs.Formed.{WellFormed};
 ghost use Rattle.sd_match.specs.Pairs.{pairs_of};
 ghost use Rattle.sd_match.specs.Refusals.{refusal_of};
 ghost use Rattle.sd_cand.specs.Candidates.{all_candidates};
+ghost use Rattle.sd_vcgen.specs.Numbers.{context_of};
+ghost use Rattle.sd_product.specs.Query.{old_context, new_context};
 ghost use Rattle.sd_product.specs.Work as held;
 ghost use Rattle.sd_product.specs.Work.{IsHeld, IsAt, pairs_in, claims_in, work_of};
 ghost use Rattle.sd_product.specs.Claims.{claims_of, AreTables};
+ghost use Rattle.sd_product.specs.Bodies.{IsAbout, count_before};
 ghost use Rattle.sd_product.specs.Questions.{work_in, quiets_in, asked, IsQuestion, IsSorted};
 ghost use Rattle.sd_product.specs.WorkErrors.{Tells};
 
@@ -201,6 +204,20 @@ impl Work {
         self.places[candidate as usize]
     }
 
+    /// The number of a pair's first candidate, and the number after its last one.
+    pub fn numbers_of(&self, pair: u32) -> (u32, u32)
+        requires { pair < length (pairs_in self.now) }
+        ensures first { result.0 ≡ count_before self.now pair }
+        ensures end { result.1 ≡ count_before self.now (pair + 1) }
+        ensures ordered { result.0 ≤ result.1 }
+        ensures within { result.1 ≤ length (claims_in self.now) }
+        ensures own { (n : ℕ) → result.0 ≤ n → n < result.1 → IsAbout self.now n pair }
+    {
+        let first = self.first[pair as usize];
+        let count = self.candidates[pair as usize].len();
+        (first, first + count as u32)
+    }
+
     /// The pairs with their candidates, and the tables by which they are found.
     fn claims(&self) -> Claims<'_>
         ensures claims { claims_of result ≡ claims_in self.now }
@@ -211,6 +228,26 @@ impl Work {
             candidates: self.candidates.as_slice(),
             pair_of_old: self.pair_of_old.as_slice(),
             first: self.first.as_slice(),
+        }
+    }
+
+    /// The old program, with its quiet procedures.
+    pub(crate) fn old_context(&self) -> Context<'_>
+        ensures { context_of result ≡ old_context (work_of self.now.old self.now.new) (held.quiets_in self.now) }
+    {
+        Context {
+            program: &self.old,
+            quiet: self.old_quiet.as_slice(),
+        }
+    }
+
+    /// The new program, with its quiet procedures.
+    pub(crate) fn new_context(&self) -> Context<'_>
+        ensures { context_of result ≡ new_context (work_of self.now.old self.now.new) (held.quiets_in self.now) }
+    {
+        Context {
+            program: &self.new,
+            quiet: self.new_quiet.as_slice(),
         }
     }
 
@@ -227,14 +264,8 @@ impl Work {
     {
         let (pair, place) = self.candidate_place(candidate);
         Question {
-            old: Context {
-                program: &self.old,
-                quiet: self.old_quiet.as_slice(),
-            },
-            new: Context {
-                program: &self.new,
-                quiet: self.new_quiet.as_slice(),
-            },
+            old: self.old_context(),
+            new: self.new_context(),
             claims: self.claims(),
             table,
             pair: self.pairs.pair(pair),

@@ -1,26 +1,29 @@
 -- How one candidate is judged.
-use Rattle.std.proofs.Common.{◌≡◌, ◌≢◌, ◌∙◌, sym, ap, refl, subst, ℕ, suc, zero, ◌+◌, ◌<◌, ◌≤◌, Bool, true, false, List, [], ◌∷◌, ◌++◌, length, set, take, append_assoc, length-append, arith}
+use Rattle.std.proofs.Common.{◌≡◌, ◌≢◌, ◌∙◌, sym, ap, refl, subst, ℕ, suc, zero, ◌+◌, ◌-◌, ◌<◌, ◌≤◌, Bool, true, false, List, [], ◌∷◌, ◌++◌, length, set, take, append_assoc, length-append, arith}
 use Rattle.std.specs.Prelude.{Some, Result, Ok, Err, IfOk, MatchBool, ◌||◌, replicate, slice_get, Contains}
 use Rattle.std.specs.List.{AllByRecursion}
 use Rattle.std.proofs.lemmas.List.{map-append, take_more, take_all, get_or-replicate, length-take-le}
 use Rattle.std.proofs.lemmas.Option.{slice_get_within, slice_get-get_or, get_or_from_slice_get}
 use Rattle.std.proofs.Math.ListN.{length-set, length-replicate}
 use Rattle.sd_term.specs.Tree.{Tree}
-use Rattle.sd_term.specs.declared.cube.Cube.{Cube}
-use Rattle.sd_kernel.specs.OpenCube.{IsOpenCube}
+use Rattle.sd_cube.specs.OpenCube.{IsOpenCube}
+use Rattle.sd_cube.specs.Spent.{IsSpent}
 use Rattle.sd_kernel.specs.Proof.{Proves}
 use Rattle.sd_kernel.specs.declared.proved.Proved.{Proved}
 use Rattle.sd_search.specs.declared.search.Outcome.{Outcome}
-use Rattle.sd_search.specs.declared.search.Outcome.TheVariants.{Refuted, Open as Undecided}
-use Rattle.sd_search.specs.Outcome.{IfRefuted, IfOpen}
+use Rattle.sd_search.specs.declared.search.Outcome.TheVariants.{Refuted, Open as Undecided, Spent as SpentQuery}
+use Rattle.sd_search.specs.Outcome.{IfRefuted, IfOpen, IfSpent}
 use Rattle.sd_cand.specs.Words.{words_of}
-use Rattle.sd_product.specs.Work.{Held, claims_in, queries_under}
+use Rattle.sd_match.specs.declared.pair.Pair.{Pair}
+use Rattle.sd_product.specs.Work.{Held, pairs_in, claims_of, claims_in, queries_under}
+use Rattle.sd_product.specs.Bodies.{count_before}
+use Rattle.sd_rounds.specs.declared.settle.Finding.{Finding}
 use Rattle.sd_rounds.specs.declared.settle.Cause.{Cause}
-use Rattle.sd_rounds.specs.declared.settle.Cause.TheVariants.{Open}
+use Rattle.sd_rounds.specs.declared.settle.Cause.TheVariants.{Open, Spent}
 use Rattle.sd_rounds.specs.declared.settle.Death.{Death}
 use Rattle.sd_rounds.specs.Table.{cleared, live_from}
 use Rattle.sd_rounds.specs.Settled.{dead_of, IsCause, IsLegalDeath, AreLegal, IsProved, IsInductive, IsSettled}
-use Rattle.sd_rounds.specs.Sweep.{IsOpenAt, IsFinding, AreDead, AreProvedBelow, GoesOn}
+use Rattle.sd_rounds.specs.Sweep.{IsCauseAt, IsFinding, finding_of, AreDead, AreProvedBelow, GoesOn}
 
 -- ---- lists
 
@@ -115,35 +118,35 @@ length-live_from-set n (false ∷ t) (suc c) e = length-live_from-set (suc n) t 
 
 -- ---- deaths
 
-legal-snoc : (h : Held) (before : List ℕ) (ds : List Death) (d : Death) → AreLegal h before ds → IsLegalDeath h (before ++ dead_of ds) d → AreLegal h before (ds ++ d ∷ [])
-legal-snoc h before [] d a is = (subst (λ (b : List ℕ). IsLegalDeath h b d) (append_nil before) is, tt)
+legal-snoc : (leaves : ℕ) (h : Held) (before : List ℕ) (ds : List Death) (d : Death) → AreLegal leaves h before ds → IsLegalDeath leaves h (before ++ dead_of ds) d → AreLegal leaves h before (ds ++ d ∷ [])
+legal-snoc leaves h before [] d a is = (subst (λ (b : List ℕ). IsLegalDeath leaves h b d) (append_nil before) is, tt)
   where
     append_nil : (xs : List ℕ) → xs ++ [] ≡ xs
     append_nil [] = refl
     append_nil (x ∷ xs) = ap (λ ys. x ∷ ys) (append_nil xs)
-legal-snoc h before (e ∷ ds) d a is =
-    (a.0, legal-snoc h (before ++ e.candidate ∷ []) ds d a.1 (subst (λ (b : List ℕ). IsLegalDeath h b d) (sym (append_assoc before (e.candidate ∷ []) (dead_of ds))) is))
+legal-snoc leaves h before (e ∷ ds) d a is =
+    (a.0, legal-snoc leaves h (before ++ e.candidate ∷ []) ds d a.1 (subst (λ (b : List ℕ). IsLegalDeath leaves h b d) (sym (append_assoc before (e.candidate ∷ []) (dead_of ds))) is))
 
 -- before the first sweep
-pub none_dead : (h : Held) (table : List Bool) (deaths : List Death) → table ≡ replicate (length (claims_in h)) true → deaths ≡ [] → AreDead h table deaths
-none_dead h table deaths full none =
-    subst (λ (ds : List Death). AreDead h table ds) (sym none)
-    (subst (λ (t : List Bool). AreDead h t []) (sym full)
+pub none_dead : (leaves : ℕ) (h : Held) (table : List Bool) (deaths : List Death) → table ≡ replicate (length (claims_in h)) true → deaths ≡ [] → AreDead leaves h table deaths
+none_dead leaves h table deaths full none =
+    subst (λ (ds : List Death). AreDead leaves h table ds) (sym none)
+    (subst (λ (t : List Bool). AreDead leaves h t []) (sym full)
     (record { size = length-replicate (length (claims_in h)) true; table_is = refl; legal = tt; counted = let e = length-live_from-full 0 (length (claims_in h)) in omega (arith, e) }))
 
--- A live candidate dies of an open cube.
-pub cube_kills : (h : Held) (table table' : List Bool) (deaths deaths' : List Death) (d : Death) (cube : Cube) → AreDead h table deaths → slice_get table d.candidate ≡ Some true
-    → IsOpenAt (queries_under h table) d.candidate cube → d.cause ≡ Open cube → d.seen.items ≡ words_of table → table' ≡ set table d.candidate false → deaths' ≡ deaths ++ d ∷ [] → AreDead h table' deaths'
-cube_kills h table table' deaths deaths' d cube dead alive undecided caused seen cut added =
-    subst (λ (ds : List Death). AreDead h table' ds) (sym added)
-    (subst (λ (t : List Bool). AreDead h t (deaths ++ d ∷ [])) (sym cut)
+-- A live candidate dies of a cause.
+pub cause_kills : (leaves : ℕ) (h : Held) (table table' : List Bool) (deaths deaths' : List Death) (d : Death) → AreDead leaves h table deaths → slice_get table d.candidate ≡ Some true
+    → IsCauseAt leaves (queries_under h table) d.candidate d.cause → d.seen.items ≡ words_of table → table' ≡ set table d.candidate false → deaths' ≡ deaths ++ d ∷ [] → AreDead leaves h table' deaths'
+cause_kills leaves h table table' deaths deaths' d dead alive caused seen cut added =
+    subst (λ (ds : List Death). AreDead leaves h table' ds) (sym added)
+    (subst (λ (t : List Bool). AreDead leaves h t (deaths ++ d ∷ [])) (sym cut)
     (record {
       size = length-set table d.candidate false ∙ dead.size;
       table_is =
           ap (λ t. set t d.candidate false) dead.table_is
           ∙ (sym (cleared-snoc (replicate (length (claims_in h)) true) (dead_of deaths) d.candidate)
           ∙ ap (cleared (replicate (length (claims_in h)) true)) (sym (map-append (λ x. x.candidate) deaths (d ∷ []))));
-      legal = legal-snoc h [] deaths d dead.legal death;
+      legal = legal-snoc leaves h [] deaths d dead.legal death;
       counted =
           let more = length-append deaths (d ∷ []) in
           let less = length-live_from-set 0 table d.candidate alive in
@@ -151,7 +154,7 @@ cube_kills h table table' deaths deaths' d cube dead alive undecided caused seen
           omega (arith, more, less, same);
     }))
   where
-    death : IsLegalDeath h (dead_of deaths) d
+    death : IsLegalDeath leaves h (dead_of deaths) d
     death = record {
       seen = table;
       words = seen;
@@ -159,10 +162,10 @@ cube_kills h table table' deaths deaths' d cube dead alive undecided caused seen
         size = dead.size;
         held = λ c below none. ap (λ t. slice_get t c) dead.table_is ∙ (cleared-other (replicate (length (claims_in h)) true) (dead_of deaths) c none ∙ slice_get-replicate (length (claims_in h)) c below);
       };
-      facts = undecided.facts;
-      query = undecided.query;
+      facts = caused.facts;
+      query = caused.query;
       once = not_cleared (replicate (length (claims_in h)) true) (dead_of deaths) d.candidate (ap (λ t. slice_get t d.candidate) (sym dead.table_is) ∙ alive);
-      cause = subst (λ (x : Cause). IsCause undecided.facts x) (sym caused) undecided.is_open;
+      cause = caused.is_cause;
     }
 
 -- ---- proofs
@@ -207,36 +210,80 @@ module _ (queries : List (List Tree)) (table : List Bool) (n : ℕ) (proofs : Li
 -- ---- judging a candidate
 
 -- what the search found
-pub found : {E : Type 0} (queries : List (List Tree)) (n : ℕ) (facts : List Tree) (r : Result Outcome E) → slice_get queries n ≡ Some facts
-    → IfOk r (λ o. IfRefuted o (λ proof. Proves facts proof.steps)) → IfOk r (λ o. IfOpen o (λ cube. IsOpenCube facts cube)) → IfOk r (IsFinding queries n)
-found queries n facts (Err e) query refuted undecided = tt
-found queries n facts (Ok (Refuted proof)) query refuted undecided = record { facts = facts; query = query; how = refuted }
-found queries n facts (Ok (Undecided cube)) query refuted undecided = record { facts = facts; query = query; is_open = undecided }
+pub found : (leaves : ℕ) (queries : List (List Tree)) (n : ℕ) (facts : List Tree) (o : Outcome) (f : Finding) → slice_get queries n ≡ Some facts → f ≡ finding_of leaves o
+    → IfRefuted o (λ proof. Proves facts proof.steps) → IfOpen o (λ cube. IsOpenCube facts cube) → IfSpent o (λ cubes. IsSpent facts cubes leaves) → IsFinding leaves queries n f
+found leaves queries n facts o f query is refuted undecided spent = subst (λ (x : Finding). IsFinding leaves queries n x) (sym is) (go o refuted undecided spent)
+  where
+    go : (o : Outcome) → IfRefuted o (λ proof. Proves facts proof.steps) → IfOpen o (λ cube. IsOpenCube facts cube) → IfSpent o (λ cubes. IsSpent facts cubes leaves) → IsFinding leaves queries n (finding_of leaves o)
+    go (Refuted proof) refuted undecided spent = record { facts = facts; query = query; how = refuted }
+    go (Undecided cube) refuted undecided spent = record { facts = facts; query = query; is_cause = undecided }
+    go (SpentQuery cubes) refuted undecided spent = record { facts = facts; query = query; is_cause = (refl, (cubes, spent)) }
 
 -- a dead candidate
-pub passes_dead : (h : Held) (n : ℕ) (table : List Bool) (deaths : List Death) (proofs : List Proved) → slice_get table n ≡ Some false → GoesOn h n table table deaths deaths proofs proofs
+pub passes_dead : (h : Held) (n : ℕ) (table : List Bool) (deaths : List Death) (proofs : List Proved) → slice_get table n ≡ Some false → GoesOn h n (n + 1) table table deaths deaths proofs proofs
 passes_dead h n table deaths proofs dead = record { table_stays = refl; deaths_stay = refl; proved = dead_passed (queries_under h table) table n proofs dead }
 
 -- a live one with a proof
 pub passes_live : (h : Held) (n : ℕ) (table : List Bool) (deaths : List Death) (proofs proofs' : List Proved) (p : Proved) → p.candidate ≡ n → slice_get table n ≡ Some true
-    → IsProved (queries_under h table) p → proofs' ≡ proofs ++ p ∷ [] → GoesOn h n table table deaths deaths proofs proofs'
+    → IsProved (queries_under h table) p → proofs' ≡ proofs ++ p ∷ [] → GoesOn h n (n + 1) table table deaths deaths proofs proofs'
 passes_live h n table deaths proofs proofs' p named alive one added = record { table_stays = refl; deaths_stay = refl; proved = live_passed (queries_under h table) table n proofs p proofs' named alive one added }
 
--- ---- a sweep
+-- ---- the candidates of a pair
 
-module _ (h : Held) (n start : ℕ) (table table' : List Bool) (deaths deaths' : List Death) (proofs proofs' : List Proved) where
-  -- there are no fewer deaths afterwards
-  pub grows : (b : Bool) → start ≤ length deaths → MatchBool b (length deaths' ≡ length deaths + 1) (GoesOn h n table table' deaths deaths' proofs proofs') → start ≤ length deaths'
+-- none of them is live
+dead_between : (queries : List (List Tree)) (table : List Bool) (n k : ℕ) (proofs : List Proved) → ((c : ℕ) → n ≤ c → c < n + k → slice_get table c ≡ Some false) → IsInductive queries (take n table) proofs → IsInductive queries (take (n + k) table) proofs
+dead_between queries table n zero proofs dead proved = let e : n ≡ n + 0 = omega arith in subst (λ (m : ℕ). IsInductive queries (take m table) proofs) e proved
+dead_between queries table n (suc k) proofs dead proved =
+    let e : (n + k) + 1 ≡ n + suc k = omega arith in
+    let before = dead_between queries table n k proofs (λ c lo hi. dead c lo (omega arith)) proved in
+    subst (λ (m : ℕ). IsInductive queries (take m table) proofs) e (dead_passed queries table (n + k) proofs (dead (n + k) (omega arith) (omega arith)) before)
+
+pub passes_none : (h : Held) (n m : ℕ) (table : List Bool) (deaths : List Death) (proofs : List Proved) → n ≤ m → ((c : ℕ) → n ≤ c → c < m → slice_get table c ≡ Some false) → GoesOn h n m table table deaths deaths proofs proofs
+passes_none h n m table deaths proofs ordered dead =
+    let e : n + (m - n) ≡ m = omega arith in record {
+      table_stays = refl;
+      deaths_stay = refl;
+      proved = λ before. subst (λ (k : ℕ). AreProvedBelow h k table proofs) e (dead_between (queries_under h table) table n (m - n) proofs (λ c lo hi. dead c lo (omega arith)) before);
+    }
+
+-- before the first of them
+pub goes_nowhere : (h : Held) (n m : ℕ) (table : List Bool) (deaths : List Death) (proofs : List Proved) → n ≡ m → GoesOn h n m table table deaths deaths proofs proofs
+goes_nowhere h n m table deaths proofs e = record { table_stays = refl; deaths_stay = refl; proved = subst (λ (k : ℕ). AreProvedBelow h k table proofs) e }
+
+module _ (h : Held) (n m k : ℕ) (table0 table1 table2 : List Bool) (deaths0 deaths1 deaths2 : List Death) (proofs0 proofs1 proofs2 : List Proved) where
+  goes_then : GoesOn h n m table0 table1 deaths0 deaths1 proofs0 proofs1 → GoesOn h m k table1 table2 deaths1 deaths2 proofs1 proofs2 → GoesOn h n k table0 table2 deaths0 deaths2 proofs0 proofs2
+  goes_then a b = record {
+    table_stays = b.table_stays ∙ a.table_stays;
+    deaths_stay = b.deaths_stay ∙ a.deaths_stay;
+    proved = λ before. subst (λ (t : List Bool). AreProvedBelow h k t proofs2) a.table_stays (b.proved (subst (λ (t : List Bool). AreProvedBelow h m t proofs1) (sym a.table_stays) (a.proved before)));
+  }
+
+  -- there are no fewer deaths after one of them
+  pub grows : (b : Bool) → length deaths0 ≤ length deaths1 → MatchBool b (length deaths2 ≡ length deaths1 + 1) (GoesOn h m k table1 table2 deaths1 deaths2 proofs1 proofs2) → length deaths0 ≤ length deaths2
   grows true below died = omega arith
   grows false below goes = let e = ap length goes.deaths_stay in omega (arith, e)
 
-  -- one candidate further
-  pub sweeps_on : (a b : Bool) → start ≤ length deaths → MatchBool a (start < length deaths) (AreProvedBelow h n table proofs) → MatchBool b (length deaths' ≡ length deaths + 1) (GoesOn h n table table' deaths deaths' proofs proofs')
-      → MatchBool (a || b) (start < length deaths') (AreProvedBelow h (n + 1) table' proofs')
-  sweeps_on true true below grown died = omega arith
-  sweeps_on true false below grown goes = let e = ap length goes.deaths_stay in omega (arith, e)
-  sweeps_on false true below proved died = omega arith
-  sweeps_on false false below proved goes = subst (λ (t : List Bool). AreProvedBelow h (n + 1) t proofs') (sym goes.table_stays) (goes.proved proved)
+  -- one of them further
+  pub goes_on : (a b : Bool) → length deaths0 ≤ length deaths1 → MatchBool a (length deaths0 < length deaths1) (GoesOn h n m table0 table1 deaths0 deaths1 proofs0 proofs1) → MatchBool b (length deaths2 ≡ length deaths1 + 1) (GoesOn h m k table1 table2 deaths1 deaths2 proofs1 proofs2)
+      → MatchBool (a || b) (length deaths0 < length deaths2) (GoesOn h n k table0 table2 deaths0 deaths2 proofs0 proofs2)
+  goes_on true true below grown died = omega arith
+  goes_on true false below grown goes = let e = ap length goes.deaths_stay in omega (arith, e)
+  goes_on false true below before died = omega arith
+  goes_on false false below before goes = goes_then before goes
+
+-- ---- a sweep
+
+-- one pair further
+pub sweeps_on : (h : Held) (n m start : ℕ) (table table' : List Bool) (deaths deaths' : List Death) (proofs proofs' : List Proved) (a b : Bool)
+    → start ≤ length deaths → MatchBool a (start < length deaths) (AreProvedBelow h n table proofs) → MatchBool b (length deaths < length deaths') (GoesOn h n m table table' deaths deaths' proofs proofs') → length deaths ≤ length deaths'
+    → MatchBool (a || b) (start < length deaths') (AreProvedBelow h m table' proofs')
+sweeps_on h n m start table table' deaths deaths' proofs proofs' true b below grown died more = omega arith
+sweeps_on h n m start table table' deaths deaths' proofs proofs' false true below proved died more = omega arith
+sweeps_on h n m start table table' deaths deaths' proofs proofs' false false below proved goes more = subst (λ (t : List Bool). AreProvedBelow h m t proofs') (sym goes.table_stays) (goes.proved proved)
+
+-- all pairs have been passed where so many have
+pub passed_all : (h : Held) (pairs : ℕ) → length (pairs_in h) ≤ pairs → count_before h pairs ≡ length (claims_in h)
+passed_all h pairs ends = ap (λ (ps : List Pair). length (claims_of ps)) (take_all pairs (pairs_in h) ends)
 
 -- at its end
 pub swept : (h : Held) (n : ℕ) (table : List Bool) (proofs : List Proved) (b : Bool) (P : Type 0) → n ≡ length table → MatchBool b P (AreProvedBelow h n table proofs) → MatchBool b P (IsInductive (queries_under h table) table proofs)
@@ -244,10 +291,10 @@ swept h n table proofs true P ends grown = grown
 swept h n table proofs false P ends proved = all_proved (queries_under h table) table n proofs ends proved
 
 -- fewer are live where more have died
-pub fewer_live : (h : Held) (table table' : List Bool) (deaths deaths' : List Death) → AreDead h table deaths → AreDead h table' deaths' → length deaths < length deaths' → length (live_from 0 table') < length (live_from 0 table)
-fewer_live h table table' deaths deaths' before after more = let a = before.counted in let b = after.counted in omega (arith, a, b)
+pub fewer_live : (leaves : ℕ) (h : Held) (table table' : List Bool) (deaths deaths' : List Death) → AreDead leaves h table deaths → AreDead leaves h table' deaths' → length deaths < length deaths' → length (live_from 0 table') < length (live_from 0 table)
+fewer_live leaves h table table' deaths deaths' before after more = let a = before.counted in let b = after.counted in omega (arith, a, b)
 
 -- ---- what is settled
 
-pub are_settled : (h : Held) (table : List Bool) (deaths : List Death) (proofs : List Proved) → AreDead h table deaths → IsInductive (queries_under h table) table proofs → IsSettled h table deaths proofs
-are_settled h table deaths proofs dead proved = record { size = dead.size; table_is = dead.table_is; legal = dead.legal; inductive = proved }
+pub are_settled : (leaves : ℕ) (h : Held) (table : List Bool) (deaths : List Death) (proofs : List Proved) → AreDead leaves h table deaths → IsInductive (queries_under h table) table proofs → IsSettled leaves h table deaths proofs
+are_settled leaves h table deaths proofs dead proved = record { size = dead.size; table_is = dead.table_is; legal = dead.legal; inductive = proved }

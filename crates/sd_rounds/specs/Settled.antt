@@ -2,11 +2,13 @@
 use Rattle.std.specs.Prelude.{◌≡◌, ℕ, Bool, true, List, [], ◌∷◌, ◌++◌, Some, map, length, replicate, slice_get, Contains}
 use Rattle.sd_term.specs.Tree.{Tree}
 use Rattle.sd_cand.specs.Words.{words_of}
-use Rattle.sd_kernel.specs.OpenCube.{IsOpenCube}
+use Rattle.sd_term.specs.declared.cube.Cube.{Cube}
+use Rattle.sd_cube.specs.OpenCube.{IsOpenCube}
+use Rattle.sd_cube.specs.Spent.{IsSpent}
 use Rattle.sd_kernel.specs.declared.proved.Proved.{Proved}
 use Rattle.sd_product.specs.Work.{Held, claims_in, queries_under}
 use Rattle.sd_rounds.specs.declared.settle.Cause.{Cause}
-use Rattle.sd_rounds.specs.declared.settle.Cause.TheVariants.{Open}
+use Rattle.sd_rounds.specs.declared.settle.Cause.TheVariants.{Open, Spent}
 use Rattle.sd_rounds.specs.declared.settle.Death.{Death}
 pub use Rattle.sd_product.specs.Inductive.{proved_of, IsHow, IsProved, IsInductive}
 use Rattle.sd_rounds.specs.Table.{cleared, HoldsAllBut}
@@ -15,29 +17,30 @@ use Rattle.sd_rounds.specs.Table.{cleared, HoldsAllBut}
 abbrev pub dead_of : List Death → List ℕ
 dead_of = map (λ d. d.candidate)
 
--- why the candidate with this query could die
-abbrev pub IsCause : List Tree → Cause → Type 0
-IsCause facts (Open cube) = IsOpenCube facts cube
+-- why the candidate with this query could die: it is open, or a search that may close so many cubes was spent
+abbrev pub IsCause : ℕ → List Tree → Cause → Type 0
+IsCause leaves facts (Open cube) = IsOpenCube facts cube
+IsCause leaves facts (Spent n) = (n ≡ leaves) × ((cubes : List Cube) × IsSpent facts cubes leaves)
 
 -- The candidate did not die before, and under the table that was seen its query isn't refuted. That table held all that had not died.
-pub record IsLegalDeath (h : Held) (before : List ℕ) (d : Death) : Type 0 where
+pub record IsLegalDeath (leaves : ℕ) (h : Held) (before : List ℕ) (d : Death) : Type 0 where
   pub seen : List Bool
   pub words : d.seen.items ≡ words_of seen
   pub held : HoldsAllBut (length (claims_in h)) before seen
   pub facts : List Tree
   pub query : slice_get (queries_under h seen) d.candidate ≡ Some facts
   pub once : Contains before d.candidate → ⊥
-  pub cause : IsCause facts d.cause
+  pub cause : IsCause leaves facts d.cause
 
 -- deaths in order, of which the first comes after these
-abbrev pub AreLegal : Held → List ℕ → List Death → Type 0
-AreLegal h before [] = Unit {0}
-AreLegal h before (d ∷ ds) = IsLegalDeath h before d × AreLegal h (before ++ d.candidate ∷ []) ds
+abbrev pub AreLegal : ℕ → Held → List ℕ → List Death → Type 0
+AreLegal leaves h before [] = Unit {0}
+AreLegal leaves h before (d ∷ ds) = IsLegalDeath leaves h before d × AreLegal leaves h (before ++ d.candidate ∷ []) ds
 
 -- The table is the full one less the candidates of the deaths, which are legal, and each live candidate has a proof of its query under
 -- this table.
-pub record IsSettled (h : Held) (table : List Bool) (deaths : List Death) (proofs : List Proved) : Type 0 where
+pub record IsSettled (leaves : ℕ) (h : Held) (table : List Bool) (deaths : List Death) (proofs : List Proved) : Type 0 where
   pub size : length table ≡ length (claims_in h)
   pub table_is : table ≡ cleared (replicate (length (claims_in h)) true) (dead_of deaths)
-  pub legal : AreLegal h [] deaths
+  pub legal : AreLegal leaves h [] deaths
   pub inductive : IsInductive (queries_under h table) table proofs

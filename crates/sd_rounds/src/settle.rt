@@ -1,14 +1,14 @@
-ghost use Rattle.std.specs.Prelude.{◌≡◌, ◌<◌, ◌≤◌, ◌+◌, suc, IfOk, OnOk, MatchBool, length};
-ghost use Rattle.sd_product.specs.Boolean.{AreBoolean};
-ghost use Rattle.sd_product.specs.Work.{claims_in, queries_under};
+ghost use Rattle.std.specs.Prelude.{◌≡◌, ◌<◌, ◌≤◌, ◌+◌, ℕ, suc, true, false, IfOk, OnOk, IsTrue, MatchBool, Some, length, slice_get};
+ghost use Rattle.sd_product.specs.Bodies.{IsAbout, count_before};
+ghost use Rattle.sd_product.specs.Work.{claims_in, pairs_in, queries_under};
 ghost use Rattle.sd_rounds.specs.Settled.{IsInductive, IsSettled};
-ghost use Rattle.sd_rounds.specs.Sweep.{AreDead, GoesOn, IsFinding};
+ghost use Rattle.sd_rounds.specs.Sweep.{AreDead, GoesOn, IsFinding, finding_of};
 
 use sd_base::NoMemory;
 use sd_cand::LiveTable;
-use sd_kernel::{How, Proved};
-use sd_product::laws::queries_are_boolean;
-use sd_product::{Work, query};
+use sd_kernel::{How, Proof, Proved};
+use sd_product::laws::queries_are_truths;
+use sd_product::{PairBodies, Work};
 use sd_search::{Outcome, refute};
 use sd_term::Cube;
 use std::alloc::Global;
@@ -18,6 +18,8 @@ use std::alloc::Global;
 pub enum Cause {
     /// Values for the terms of its query that make all the facts true.
     Open(Cube),
+    /// So many cubes were closed, and don't cover everything.
+    Spent(u32),
 }
 
 /// A candidate that was dropped, with the words of the table that were seen when it was judged.
@@ -38,52 +40,85 @@ pub struct Settled {
     pub sweeps: u32,
 }
 
-/// Looks for a proof of a candidate's query under the table.
-fn judge(alloc: Global, work: &Work, table: &LiveTable, candidate: u32) -> Result<Outcome, NoMemory>
-    requires boolean { AreBoolean work.now }
-    requires within { candidate < length (claims_in work.now) }
-    requires size { length table.now ≡ length (claims_in work.now) }
-    ensures { IfOk result (IsFinding (queries_under work.now table.now) candidate) }
-{
-    let query = query(alloc, work, table, candidate)?;
-    work.is_held();
-    queries_are_boolean();
-    refute(alloc, &query)
+// ---- one candidate
+
+/// What judging a candidate finds.
+#[derive(Drop)]
+enum Finding {
+    Proved(Proof),
+    Dropped(Cause),
 }
 
-/// Judges a candidate, if it is live, and drops it, if its query isn't refuted. True where it was dropped.
+/// What a search with so many leaves tells of a candidate.
+fn finding_of(outcome: Outcome, leaves: u32) -> Finding
+    ensures { result ≡ finding_of leaves outcome }
+{
+    match outcome {
+        Outcome::Refuted(proof) => Finding::Proved(proof),
+        Outcome::Open(cube) => Finding::Dropped(Cause::Open(cube)),
+        Outcome::Spent(_) => Finding::Dropped(Cause::Spent(leaves)),
+    }
+}
+
+/// Looks for a proof of the query of one of a pair's candidates under the table, over the bodies of the pair.
+fn judge(
+    alloc: Global,
+    work: &Work,
+    bodies: &PairBodies<'_>,
+    table: &LiveTable,
+    candidate: u32,
+    leaves: u32,
+) -> Result<Finding, NoMemory>
+    requires leaves { 1 ≤ leaves }
+    requires bodies { bodies.now.work ≡ work.now }
+    requires about { IsAbout work.now candidate bodies.now.pair }
+    requires size { length table.now ≡ length (claims_in work.now) }
+    ensures { IfOk result (IsFinding leaves (queries_under work.now table.now) candidate) }
+{
+    let query = bodies.query(alloc, table, candidate)?;
+    work.is_held();
+    queries_are_truths();
+    let outcome = refute(alloc, &query, leaves)?;
+    Ok(finding_of(outcome, leaves))
+}
+
+/// Judges one of a pair's candidates, if it is live, and drops it, if its query isn't refuted. True where it was dropped.
 fn visit(
     alloc: Global,
     work: &Work,
+    bodies: &PairBodies<'_>,
     settled: &mut Settled,
     candidate: u32,
+    leaves: u32,
 ) -> Result<bool, NoMemory>
-    requires boolean { AreBoolean work.now }
+    requires leaves { 1 ≤ leaves }
+    requires bodies { bodies.now.work ≡ work.now }
     requires within { candidate < length (claims_in work.now) }
-    requires dead { AreDead work.now settled.old.table settled.old.deaths.items }
-    ensures dead { OnOk result (AreDead work.now settled.new.table settled.new.deaths.items) }
+    requires about { IsAbout work.now candidate bodies.now.pair }
+    requires dead { AreDead leaves work.now settled.old.table settled.old.deaths.items }
+    ensures dead { OnOk result (AreDead leaves work.now settled.new.table settled.new.deaths.items) }
     ensures sweeps { settled.new.sweeps ≡ settled.old.sweeps }
     ensures dropped { IfOk result (λ dropped. MatchBool dropped
         (length settled.new.deaths.items ≡ length settled.old.deaths.items + 1)
-        (GoesOn work.now candidate settled.old.table settled.new.table settled.old.deaths.items settled.new.deaths.items settled.old.proofs.items settled.new.proofs.items)) }
+        (GoesOn work.now candidate (candidate + 1) settled.old.table settled.new.table settled.old.deaths.items settled.new.deaths.items settled.old.proofs.items settled.new.proofs.items)) }
 {
     if !settled.table.get(candidate) {
         return Ok(false);
     }
-    match judge(alloc, work, &settled.table, candidate)? {
-        Outcome::Refuted(proof) => {
+    match judge(alloc, work, bodies, &settled.table, candidate, leaves)? {
+        Finding::Proved(proof) => {
             settled.proofs.push(Proved {
                 candidate,
                 how: How::Steps(proof),
             })?;
             Ok(false)
         }
-        Outcome::Open(cube) => {
+        Finding::Dropped(cause) => {
             let seen = settled.table.words(alloc)?;
             settled.deaths.push(Death {
                 candidate,
                 seen,
-                cause: Cause::Open(cube),
+                cause,
             })?;
             settled.table.clear(candidate);
             Ok(true)
@@ -91,12 +126,62 @@ fn visit(
     }
 }
 
-/// Judges the live candidates in ascending order, each under the table as it stands then. True where one was dropped; else
+// ---- one pair
+
+/// Whether one of the candidates from `first` on and before `end` is live.
+fn any_live(table: &LiveTable, first: u32, end: u32) -> bool
+    requires { end ≤ length table.now }
+    ensures live { IsTrue result → (c : ℕ) × (first ≤ c) × (c < end) × (slice_get table.now c ≡ Some true) }
+    ensures none { result ≡ false → (c : ℕ) → first ≤ c → c < end → slice_get table.now c ≡ Some false }
+{
+    'numbers: for candidate in first..end {
+        if table.get(candidate) {
+            return true;
+        }
+    }
+    false
+}
+
+/// Judges the live candidates of a pair in ascending order, each under the table as it stands then. The bodies of the pair are turned
+/// into terms once, and where no candidate is live they aren't. True where one was dropped; else the proofs of the live ones follow
+/// those of the pairs before.
+fn sweep_pair(
+    alloc: Global,
+    work: &Work,
+    settled: &mut Settled,
+    pair: u32,
+    leaves: u32,
+) -> Result<bool, NoMemory>
+    requires leaves { 1 ≤ leaves }
+    requires pair { pair < length (pairs_in work.now) }
+    requires dead { AreDead leaves work.now settled.old.table settled.old.deaths.items }
+    ensures dead { OnOk result (AreDead leaves work.now settled.new.table settled.new.deaths.items) }
+    ensures sweeps { settled.new.sweeps ≡ settled.old.sweeps }
+    ensures dropped { IfOk result (λ dropped. MatchBool dropped
+        (length settled.old.deaths.items < length settled.new.deaths.items)
+        (GoesOn work.now (count_before work.now pair) (count_before work.now (pair + 1)) settled.old.table settled.new.table settled.old.deaths.items settled.new.deaths.items settled.old.proofs.items settled.new.proofs.items)) }
+    ensures grown { OnOk result (length settled.old.deaths.items ≤ length settled.new.deaths.items) }
+{
+    let (first, end) = work.numbers_of(pair);
+    if !any_live(&settled.table, first, end) {
+        return Ok(false);
+    }
+    let bodies = PairBodies::new(alloc, work, pair)?;
+    let mut dropped = false;
+    'candidates: for candidate in first..end {
+        dropped |= visit(alloc, work, &bodies, settled, candidate, leaves)?;
+    }
+    Ok(dropped)
+}
+
+// ---- all pairs
+
+/// Judges the live candidates in ascending order, pair by pair, each under the table as it stands then. True where one was dropped; else
 /// the proofs are those of the live candidates.
-fn sweep(alloc: Global, work: &Work, settled: &mut Settled) -> Result<bool, NoMemory>
-    requires boolean { AreBoolean work.now }
-    requires dead { AreDead work.now settled.old.table settled.old.deaths.items }
-    ensures dead { OnOk result (AreDead work.now settled.new.table settled.new.deaths.items) }
+fn sweep(alloc: Global, work: &Work, settled: &mut Settled, leaves: u32) -> Result<bool, NoMemory>
+    requires leaves { 1 ≤ leaves }
+    requires dead { AreDead leaves work.now settled.old.table settled.old.deaths.items }
+    ensures dead { OnOk result (AreDead leaves work.now settled.new.table settled.new.deaths.items) }
     ensures sweeps { settled.new.sweeps ≡ settled.old.sweeps }
     ensures dropped { IfOk result (λ dropped. MatchBool dropped
         (length settled.old.deaths.items < length settled.new.deaths.items)
@@ -105,8 +190,8 @@ fn sweep(alloc: Global, work: &Work, settled: &mut Settled) -> Result<bool, NoMe
 {
     settled.proofs.clear();
     let mut dropped = false;
-    'candidates: for candidate in 0..work.count() {
-        dropped |= visit(alloc, work, settled, candidate)?;
+    'each: for pair in 0..work.pairs().len() {
+        dropped |= sweep_pair(alloc, work, settled, pair, leaves)?;
     }
     Ok(dropped)
 }
@@ -123,9 +208,9 @@ fn one_more(sweeps: u32) -> Result<u32, NoMemory>
 
 /// Settles the candidates of two programs: sweeps over them, from all on, until a sweep drops none. More sweeps than a
 /// `u32` holds are out of memory.
-pub fn settle_one(alloc: Global, work: &Work) -> Result<Settled, NoMemory>
-    requires { AreBoolean work.now }
-    ensures settled { IfOk result (λ s. IsSettled work.now s.table s.deaths.items s.proofs.items) }
+pub fn settle_one(alloc: Global, work: &Work, leaves: u32) -> Result<Settled, NoMemory>
+    requires { 1 ≤ leaves }
+    ensures settled { IfOk result (λ s. IsSettled leaves work.now s.table s.deaths.items s.proofs.items) }
     ensures sweeps { IfOk result (λ s. (s.sweeps ≤ suc (length s.deaths.items)) × (1 ≤ s.sweeps)) }
 {
     let mut settled = Settled {
@@ -134,7 +219,7 @@ pub fn settle_one(alloc: Global, work: &Work) -> Result<Settled, NoMemory>
         proofs: Vec::new(alloc),
         sweeps: 1,
     };
-    'sweeps: while sweep(alloc, work, &mut settled)? {
+    'sweeps: while sweep(alloc, work, &mut settled, leaves)? {
         settled.sweeps = one_more(settled.sweeps)?;
     }
     Ok(settled)

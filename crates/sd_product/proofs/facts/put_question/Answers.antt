@@ -1,11 +1,36 @@
-use Rattle.std.proofs.Common.{subst}
-use Rattle.sd_vcgen.specs.Numbers.{DenoteAll}
-use Rattle.sd_product.specs.Query.{query_by, query_of}
-use Rattle.sd_product.specs.Questions.{work_in, quiets_in, asked}
+use Rattle.std.proofs.Common.{List, subst}
+use Rattle.std.specs.Prelude.{IfOk, slice_get}
+use Rattle.sd_term.specs.Tree.{Tree}
+use Rattle.sd_vcgen.specs.Numbers.{DenoteAll, context_of}
+use Rattle.sd_product.specs.Query.{query_of}
+use Rattle.sd_product.specs.Questions.{work_in, quiets_in, asked, AreSidesFor}
+use Rattle.sd_product.proofs.BodyLemmas.{sides_within, query_over, query_without}
 use Rattle.sd_product.proofs.facts.put_question.Goals as goal
 
-pub returns : goal.returns
-unfolding query_of
-returns c =
+pub put_facts-requires-clause-old : goal.put_facts-requires-clause-old
+put_facts-requires-clause-old c =
     let q = c.args.question.now in
-    subst (DenoteAll c.put_found.new.bank c.in_ok-facts.facts) (λ i. query_by (work_in q) (quiets_in q) q.table.now (asked q) (c.get-old.ensures.value i) (c.get-new.ensures.value i)) c.in_ok-facts.ensures
+    let sides = subst (AreSidesFor q c.args.bank.now) c.in-Some.is c.requires.sides in
+    (sides_within (context_of q.old) (context_of q.new) c.args.bank.now (slice_get q.old.program.now.procs q.pair.now.old) (slice_get q.new.program.now.procs q.pair.now.new) c.in-Some.sides sides).0
+
+pub put_facts-requires-clause-new : goal.put_facts-requires-clause-new
+put_facts-requires-clause-new c =
+    let q = c.args.question.now in
+    let sides = subst (AreSidesFor q c.args.bank.now) c.in-Some.is c.requires.sides in
+    (sides_within (context_of q.old) (context_of q.new) c.args.bank.now (slice_get q.old.program.now.procs q.pair.now.old) (slice_get q.new.program.now.procs q.pair.now.new) c.in-Some.sides sides).1
+
+pub returns-in-Some : goal.returns-in-Some
+unfolding query_of
+returns-in-Some c =
+    let q = c.args.question.now in
+    let sides = subst (AreSidesFor q c.args.bank.now) c.in-Some.is c.requires.sides in
+    subst (λ (facts : List Tree). IfOk c.put_facts.result (λ ids. DenoteAll c.put_facts.new.bank ids facts))
+    (query_over (work_in q) (quiets_in q) q.table.now (asked q) c.args.bank.now (slice_get q.old.program.now.procs q.pair.now.old) (slice_get q.new.program.now.procs q.pair.now.new) c.in-Some.sides sides) c.put_facts.ensures
+
+pub returns-in-None : goal.returns-in-None
+unfolding query_of
+returns-in-None c =
+    let q = c.args.question.now in
+    let sides = subst (AreSidesFor q c.args.bank.now) c.in-None.is c.requires.sides in
+    subst (DenoteAll c.args.bank.now c.no_facts.result)
+    (query_without (work_in q) (quiets_in q) q.table.now (asked q) c.args.bank.now (context_of q.old) (context_of q.new) (slice_get q.old.program.now.procs q.pair.now.old) (slice_get q.new.program.now.procs q.pair.now.new) sides) c.no_facts.ensures

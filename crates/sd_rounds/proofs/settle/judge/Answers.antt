@@ -1,11 +1,16 @@
-use Rattle.sd_kernel.specs.OpenCube.{AllBoolean}
-use Rattle.sd_product.specs.Work.{queries_under}
+use Rattle.std.proofs.Common.{◌≡◌, subst}
+use Rattle.std.specs.Prelude.{Some, slice_get}
+use Rattle.sd_product.specs.TruthQueries.{AreTruths}
+use Rattle.sd_product.specs.Work.{Held, queries_under}
 use Rattle.sd_rounds.proofs.Settling.{all_at, found}
 use Rattle.sd_rounds.proofs.settle.judge.Goals as goal
 
-pub refute-requires : goal.refute-requires
-refute-requires c =
-    all_at AllBoolean (queries_under c.args.work.now c.args.table.now) c.args.candidate _ (c.queries_are_boolean.ensures c.args.work.now c.is_held.ensures c.requires.boolean c.args.table.now) c.in_ok-query.ensures
+pub refute-requires-clause-truths : goal.refute-requires-clause-truths
+refute-requires-clause-truths c =
+    let query = subst (λ (h : Held). slice_get (queries_under h c.args.table.now) c.args.candidate ≡ Some c.in_ok-query.query) c.requires.bodies c.in_ok-query.ensures in
+    all_at AreTruths (queries_under c.args.work.now c.args.table.now) c.args.candidate c.in_ok-query.query (c.queries_are_truths.ensures c.args.work.now c.is_held.ensures c.args.table.now) query
 
 pub returns : goal.returns
-returns c = found (queries_under c.args.work.now c.args.table.now) c.args.candidate _ _ c.in_ok-query.ensures c.refute.ensures.refuted c.refute.ensures.cube
+returns c =
+    let query = subst (λ (h : Held). slice_get (queries_under h c.args.table.now) c.args.candidate ≡ Some c.in_ok-query.query) c.requires.bodies c.in_ok-query.ensures in
+    found c.args.leaves (queries_under c.args.work.now c.args.table.now) c.args.candidate c.in_ok-query.query _ _ query c.finding_of.ensures c.in_ok-outcome.ensures.refuted c.in_ok-outcome.ensures.cube c.in_ok-outcome.ensures.spent

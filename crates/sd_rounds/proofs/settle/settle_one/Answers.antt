@@ -4,7 +4,7 @@ use Rattle.sd_rounds.proofs.Settling.{none_dead, fewer_live, are_settled}
 use Rattle.sd_rounds.proofs.settle.settle_one.Goals as goal
 
 pub sweeps-init : goal.sweeps-init
-sweeps-init c = record { dead = none_dead c.args.work.now _ _ (c.in_ok-full.ensures ∙ ap (λ (n : ℕ). replicate n true) c.count.ensures) c.new.ensures.items; first = omega arith; sweeps = omega arith }
+sweeps-init c = record { dead = none_dead c.args.leaves c.args.work.now _ _ (c.in_ok-full.ensures ∙ ap (λ (n : ℕ). replicate n true) c.count.ensures) c.new.ensures.items; first = omega arith; sweeps = omega arith }
 
 pub sweeps-preserved : goal.sweeps-preserved
 sweeps-preserved c =
@@ -17,11 +17,11 @@ sweeps-preserved c =
 
 pub sweeps-smaller : goal.sweeps-smaller
 sweeps-smaller c =
-    fewer_live c.args.work.now c.sweeps.settled.table c.sweep.new.settled.table c.sweeps.settled.deaths.items c.sweep.new.settled.deaths.items c.sweeps.invariant.dead c.in_ok-sweep.ensures.dead
+    fewer_live c.args.leaves c.args.work.now c.sweeps.settled.table c.sweep.new.settled.table c.sweeps.settled.deaths.items c.sweep.new.settled.deaths.items c.sweeps.invariant.dead c.in_ok-sweep.ensures.dead
     (rw c.if-branch.true at c.in_ok-sweep.ensures.dropped)
 
 pub returns-clause-settled : goal.returns-clause-settled
-returns-clause-settled c = are_settled c.args.work.now _ _ _ c.in_ok-sweep.ensures.dead (rw c.if-branch.false at c.in_ok-sweep.ensures.dropped)
+returns-clause-settled c = are_settled c.args.leaves c.args.work.now _ _ _ c.in_ok-sweep.ensures.dead (rw c.if-branch.false at c.in_ok-sweep.ensures.dropped)
 
 pub returns-clause-sweeps : goal.returns-clause-sweeps
 returns-clause-sweeps c = (

@@ -5,7 +5,7 @@ use Rattle.sd_rounds.proofs.settle.settle_one.Given as goal
 
 abbrev pub invariant-sweeps : goal.invariant-sweeps
 invariant-sweeps l = record {
-  dead : AreDead l.work l.settled.table l.settled.deaths.items;
+  dead : AreDead l.leaves l.work l.settled.table l.settled.deaths.items;
   first : 1 ≤ l.settled.sweeps;
   sweeps : l.settled.sweeps ≤ suc (length l.settled.deaths.items);
 }

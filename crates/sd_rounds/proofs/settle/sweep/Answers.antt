@@ -1,28 +1,33 @@
-use Rattle.std.proofs.Common.{refl, arith}
-use Rattle.sd_product.specs.Work.{queries_under}
-use Rattle.sd_rounds.proofs.Settling.{none_proved, grows, sweeps_on, swept}
+use Rattle.std.proofs.Common.{◌≤◌, ◌+◌, refl, arith, ap, ◌∙◌, sym, length}
+use Rattle.sd_product.specs.Work.{pairs_in, queries_under}
+use Rattle.sd_product.specs.Bodies.{count_before}
+use Rattle.sd_rounds.proofs.Settling.{none_proved, sweeps_on, swept, passed_all}
 use Rattle.sd_rounds.proofs.settle.sweep.Goals as goal
 
-pub candidates-init : goal.candidates-init
-candidates-init c = record {
+pub each-init : goal.each-init
+each-init c = record {
   dead = c.requires.dead;
   sweeps = refl;
   grown = omega arith;
-  dropped = none_proved (queries_under c.args.work.now c.args.settled.now.table) c.args.settled.now.table 0 _ refl (cc);
+  dropped = none_proved (queries_under c.args.work.now c.args.settled.now.table) c.args.settled.now.table (count_before c.args.work.now 0) _ refl (cc);
 }
 
-pub candidates-preserved : goal.candidates-preserved
-candidates-preserved c =
+pub each-preserved : goal.each-preserved
+each-preserved c =
     let h = c.args.work.now in
-    let was = c.candidates.settled in
-    let is = c.visit.new.settled in
+    let was = c.each.settled in
+    let is = c.sweep_pair.new.settled in
+    let before = c.each.invariant in
+    let after = c.in_ok-dropped.ensures in
     record {
-      dead = c.in_ok-dropped.ensures.dead;
+      dead = after.dead;
       sweeps = cc;
-      grown = grows h c.candidates.candidate _ was.table is.table was.deaths.items is.deaths.items was.proofs.items is.proofs.items c.in_ok-dropped.field-0 c.candidates.invariant.grown c.in_ok-dropped.ensures.dropped;
-      dropped = sweeps_on h c.candidates.candidate _ was.table is.table was.deaths.items is.deaths.items was.proofs.items is.proofs.items c.candidates.dropped c.in_ok-dropped.field-0 c.candidates.invariant.grown c.candidates.invariant.dropped c.in_ok-dropped.ensures.dropped;
+      grown = omega (arith, before.grown, after.grown);
+      dropped = sweeps_on h (count_before h c.each.pair) (count_before h (c.each.pair + 1)) _ was.table is.table was.deaths.items is.deaths.items was.proofs.items is.proofs.items c.each.dropped c.in_ok-dropped.field-0 before.grown before.dropped after.dropped after.grown;
     }
 
 pub returns-clause-dropped : goal.returns-clause-dropped
 returns-clause-dropped c =
-    swept c.args.work.now c.candidates.candidate c.candidates.settled.table c.candidates.settled.proofs.items c.candidates.dropped _ (omega (arith, c.candidates.invariant.dead.size)) c.candidates.invariant.dropped
+    let h = c.args.work.now in
+    let all : length (pairs_in h) ≤ c.each.pair = omega (arith, c.each-test.false, c.len-pair-end.ensures, ap length c.pairs.ensures) in
+    swept h (count_before h c.each.pair) c.each.settled.table c.each.settled.proofs.items c.each.dropped _ (passed_all h c.each.pair all ∙ sym c.each.invariant.dead.size) c.each.invariant.dropped
