@@ -5,6 +5,8 @@ use Rattle.std.specs.Option.{option_and_then}
 use Rattle.std.proofs.lemmas.Option.{same_Some}
 use Rattle.std.specs.List.{AllByRecursion, flat_map}
 use Rattle.sd_kernel.specs.declared.Step.{Step}
+use Rattle.sd_kernel.specs.declared.Step.TheVariants.{Rows as RowsStep}
+use Rattle.sd_kernel.specs.declared.RowLine.{RowLine}
 use Rattle.sd_kernel.specs.declared.How.{How}
 use Rattle.sd_kernel.specs.declared.How.TheVariants.{Steps}
 use Rattle.sd_kernel.specs.declared.Proved.{Proved}
@@ -13,10 +15,10 @@ use Rattle.sd_cert.specs.declared.certificate.Certificate.{Certificate}
 use Rattle.sd_cert.specs.declared.fault.CertError.{CertError}
 use Rattle.sd_cert.specs.declared.fault.CertError.TheVariants.{NoMemory, Version as OtherVersion, Line as BadLine}
 use Rattle.sd_cert.specs.declared.line.Line.{Line}
-use Rattle.sd_cert.specs.declared.line.Line.TheVariants.{Version, Step as StepLine, End}
+use Rattle.sd_cert.specs.declared.line.Line.TheVariants.{Version, Row, End}
 use Rattle.sd_cert.specs.Lines.{line_text, IsLine}
 use Rattle.sd_cert.specs.Text.{lines_text}
-use Rattle.sd_cert.specs.Certificates.{how_lines, proved_lines, pair_lines, certificate_lines, certificate_text, IsCertificate}
+use Rattle.sd_cert.specs.Certificates.{step_lines, how_lines, proved_lines, pair_lines, certificate_lines, certificate_text, IsCertificate}
 use Rattle.sd_cert.specs.Phases.{Phase, at_version, in_pairs, done, after_line, after_lines}
 use Rattle.sd_cert.specs.Faults.{StopsAt, IsFault}
 use Rattle.sd_cert.proofs.TextLemmas.{no_feed, first_line-unique}
@@ -25,30 +27,40 @@ use Rattle.sd_cert.proofs.OneCertificate.{one_certificate}
 
 -- these lines lead to the end, with a candidate before them or without
 Ends : ℕ → ℕ → List Line → Type 0
-Ends n i ls = (c : Bool) → after_lines (in_pairs n i c) ls ≡ Some done
+Ends n i ls = (c : Bool) → after_lines (in_pairs n i c 0) ls ≡ Some done
 
-steps-end : (n i : ℕ) (ss : List Step) (ls : List Line) → Ends n i ls → after_lines (in_pairs n i true) (map StepLine ss ++ ls) ≡ Some done
+rows-end : (n i : ℕ) (rows : List RowLine) (ls : List Line) → after_lines (in_pairs n i true (length rows)) (map Row rows ++ ls) ≡ after_lines (in_pairs n i true 0) ls
+rows-end n i [] ls = refl
+rows-end n i (r ∷ rows) ls = rows-end n i rows ls
+
+step-end : (n i : ℕ) (s : Step) (ls : List Line) → after_lines (in_pairs n i true 0) (step_lines s ++ ls) ≡ after_lines (in_pairs n i true 0) ls
+step-end n i (RowsStep rows) ls = rows-end n i rows ls
+step-end n i _ ls = refl
+
+steps-end : (n i : ℕ) (ss : List Step) (ls : List Line) → Ends n i ls → after_lines (in_pairs n i true 0) (flat_map step_lines ss ++ ls) ≡ Some done
 unfolding Ends
 steps-end n i [] ls h = h true
-steps-end n i (s ∷ ss) ls h = steps-end n i ss ls h
+steps-end n i (s ∷ ss) ls h =
+    ap (after_lines (in_pairs n i true 0)) (append_assoc (step_lines s) (flat_map step_lines ss) ls) ∙ step-end n i s (flat_map step_lines ss ++ ls)
+    ∙ steps-end n i ss ls h
 
-how-end : (n i : ℕ) (h : How) (ls : List Line) → Ends n i ls → after_lines (in_pairs n i true) (how_lines h ++ ls) ≡ Some done
+how-end : (n i : ℕ) (h : How) (ls : List Line) → Ends n i ls → after_lines (in_pairs n i true 0) (how_lines h ++ ls) ≡ Some done
 how-end n i (Steps p) ls h = steps-end n i p.steps ls h
 
 proved-end : (n i : ℕ) (ps : List Proved) (ls : List Line) → 0 < i → Ends n i ls → Ends n i (flat_map proved_lines ps ++ ls)
 unfolding Ends
 proved-end n i [] ls b h c = h c
 proved-end n i (p ∷ ps) ls b h c =
-    ap (λ t. after_lines (in_pairs n i c) t) (append_assoc (proved_lines p) (flat_map proved_lines ps) ls)
-    ∙ ap (λ t. option_and_then (λ q. after_lines q (how_lines p.how ++ (flat_map proved_lines ps ++ ls))) (cond t (Some (in_pairs n i true)) None)) (lt-ltb 0 i b)
+    ap (λ t. after_lines (in_pairs n i c 0) t) (append_assoc (proved_lines p) (flat_map proved_lines ps) ls)
+    ∙ ap (λ t. option_and_then (λ q. after_lines q (how_lines p.how ++ (flat_map proved_lines ps ++ ls))) (cond t (Some (in_pairs n i true 0)) None)) (lt-ltb 0 i b)
     ∙ how-end n i p.how (flat_map proved_lines ps ++ ls) (proved-end n i ps ls b h)
 
 pairs-end : (n i : ℕ) (ps : List CertPair) → i + length ps ≡ n → Ends n i (pair_lines i ps ++ End ∷ [])
 unfolding Ends
 pairs-end n i [] e c = ap (λ t. option_and_then (λ q. after_lines q []) (cond t (Some done) None)) (eq-eqb i n (omega arith))
 pairs-end n i (p ∷ ps) e c =
-    ap (λ t. option_and_then (λ q. after_lines q ((flat_map proved_lines p.proved ++ pair_lines (i + 1) ps) ++ End ∷ [])) (cond t (Some (in_pairs n (i + 1) false)) None)) (both (i == i) (nat_lt i n) (eq-eqb i i refl) (lt-ltb i n (omega arith)))
-    ∙ ap (after_lines (in_pairs n (i + 1) false)) (append_assoc (flat_map proved_lines p.proved) (pair_lines (i + 1) ps) (End ∷ []))
+    ap (λ t. option_and_then (λ q. after_lines q ((flat_map proved_lines p.proved ++ pair_lines (i + 1) ps) ++ End ∷ [])) (cond t (Some (in_pairs n (i + 1) false 0)) None)) (both (i == i) (nat_lt i n) (eq-eqb i i refl) (lt-ltb i n (omega arith)))
+    ∙ ap (after_lines (in_pairs n (i + 1) false 0)) (append_assoc (flat_map proved_lines p.proved) (pair_lines (i + 1) ps) (End ∷ []))
     ∙ proved-end n (i + 1) p.proved (pair_lines (i + 1) ps ++ End ∷ []) (omega arith) (pairs-end n (i + 1) ps (omega arith)) false
   where
     both : (a b : Bool) → a ≡ true → b ≡ true → (a && b) ≡ true

@@ -1,5 +1,5 @@
 -- No step of a certificate that fits the pairs is bad just where its entries are proofs of these queries.
-use Rattle.std.proofs.Common.{◌≡◌, ℕ, ◌+◌, ◌≤◌, List, [], ◌∷◌, ◌++◌, map, length, get_or, refl, sym, ap, ◌∙◌, subst, arith}
+use Rattle.std.proofs.Common.{◌≡◌, ℕ, ◌+◌, ◌≤◌, List, [], ◌∷◌, map, length, get_or, refl, sym, ap, ◌∙◌, subst, arith}
 use Rattle.std.specs.Prelude.{Option, Some, None, slice_get}
 use Rattle.std.specs.List.{AllByRecursion}
 use Rattle.std.proofs.lemmas.Option.{same_Some, slice_get-get_or, get_or_from_slice_get}
@@ -16,6 +16,7 @@ use Rattle.sd_product.specs.Inductive.{proved_of, IsHow, IsProved}
 use Rattle.sd_cert.specs.declared.shape.Shape.{Shape}
 use Rattle.sd_cert.specs.declared.certificate.CertPair.{CertPair}
 use Rattle.sd_cert.specs.declared.fault.CertError.{CertError}
+use Rattle.sd_cert.proofs.AllLemmas.{all-append, all-front, all-back}
 use Rattle.sd_cert.specs.Certificates.{proved_lines}
 use Rattle.sd_cert.specs.Accepts.{Ascend, FitsPairs, numbered_from, proofs_from}
 use Rattle.sd_cert.specs.Refusals.{or_next}
@@ -43,18 +44,6 @@ proves-how line facts (Steps p) k = ap (verdict_fault line) ((verdict-exact fact
 pub judged : (queries : List (List Tree)) (k line : ℕ) (facts : List Tree) (proof : Proof) (how : How) (r : Verdict) → slice_get queries k ≡ Some facts → how ≡ Steps proof → r ≡ verdict facts proof.steps → how_fault line (get_or queries k []) how ≡ verdict_fault line r
 judged queries k line facts proof how r query is verdict_is =
     ap (how_fault line (get_or queries k [])) is ∙ ap (λ (ts : List Tree). verdict_fault line (verdict ts proof.steps)) (get_or_from_slice_get queries k facts [] query) ∙ ap (verdict_fault line) (sym verdict_is)
-
-pub all-append : {A : Type 0} (P : A → Type 0) (xs ys : List A) → AllByRecursion P xs → AllByRecursion P ys → AllByRecursion P (xs ++ ys)
-all-append P [] ys f g = g
-all-append P (x ∷ xs) ys f g = (f.0, all-append P xs ys f.1 g)
-
-pub all-front : {A : Type 0} (P : A → Type 0) (xs ys : List A) → AllByRecursion P (xs ++ ys) → AllByRecursion P xs
-all-front P [] ys f = tt
-all-front P (x ∷ xs) ys f = (f.0, all-front P xs ys f.1)
-
-all-back : {A : Type 0} (P : A → Type 0) (xs ys : List A) → AllByRecursion P (xs ++ ys) → AllByRecursion P ys
-all-back P [] ys f = f
-all-back P (x ∷ xs) ys f = all-back P xs ys f.1
 
 module _ (queries : List (List Tree)) where
   entries-proved : (n line least bound : ℕ) (ps : List Proved) → n + bound ≤ length queries → Ascend least bound (proved_of ps) → entries_fault queries n line ps ≡ None → AllByRecursion (IsProved queries) (map (numbered_from n) ps)

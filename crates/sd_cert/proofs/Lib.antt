@@ -1,4 +1,8 @@
 pub mod FieldLemmas
+pub mod AllLemmas
+pub mod ByteLemmas
+pub mod NumberLemmas
+pub mod FormLemmas
 pub mod LineLemmas
 pub mod TextLemmas
 pub mod OneLine

@@ -1,7 +1,9 @@
 -- No lines are those of two certificates.
-use Rattle.std.proofs.Common.{◌≡◌, ℕ, ◌+◌, List, [], ◌∷◌, ◌++◌, map, refl, sym, ap, ◌∙◌, append_assoc}
+use Rattle.std.proofs.Common.{◌≡◌, ℕ, ◌+◌, List, [], ◌∷◌, ◌++◌, map, length, refl, sym, ap, ◌∙◌, subst, arith, append_assoc}
 use Rattle.std.specs.List.{flat_map}
 use Rattle.sd_kernel.specs.declared.Step.{Step}
+use Rattle.sd_kernel.specs.declared.Step.TheVariants.{Rows as RowsStep}
+use Rattle.sd_kernel.specs.declared.RowLine.{RowLine}
 use Rattle.sd_kernel.specs.declared.How.{How}
 use Rattle.sd_kernel.specs.declared.How.TheVariants.{Steps}
 use Rattle.sd_kernel.specs.declared.Proved.{Proved}
@@ -9,35 +11,62 @@ use Rattle.sd_cert.specs.declared.certificate.CertPair.{CertPair}
 use Rattle.sd_cert.specs.declared.certificate.Certificate.{Certificate}
 use Rattle.sd_cert.specs.declared.line.CertState.{CertState}
 use Rattle.sd_cert.specs.declared.line.Line.{Line}
-use Rattle.sd_cert.specs.declared.line.Line.TheVariants.{Candidate, Step as StepLine, End}
-use Rattle.sd_cert.specs.Certificates.{how_lines, proved_lines, pair_lines, certificate_lines, certificate_text, IsCertificate}
+use Rattle.sd_cert.specs.declared.line.Line.TheVariants.{Candidate, Step as StepLine, Rows, Row, End}
+use Rattle.sd_cert.specs.Certificates.{step_lines, how_lines, proved_lines, pair_lines, certificate_lines, certificate_text, IsCertificate}
 use Rattle.sd_cert.proofs.OneLine.{lines_text-injective}
 
 -- no step stands at the front, and neither a step nor a candidate
 IsAfterSteps : List Line → Type 0
 IsAfterSteps (StepLine s ∷ ls) = ⊥
+IsAfterSteps (Rows n ∷ ls) = ⊥
 IsAfterSteps _ = Unit {0}
 
 IsAfterCandidates : List Line → Type 0
 IsAfterCandidates (StepLine s ∷ ls) = ⊥
+IsAfterCandidates (Rows n ∷ ls) = ⊥
 IsAfterCandidates (Candidate k ∷ ls) = ⊥
 IsAfterCandidates _ = Unit {0}
 
-steps-one : (ss ts : List Step) (xs ys : List Line) → IsAfterSteps xs → IsAfterSteps ys → map StepLine ss ++ xs ≡ map StepLine ts ++ ys → (ss ≡ ts) × (xs ≡ ys)
+rows-one : (rows others : List RowLine) (xs ys : List Line) → length rows ≡ length others → map Row rows ++ xs ≡ map Row others ++ ys → (rows ≡ others) × (xs ≡ ys)
+rows-one [] [] xs ys h e = (refl, e)
+rows-one [] (o ∷ os) xs ys h e = absurd (omega arith)
+rows-one (r ∷ rs) [] xs ys h e = absurd (omega arith)
+rows-one (r ∷ rs) (o ∷ os) xs ys h e =
+    let first : r ≡ o = cc
+    in let rest = rows-one rs os xs ys (omega arith) (let t : map Row rs ++ xs ≡ map Row os ++ ys = cc in t)
+    in (let a = rest.0 in cc, rest.1)
+
+step-one : (s t : Step) (xs ys : List Line) → step_lines s ++ xs ≡ step_lines t ++ ys → (s ≡ t) × (xs ≡ ys)
+step-one (RowsStep rows) (RowsStep others) xs ys e =
+    let count : length rows ≡ length others = cc
+    in let rest = rows-one rows others xs ys count (let t : map Row rows ++ xs ≡ map Row others ++ ys = cc in t)
+    in (ap RowsStep rest.0, rest.1)
+step-one (RowsStep rows) _ xs ys e = absurd (cc)
+step-one _ (RowsStep others) xs ys e = absurd (cc)
+step-one _ _ xs ys e = (cc, cc)
+
+-- a step stands at the front
+step-front : (s : Step) (ls : List Line) → IsAfterSteps (step_lines s ++ ls) → ⊥
 unfolding IsAfterSteps
+step-front (RowsStep rows) ls h = h
+step-front _ ls h = h
+
+steps-one : (ss ts : List Step) (xs ys : List Line) → IsAfterSteps xs → IsAfterSteps ys → flat_map step_lines ss ++ xs ≡ flat_map step_lines ts ++ ys → (ss ≡ ts) × (xs ≡ ys)
 steps-one [] [] xs ys f g e = (refl, e)
-steps-one [] (t ∷ ts) (StepLine s ∷ xs) ys f g e = absurd f
-steps-one [] (t ∷ ts) _ ys f g e = absurd (cc)
-steps-one (s ∷ ss) [] xs (StepLine t ∷ ys) f g e = absurd g
-steps-one (s ∷ ss) [] xs _ f g e = absurd (cc)
+steps-one [] (t ∷ ts) xs ys f g e =
+    absurd (step-front t (flat_map step_lines ts ++ ys) (subst IsAfterSteps (e ∙ append_assoc (step_lines t) (flat_map step_lines ts) ys) f))
+steps-one (s ∷ ss) [] xs ys f g e =
+    absurd (step-front s (flat_map step_lines ss ++ xs) (subst IsAfterSteps (sym e ∙ append_assoc (step_lines s) (flat_map step_lines ss) xs) g))
 steps-one (s ∷ ss) (t ∷ ts) xs ys f g e =
-    let first : s ≡ t = cc
-    in let rest = steps-one ss ts xs ys f g (let r : map StepLine ss ++ xs ≡ map StepLine ts ++ ys = cc in r)
-    in (let r = rest.0 in cc, rest.1)
+    let first = step-one s t (flat_map step_lines ss ++ xs) (flat_map step_lines ts ++ ys)
+    (sym (append_assoc (step_lines s) (flat_map step_lines ss) xs) ∙ e ∙ append_assoc (step_lines t) (flat_map step_lines ts) ys)
+    in let rest = steps-one ss ts xs ys f g first.1
+    in (let a = first.0 in let b = rest.0 in cc, rest.1)
 
 proved-after : (ps : List Proved) (xs : List Line) → IsAfterCandidates xs → IsAfterSteps (flat_map proved_lines ps ++ xs)
 unfolding IsAfterSteps IsAfterCandidates
 proved-after [] (StepLine s ∷ xs) h = absurd h
+proved-after [] (Rows n ∷ xs) h = absurd h
 proved-after [] (Candidate k ∷ xs) h = absurd h
 proved-after [] _ h = tt
 proved-after (p ∷ ps) xs h = tt
@@ -45,7 +74,7 @@ proved-after (p ∷ ps) xs h = tt
 how-one : (a b : ℕ) (h k : How) (xs ys : List Line) → IsAfterSteps xs → IsAfterSteps ys → Candidate a ∷ (how_lines h ++ xs) ≡ Candidate b ∷ (how_lines k ++ ys) → (a ≡ b) × (h ≡ k) × (xs ≡ ys)
 how-one a b (Steps p) (Steps q) xs ys f g e =
     let number : a ≡ b = cc
-    in let tail : map StepLine p.steps ++ xs ≡ map StepLine q.steps ++ ys = cc
+    in let tail : flat_map step_lines p.steps ++ xs ≡ flat_map step_lines q.steps ++ ys = cc
     in let rest = steps-one p.steps q.steps xs ys f g tail
     in (number, ap (λ ss. Steps (record { steps = ss })) rest.0, rest.1)
 

@@ -5,6 +5,8 @@ use Rattle.std.specs.List.{flat_map}
 use Rattle.std.proofs.lemmas.Slice.Eq.{slice_eq-Decides}
 use Rattle.std.proofs.lemmas.Bool.Decides.{Decides-eqb}
 use Rattle.sd_kernel.specs.declared.Step.{Step}
+use Rattle.sd_kernel.specs.declared.Step.TheVariants.{Rows as RowsStep}
+use Rattle.sd_kernel.specs.declared.RowLine.{RowLine}
 use Rattle.sd_kernel.specs.declared.How.{How}
 use Rattle.sd_kernel.specs.declared.How.TheVariants.{Steps}
 use Rattle.sd_kernel.specs.declared.Proved.{Proved}
@@ -18,9 +20,9 @@ use Rattle.sd_cert.specs.declared.fault.CertError.TheVariants.{Pair as OtherPair
 use Rattle.sd_cert.specs.declared.line.CertState.{CertState}
 use Rattle.sd_cert.specs.declared.line.CertState.TheVariants.{Open, Refused}
 use Rattle.sd_cert.specs.declared.line.Line.{Line}
-use Rattle.sd_cert.specs.declared.line.Line.TheVariants.{Step as StepLine, End}
+use Rattle.sd_cert.specs.declared.line.Line.TheVariants.{Row, End}
 use Rattle.sd_cert.specs.declared.refusal.Spot.{Spot}
-use Rattle.sd_cert.specs.Certificates.{how_lines, proved_lines, pair_lines, certificate_lines}
+use Rattle.sd_cert.specs.Certificates.{step_lines, how_lines, proved_lines, pair_lines, certificate_lines}
 use Rattle.sd_cert.specs.Accepts.{state_of, Ascend, FitsPairs}
 use Rattle.sd_cert.specs.Refusals.{unless, or_next, same_bytes, has_state, candidate_count, first_spot, first_refusal}
 
@@ -84,9 +86,19 @@ at-spot : ℕ → ℕ → Spot
 at-spot i least = record { pair = i; least = least }
 
 module _ (shapes : List Shape) (d : Digests) where
-  steps-pass : (spot : Spot) (ss : List Step) (ls : List Line) → first_refusal shapes d spot (map StepLine ss ++ ls) ≡ first_refusal shapes d spot ls
+  rows-pass : (spot : Spot) (rows : List RowLine) (ls : List Line) → first_refusal shapes d spot (map Row rows ++ ls) ≡ first_refusal shapes d spot ls
+  rows-pass spot [] ls = refl
+  rows-pass spot (r ∷ rows) ls = rows-pass spot rows ls
+
+  step-pass : (spot : Spot) (s : Step) (ls : List Line) → first_refusal shapes d spot (step_lines s ++ ls) ≡ first_refusal shapes d spot ls
+  step-pass spot (RowsStep rows) ls = rows-pass spot rows ls
+  step-pass spot _ ls = refl
+
+  steps-pass : (spot : Spot) (ss : List Step) (ls : List Line) → first_refusal shapes d spot (flat_map step_lines ss ++ ls) ≡ first_refusal shapes d spot ls
   steps-pass spot [] ls = refl
-  steps-pass spot (s ∷ ss) ls = steps-pass spot ss ls
+  steps-pass spot (s ∷ ss) ls =
+      ap (first_refusal shapes d spot) (append_assoc (step_lines s) (flat_map step_lines ss) ls) ∙ step-pass spot s (flat_map step_lines ss ++ ls)
+      ∙ steps-pass spot ss ls
 
   how-pass : (spot : Spot) (h : How) (ls : List Line) → first_refusal shapes d spot (how_lines h ++ ls) ≡ first_refusal shapes d spot ls
   how-pass spot (Steps p) ls = steps-pass spot p.steps ls

@@ -20,7 +20,7 @@ use Rattle.sd_cert.specs.declared.certificate.Certificate.{Certificate}
 use Rattle.sd_cert.specs.declared.fault.CertError.{CertError}
 use Rattle.sd_cert.specs.declared.fault.CertError.TheVariants.{NoMemory, Version as OtherVersion, Line as BadLine, OtherOld, OtherNew, OtherSettings, Pair as OtherPair, Step as BadStep}
 use Rattle.sd_cert.specs.declared.line.Line.{Line}
-use Rattle.sd_cert.specs.declared.line.Line.TheVariants.{Version, Old, New, Settings, Pairs, Pair, Candidate, Step as StepLine, End}
+use Rattle.sd_cert.specs.declared.line.Line.TheVariants.{Version, Old, New, Settings, Pairs, Pair, Candidate, Step as StepLine, Rows, Row, End}
 use Rattle.sd_cert.specs.declared.refusal.Spot.{Spot}
 use Rattle.sd_cert.specs.Lines.{line_text, IsLine}
 use Rattle.sd_cert.specs.Text.{lines_text, BeginsWithoutLine, HasLines}
@@ -35,7 +35,7 @@ use Rattle.sd_cert.specs.ReplayFaults.{IsRefused, HasBadStep, IsReplayFault, IsC
 use Rattle.sd_cert.proofs.TextLemmas.{no_feed, first_line-unique, lines_text-append}
 use Rattle.sd_cert.proofs.OneLine.{line_text-injective}
 use Rattle.sd_cert.proofs.AcceptLemmas.{certificate-end}
-use Rattle.sd_cert.proofs.JudgeLemmas.{all-front}
+use Rattle.sd_cert.proofs.AllLemmas.{all-front}
 
 -- ---- bad steps
 
@@ -102,6 +102,8 @@ refusal-work shapes d spot (Pairs n) e h = unless-work _ (OtherPair _) e tt h
 refusal-work shapes d spot (Pair i s) e h = unless-work _ (OtherPair i) e tt h
 refusal-work shapes d spot (Candidate k) e h = unless-work _ (OtherPair _) e tt h
 refusal-work shapes d spot (StepLine s) e h = absurd (cc)
+refusal-work shapes d spot (Rows n) e h = absurd (cc)
+refusal-work shapes d spot (Row r) e h = absurd (cc)
 refusal-work shapes d spot End e h = absurd (cc)
 
 -- the lines up to the first that is refused

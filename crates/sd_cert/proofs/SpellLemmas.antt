@@ -3,19 +3,19 @@ use Rattle.std.proofs.Common.{◌≡◌, ℕ, ◌+◌, ◌<◌, List, [], ◌∷
 use Rattle.std.specs.List.{flat_map}
 use Rattle.std.proofs.lemmas.List.{take_more, map_more, length-take-le, append-nil}
 use Rattle.std.proofs.lemmas.Grind.{flat_map-append}
-use Rattle.sd_kernel.specs.declared.Step.{Step}
+use Rattle.sd_kernel.specs.declared.RowLine.{RowLine}
 use Rattle.sd_kernel.specs.declared.Proved.{Proved}
 use Rattle.sd_cert.specs.declared.certificate.CertPair.{CertPair}
 use Rattle.sd_cert.specs.declared.certificate.Certificate.{Certificate}
 use Rattle.sd_cert.specs.declared.line.Line.{Line}
-use Rattle.sd_cert.specs.declared.line.Line.TheVariants.{Version, Old, New, Settings, Pairs, Pair, Step as StepLine, End}
+use Rattle.sd_cert.specs.declared.line.Line.TheVariants.{Version, Old, New, Settings, Pairs, Pair, Row, End}
 use Rattle.sd_cert.specs.Text.{lines_text}
 use Rattle.sd_cert.specs.Lines.{IsLine}
 use Rattle.sd_cert.specs.Added.{IsAdded}
 use Rattle.sd_cert.specs.Certificates.{proved_lines, pair_lines, certificate_lines}
 use Rattle.sd_cert.proofs.TextLemmas.{lines_text-append}
 use Rattle.sd_cert.proofs.DraftLemmas.{pair_lines-push}
-use Rattle.sd_cert.proofs.JudgeLemmas.{all-append}
+use Rattle.sd_cert.proofs.AllLemmas.{all-append}
 
 -- the lines are the same ones
 pub added-same : (ls ms : List Line) (old new : List ℕ) → ls ≡ ms → IsAdded ls old new → IsAdded ms old new
@@ -27,16 +27,17 @@ pushed old now next ls ms h k = record {
   text = k.text ∙ ap (λ t. t ++ lines_text ms) h.text ∙ append_assoc old (lines_text ls) (lines_text ms) ∙ ap (λ t. old ++ t) (sym (lines_text-append ls ms));
 }
 
-pub steps-pushed : (old now next : List ℕ) (steps : List Step) (i : ℕ) (d : Step) → i < length steps → IsAdded (map StepLine (take i steps)) old now → IsAdded (StepLine (get_or steps i d) ∷ []) now next → IsAdded (map StepLine (take (i + 1) steps)) old next
-steps-pushed old now next steps i d within h k =
-    added-same _ _ old next (sym (map_more StepLine steps i d within)) (pushed old now next (map StepLine (take i steps)) (StepLine (get_or steps i d) ∷ []) h k)
-
-pub proved-pushed : (old now next : List ℕ) (ps : List Proved) (i : ℕ) (p : Proved) → i < length ps → p ≡ get_or ps i p → IsAdded (flat_map proved_lines (take i ps)) old now → IsAdded (proved_lines p) now next → IsAdded (flat_map proved_lines (take (i + 1) ps)) old next
-proved-pushed old now next ps i p within at h k =
+-- the lines of one item more
+pub item-pushed : {A : Type 0} (lines_of : A → List Line) (old now next : List ℕ) (xs : List A) (i : ℕ) (x : A) → i < length xs → x ≡ get_or xs i x → IsAdded (flat_map lines_of (take i xs)) old now → IsAdded (lines_of x) now next → IsAdded (flat_map lines_of (take (i + 1) xs)) old next
+item-pushed lines_of old now next xs i x within at h k =
     let more =
-    ap (flat_map proved_lines) (take_more ps i p within ∙ ap (λ x. take i ps ++ x ∷ []) (sym at))
-    ∙ flat_map-append proved_lines (take i ps) (p ∷ []) ∙ ap (λ ls. flat_map proved_lines (take i ps) ++ ls) (append-nil (proved_lines p))
-    in added-same _ _ old next (sym more) (pushed old now next (flat_map proved_lines (take i ps)) (proved_lines p) h k)
+    ap (flat_map lines_of) (take_more xs i x within ∙ ap (λ y. take i xs ++ y ∷ []) (sym at))
+    ∙ flat_map-append lines_of (take i xs) (x ∷ []) ∙ ap (λ ls. flat_map lines_of (take i xs) ++ ls) (append-nil (lines_of x))
+    in added-same _ _ old next (sym more) (pushed old now next (flat_map lines_of (take i xs)) (lines_of x) h k)
+
+pub rows-pushed : (old now next : List ℕ) (rows : List RowLine) (i : ℕ) (d : RowLine) → i < length rows → IsAdded (map Row (take i rows)) old now → IsAdded (Row (get_or rows i d) ∷ []) now next → IsAdded (map Row (take (i + 1) rows)) old next
+rows-pushed old now next rows i d within h k =
+    added-same _ _ old next (sym (map_more Row rows i d within)) (pushed old now next (map Row (take i rows)) (Row (get_or rows i d) ∷ []) h k)
 
 pub pairs-pushed : (old now middle next : List ℕ) (ps : List CertPair) (i : ℕ) (p : CertPair) (proved : List Proved) → i < length ps → p ≡ get_or ps i p → proved ≡ p.proved → IsAdded (pair_lines 0 (take i ps)) old now → IsAdded (Pair i p.state ∷ []) now middle → IsAdded (flat_map proved_lines proved) middle next → IsAdded (pair_lines 0 (take (i + 1) ps)) old next
 pairs-pushed old now middle next ps i p proved within at are h k m =

@@ -1,49 +1,25 @@
 -- Lines have no line feeds, so a text has one first line at most.
-use Rattle.std.proofs.Common.{◌≡◌, ℕ, ◌+◌, ◌^◌, ◌<◌, ◌==◌, Bool, true, false, List, [], ◌∷◌, ◌++◌, length, get_or, take, drop, refl, sym, ap, ◌∙◌, arith, append_assoc}
-use Rattle.std.specs.Prelude.{◌||◌, ◌&&◌}
+use Rattle.std.proofs.Common.{◌≡◌, ℕ, ◌==◌, Bool, true, false, List, [], ◌∷◌, ◌++◌, get_or, sym, refl, ap, ◌∙◌, arith, append_assoc}
 use Rattle.std.specs.List.{AllByRecursion}
-use Rattle.std.specs.Char.{is_ascii_digit}
 use Rattle.std.specs.Fmt.{decimal}
-use Rattle.std.specs.Str.{all_ascii_digits}
-use Rattle.std.proofs.lemmas.List.Folds.{list_any-append, list_any_none}
-use Rattle.std.proofs.lemmas.Fmt.{digits_decimal}
+use Rattle.std.proofs.lemmas.List.Folds.{list_any_none}
 use Rattle.hex.specs.Hex.{encode_lower, is_hex_digit}
 use Rattle.hex.proofs.HexLemmas.{decode_of-encode_lower, decode_of-ok}
-use Rattle.std.proofs.lemmas.List.{take-append-drop, drop_more}
-use borrow.Author.Tests.{eqb-true, eq-eqb}
-use Rattle.sd_kernel.specs.declared.Step.TheVariants.{Split, Close}
+use borrow.Author.Tests.{eqb-true}
+use Rattle.sd_kernel.specs.declared.Step.TheVariants.{Term, Split, Order, Ite, Chain, Close, Rows as RowsStep}
+use Rattle.sd_kernel.specs.declared.NodeLine.TheVariants.{Eq, Le, Read, Diff}
+use Rattle.sd_kernel.specs.declared.RowLine.TheVariants.{Fact, Back, Add, Cut}
 use Rattle.sd_cert.specs.declared.line.CertState.TheVariants.{Open, Refused}
 use Rattle.sd_cert.specs.declared.line.CertState.{CertState}
 use Rattle.sd_cert.specs.declared.line.Line.{Line}
-use Rattle.sd_cert.specs.declared.line.Line.TheVariants.{Version, Old, New, Settings, Pairs, Pair, Candidate, Step as StepLine, End}
+use Rattle.sd_cert.specs.declared.line.Line.TheVariants.{Version, Old, New, Settings, Pairs, Pair, Candidate, Step as StepLine, Rows, Row, End}
 use Rattle.sd_cert.specs.Fields.{IsDigest}
 use Rattle.sd_cert.specs.Lines.{line_text, IsLine, state_text}
 use Rattle.sd_cert.specs.Text.{has_feed, lines_text, BeginsWithoutLine}
-use Rattle.sd_cert.proofs.FieldLemmas.{own}
+use Rattle.sd_cert.proofs.ByteLemmas.{no_byte-append, first-unique}
+use Rattle.sd_cert.proofs.NumberLemmas.{no_feed-decimal, no_feed-numbers, small-numbers}
 
 -- ---- no line feed in a line
-
-no_feed-append : (xs ys : List ℕ) → has_feed xs ≡ false → has_feed ys ≡ false → has_feed (xs ++ ys) ≡ false
-no_feed-append xs ys a b = list_any-append (λ b. b == 10) xs ys ∙ both (has_feed xs) (has_feed ys) a b
-  where
-    both : (p q : Bool) → p ≡ false → q ≡ false → (p || q) ≡ false
-    both true q h k = h
-    both false q h k = k
-
-second : (p q : Bool) → (p && q) ≡ true → q ≡ true
-second true q h = h
-second false q h = absurd (cc)
-
-no_feed-digits : (ds : List ℕ) → all_ascii_digits ds ≡ true → has_feed ds ≡ false
-no_feed-digits [] h = refl
-no_feed-digits (c ∷ cs) h = go (c == 10) refl (λ k. no_feed-digits cs k) h
-  where
-    go : (t : Bool) → (c == 10) ≡ t → (all_ascii_digits cs ≡ true → has_feed cs ≡ false) → (is_ascii_digit c && all_ascii_digits cs) ≡ true → (t || has_feed cs) ≡ false
-    go true e more k = absurd (let f = ap (λ x. is_ascii_digit x && all_ascii_digits cs) (eqb-true c 10 e) in cc)
-    go false e more k = more (second (is_ascii_digit c) (all_ascii_digits cs) k)
-
-no_feed-decimal : (n : ℕ) → n < 2 ^ 64 → has_feed (decimal n) ≡ false
-no_feed-decimal n h = no_feed-digits (decimal n) (digits_decimal own n h)
 
 no_feed-digest : (d : List ℕ) → IsDigest d → has_feed (encode_lower d) ≡ false
 no_feed-digest d h = list_any_none (λ b. b == 10) (encode_lower d) (λ k e l. go (get_or (encode_lower d) k e) ((decode_of-ok (encode_lower d) d (decode_of-encode_lower d h.bytes)).1 k e l))
@@ -65,39 +41,29 @@ no_feed (Old d) h = no_feed-digest d h
 no_feed (New d) h = no_feed-digest d h
 no_feed (Settings d) h = no_feed-digest d h
 no_feed (Pairs n) h = no_feed-decimal n h
-no_feed (Pair i s) h = no_feed-append (decimal i) (state_text s) (no_feed-decimal i (omega arith)) (no_feed-state s)
+no_feed (Pair i s) h = no_byte-append 10 (decimal i) (state_text s) (no_feed-decimal i (omega arith)) (no_feed-state s)
 no_feed (Candidate k) h = no_feed-decimal k (omega arith)
+no_feed (StepLine (Term (Eq a b))) h = no_feed-numbers (a ∷ b ∷ []) (small-numbers a (b ∷ []) h.0 (h.1, tt))
+no_feed (StepLine (Term (Le a b))) h = no_feed-numbers (a ∷ b ∷ []) (small-numbers a (b ∷ []) h.0 (h.1, tt))
+no_feed (StepLine (Term (Read a b))) h = no_feed-numbers (a ∷ b ∷ []) (small-numbers a (b ∷ []) h.0 (h.1, tt))
+no_feed (StepLine (Term (Diff a b))) h = no_feed-numbers (a ∷ b ∷ []) (small-numbers a (b ∷ []) h.0 (h.1, tt))
 no_feed (StepLine (Split t)) h = no_feed-decimal t (omega arith)
+no_feed (StepLine (Order e l r)) h = no_feed-numbers (e ∷ l ∷ r ∷ []) (small-numbers e (l ∷ r ∷ []) h.0 (h.1, (h.2, tt)))
+no_feed (StepLine (Ite t e)) h = no_feed-numbers (t ∷ e ∷ []) (small-numbers t (e ∷ []) h.0 (h.1, tt))
+no_feed (StepLine (Chain e fs)) h = no_feed-numbers (e ∷ fs) (small-numbers e fs h.0 h.1)
 no_feed (StepLine (Close f)) h = no_feed-decimal f (omega arith)
+no_feed (StepLine (RowsStep rows)) h = absurd h
+no_feed (Rows n) h = no_feed-decimal n h
+no_feed (Row (Fact k)) h = no_feed-decimal k (omega arith)
+no_feed (Row (Back k)) h = no_feed-decimal k (omega arith)
+no_feed (Row (Add a m b n)) h = no_feed-numbers (a ∷ m ∷ b ∷ n ∷ []) (omega (arith, h.0), (h.1, (omega (arith, h.2), (h.3, tt))))
+no_feed (Row (Cut a)) h = no_feed-decimal a (omega arith)
 no_feed End h = refl
 
 -- ---- one first line
 
 pub first_line-unique : (xs ys us vs : List ℕ) → has_feed xs ≡ false → has_feed us ≡ false → xs ++ 10 ∷ ys ≡ us ++ 10 ∷ vs → (xs ≡ us) × (ys ≡ vs)
-first_line-unique [] ys [] vs h k e = (refl, cc)
-first_line-unique [] ys (u ∷ us) vs h k e = absurd (let f : 10 ≡ u = cc in let g = eq-eqb u 10 (sym f) in feed u us g k)
-  where
-    feed : (u : ℕ) (us : List ℕ) → (u == 10) ≡ true → has_feed (u ∷ us) ≡ false → ⊥
-    feed u us g k = let j = ap (λ b. b || has_feed us) g in cc
-first_line-unique (x ∷ xs) ys [] vs h k e = absurd (let f : x ≡ 10 = cc in let g = eq-eqb x 10 f in feed x xs g h)
-  where
-    feed : (u : ℕ) (us : List ℕ) → (u == 10) ≡ true → has_feed (u ∷ us) ≡ false → ⊥
-    feed u us g k = let j = ap (λ b. b || has_feed us) g in cc
-first_line-unique (x ∷ xs) ys (u ∷ us) vs h k e =
-    let same : x ≡ u = cc
-    in let rest = first_line-unique xs ys us vs (later x xs h) (later u us k) (let t : xs ++ 10 ∷ ys ≡ us ++ 10 ∷ vs = cc in t)
-    in (let r = rest.0 in cc, rest.1)
-  where
-    later : (u : ℕ) (us : List ℕ) → has_feed (u ∷ us) ≡ false → has_feed us ≡ false
-    later u us k = go (u == 10) k
-      where
-        go : (t : Bool) → (t || has_feed us) ≡ false → has_feed us ≡ false
-        go true k = absurd (cc)
-        go false k = k
-
-pub at_feed : (text : List ℕ) (i : ℕ) → i < length text → get_or text i 0 ≡ 10 → text ≡ take i text ++ 10 ∷ drop (i + 1) text
-at_feed text i within e =
-    sym (take-append-drop i text) ∙ ap (λ t. take i text ++ t) (drop_more text i 0 within) ∙ ap (λ c. take i text ++ c ∷ drop (i + 1) text) e
+first_line-unique = first-unique 10
 
 pub without_form : (text front rest : List ℕ) → text ≡ front ++ 10 ∷ rest → has_feed front ≡ false → ((l : Line) → IsLine l → front ≡ line_text l → ⊥) → BeginsWithoutLine text
 without_form text front rest whole h none l more f e = none l f (first_line-unique front rest (line_text l) more h (no_feed l f) (sym whole ∙ e)).0

@@ -1,18 +1,25 @@
 -- The lines of a certificate, and its text.
 use Rattle.std.specs.Prelude.{ℕ, ◌+◌, List, [], ◌∷◌, ◌++◌, map, length}
 use Rattle.std.specs.List.{flat_map, AllByRecursion}
+use Rattle.sd_kernel.specs.declared.Step.{Step}
+use Rattle.sd_kernel.specs.declared.Step.TheVariants.{Rows as RowsStep}
 use Rattle.sd_kernel.specs.declared.How.{How}
 use Rattle.sd_kernel.specs.declared.How.TheVariants.{Steps}
 use Rattle.sd_kernel.specs.declared.Proved.{Proved}
 use Rattle.sd_cert.specs.declared.certificate.CertPair.{CertPair}
 use Rattle.sd_cert.specs.declared.certificate.Certificate.{Certificate}
 use Rattle.sd_cert.specs.declared.line.Line.{Line}
-use Rattle.sd_cert.specs.declared.line.Line.TheVariants.{Version, Old, New, Settings, Pairs, Pair, Candidate, Step as StepLine, End}
+use Rattle.sd_cert.specs.declared.line.Line.TheVariants.{Version, Old, New, Settings, Pairs, Pair, Candidate, Step as StepLine, Rows, Row, End}
 use Rattle.sd_cert.specs.Lines.{IsLine}
 use Rattle.sd_cert.specs.Text.{lines_text}
 
+-- a step has one line, and a rows step one more for each row
+abbrev pub step_lines : Step → List Line
+step_lines (RowsStep rows) = Rows (length rows) ∷ map Row rows
+step_lines step = StepLine step ∷ []
+
 abbrev pub how_lines : How → List Line
-how_lines (Steps proof) = map StepLine proof.steps
+how_lines (Steps proof) = flat_map step_lines proof.steps
 
 -- a live candidate and the steps of its proof
 abbrev pub proved_lines : Proved → List Line

@@ -1,7 +1,7 @@
 -- The words that begin lines.
 use Rattle.std.specs.Prelude.{ℕ, List, [], ◌∷◌, Option, Some, None, codes}
 use Rattle.sd_cert.specs.declared.keyword.Keyword.{Keyword}
-use Rattle.sd_cert.specs.declared.keyword.Keyword.TheVariants.{Version, Old, New, Settings, Pairs, Pair, Candidate, Split, Close}
+use Rattle.sd_cert.specs.declared.keyword.Keyword.TheVariants.{Version, Old, New, Settings, Pairs, Pair, Candidate, TermEq, TermLe, TermRead, TermDiff, Split, Order, Ite, Chain, Close, Rows, Fact, Back, Add, Cut}
 use Rattle.sd_cert.specs.Fields.{after_front}
 
 abbrev pub front_of : Keyword → List ℕ
@@ -12,11 +12,24 @@ front_of Settings = codes "settings "
 front_of Pairs = codes "pairs "
 front_of Pair = codes "pair "
 front_of Candidate = codes "candidate "
+front_of TermEq = codes "term eq "
+front_of TermLe = codes "term le "
+front_of TermRead = codes "term read "
+front_of TermDiff = codes "term diff "
 front_of Split = codes "split "
+front_of Order = codes "order "
+front_of Ite = codes "ite "
+front_of Chain = codes "chain "
 front_of Close = codes "close "
+front_of Rows = codes "rows "
+front_of Fact = codes "fact "
+front_of Back = codes "back "
+front_of Add = codes "add "
+front_of Cut = codes "cut "
 
 abbrev pub keywords : List Keyword
-keywords = Version ∷ Old ∷ New ∷ Settings ∷ Pairs ∷ Pair ∷ Candidate ∷ Split ∷ Close ∷ []
+keywords =
+    Version ∷ Old ∷ New ∷ Settings ∷ Pairs ∷ Pair ∷ Candidate ∷ TermEq ∷ TermLe ∷ TermRead ∷ TermDiff ∷ Split ∷ Order ∷ Ite ∷ Chain ∷ Close ∷ Rows ∷ Fact ∷ Back ∷ Add ∷ Cut ∷ []
 
 abbrev pub with_rest : Keyword → Option (List ℕ) → Option (Keyword × List ℕ) → Option (Keyword × List ℕ)
 with_rest k None other = other

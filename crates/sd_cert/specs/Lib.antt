@@ -1,6 +1,7 @@
 pub mod Fields
 pub mod Keywords
 pub mod Lines
+pub mod Numbered
 pub mod Text
 pub mod Added
 pub mod Certificates

@@ -1,11 +1,12 @@
 -- A text as lines, each of which ends with a line feed.
-use Rattle.std.specs.Prelude.{◌≡◌, ℕ, ◌==◌, Bool, List, [], ◌∷◌, ◌++◌}
-use Rattle.std.specs.List.{list_any, AllByRecursion}
+use Rattle.std.specs.Prelude.{◌≡◌, ℕ, Bool, List, [], ◌∷◌, ◌++◌}
+use Rattle.std.specs.List.{AllByRecursion}
 use Rattle.sd_cert.specs.declared.line.Line.{Line}
+use Rattle.sd_cert.specs.Fields.{has_byte}
 use Rattle.sd_cert.specs.Lines.{line_text, IsLine}
 
 abbrev pub has_feed : List ℕ → Bool
-has_feed text = list_any (λ b. b == 10) text
+has_feed text = has_byte 10 text
 
 abbrev pub lines_text : List Line → List ℕ
 lines_text [] = []

@@ -4,7 +4,7 @@ ghost use Rattle.std.specs.Prelude.{◌≡◌, None, length};
 use crate::certificate::{CertPair, Certificate};
 use crate::digest::Digests;
 use crate::line::CertState;
-use sd_kernel::{Proved, Step};
+use sd_kernel::{Proved, RowLine, Step};
 use sqlite_items::Items;
 
 /// A live candidate with the steps that were read so far.
@@ -33,6 +33,21 @@ pub(crate) struct Body {
     ghost first: { last ≡ None → length pairs ≡ 0 },
 }
 
+/// A rows step of the open proof, as far as its rows were read.
+#[derive(Drop)]
+pub(crate) struct OpenRows {
+    pub digests: Digests,
+    pub count: u64,
+    pub pairs: Items<CertPair>,
+    /// What there is of the last pair.
+    pub state: CertState,
+    pub proved: Items<Proved>,
+    pub proof: OpenProof,
+    pub rows: Items<RowLine>,
+    /// How many rows come after the next one.
+    pub later: u64,
+}
+
 /// The lines that were read.
 #[derive(Drop)]
 pub(crate) enum Draft {
@@ -42,5 +57,6 @@ pub(crate) enum Draft {
     WithNew([u8; 32], [u8; 32]),
     WithDigests(Digests),
     Body(Body),
+    Rows(OpenRows),
     Done(Certificate),
 }

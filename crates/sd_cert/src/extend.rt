@@ -1,22 +1,25 @@
 //! A draft with one more line.
-ghost use Rattle.std.specs.Prelude.{◌≡◌, ◌++◌, IfOk, length};
+ghost use Rattle.std.specs.Prelude.{◌≡◌, ◌++◌, Some, IfOk, length};
 ghost use Rattle.std.specs.List.{flat_map};
 ghost use Rattle.sd_cert.specs.declared.line.Line.TheVariants as line;
-ghost use Rattle.sd_cert.specs.Certificates.{proved_lines, pair_lines};
-ghost use Rattle.sd_cert.specs.Drafts.{Goes, GoesOn, proof_lines, started, body_lines};
+ghost use Rattle.sd_cert.specs.Lines.{IsLine, IsStep};
+ghost use Rattle.sd_cert.specs.Certificates.{step_lines, proved_lines, pair_lines};
+ghost use Rattle.sd_cert.specs.Drafts.{Goes, GoesOn, RowsGoOn, proof_lines, started, body_lines};
 
 use crate::certificate::{CertPair, Certificate};
+use crate::copying::copy_step;
 use crate::digest::Digests;
-use crate::draft::{Body, Draft, OpenPair, OpenProof};
+use crate::draft::{Body, Draft, OpenPair, OpenProof, OpenRows};
 use crate::line::{CertState, Line};
 use sd_base::NoMemory;
-use sd_kernel::{How, Proof, Proved, Step};
+use sd_kernel::{How, Proof, Proved, RowLine, Step};
 use sqlite_items::Items;
 use std::alloc::Global;
 
 /// The draft with one more line, if the line can stand there.
-pub(crate) fn next(alloc: Global, draft: Draft, line: Line) -> Result<Option<Draft>, NoMemory>
-    ensures { IfOk result (Goes draft line) }
+pub(crate) fn next(alloc: Global, draft: Draft, line: &Line) -> Result<Option<Draft>, NoMemory>
+    requires { IsLine line.now }
+    ensures { IfOk result (Goes draft line.now) }
 {
     match draft {
         Draft::Empty => Ok(match line {
@@ -24,39 +27,55 @@ pub(crate) fn next(alloc: Global, draft: Draft, line: Line) -> Result<Option<Dra
             _ => None,
         }),
         Draft::Versioned => Ok(match line {
-            Line::Old(old) => Some(Draft::WithOld(old)),
+            Line::Old(old) => Some(Draft::WithOld(*old)),
             _ => None,
         }),
         Draft::WithOld(old) => Ok(match line {
-            Line::New(new) => Some(Draft::WithNew(old, new)),
+            Line::New(new) => Some(Draft::WithNew(old, *new)),
             _ => None,
         }),
         Draft::WithNew(old, new) => Ok(match line {
-            Line::Settings(settings) => Some(Draft::WithDigests(Digests { old, new, settings })),
+            Line::Settings(settings) => Some(Draft::WithDigests(Digests {
+                old,
+                new,
+                settings: *settings,
+            })),
             _ => None,
         }),
         Draft::WithDigests(digests) => Ok(match line {
             Line::Pairs(count) => Some(Draft::Body(Body {
                 digests,
-                count,
+                count: *count,
                 pairs: Items::new(alloc),
                 last: None,
             })),
             _ => None,
         }),
         Draft::Body(body) => next_in_body(alloc, body, line),
+        Draft::Rows(rows) => next_in_rows(rows, line),
         Draft::Done(_) => Ok(None),
     }
 }
 
-fn next_in_body(alloc: Global, body: Body, line: Line) -> Result<Option<Draft>, NoMemory>
-    ensures { IfOk result (GoesOn body line) }
+fn next_in_body(alloc: Global, body: Body, line: &Line) -> Result<Option<Draft>, NoMemory>
+    requires { IsLine line.now }
+    ensures { IfOk result (GoesOn body line.now) }
 {
     match line {
-        Line::Pair(number, state) => next_pair(alloc, body, number, state),
-        Line::Candidate(candidate) => next_candidate(alloc, body, candidate),
-        Line::Step(step) => next_step(body, step),
+        Line::Pair(number, state) => next_pair(alloc, body, *number, *state),
+        Line::Candidate(candidate) => next_candidate(alloc, body, *candidate),
+        Line::Step(step) => next_step(alloc, body, step),
+        Line::Rows(count) => next_rows(alloc, body, *count),
         Line::End => end(body),
+        _ => Ok(None),
+    }
+}
+
+fn next_in_rows(rows: OpenRows, line: &Line) -> Result<Option<Draft>, NoMemory>
+    ensures { IfOk result (RowsGoOn rows line.now) }
+{
+    match line {
+        Line::Row(row) => next_row(rows, *row),
         _ => Ok(None),
     }
 }
@@ -152,8 +171,9 @@ fn next_candidate(alloc: Global, body: Body, candidate: u32) -> Result<Option<Dr
     })))
 }
 
-fn next_step(body: Body, step: Step) -> Result<Option<Draft>, NoMemory>
-    ensures { IfOk result (GoesOn body (line.Step step)) }
+fn next_step(alloc: Global, body: Body, step: &Step) -> Result<Option<Draft>, NoMemory>
+    requires { IsStep step.now }
+    ensures { IfOk result (GoesOn body (line.Step step.now)) }
 {
     let Body {
         digests,
@@ -172,14 +192,108 @@ fn next_step(body: Body, step: Step) -> Result<Option<Draft>, NoMemory>
     let Some(started) = proof else {
         return Ok(None);
     };
-    let OpenProof { candidate, steps } = started;
-    let mut steps = steps;
-    steps.push(step)?;
-    let proof = Some(OpenProof { candidate, steps });
+    let proof = with_step(started, copy_step(alloc, step)?)?;
     let last = Some(OpenPair {
         state,
         proved,
+        proof: Some(proof),
+    });
+    Ok(Some(Draft::Body(Body {
+        digests,
+        count,
+        pairs,
+        last,
+    })))
+}
+
+/// The proof with one more step.
+fn with_step(proof: OpenProof, step: Step) -> Result<OpenProof, NoMemory>
+    ensures { IfOk result (λ longer. proof_lines (Some longer) ≡ proof_lines (Some proof) ++ step_lines step) }
+{
+    let OpenProof { candidate, steps } = proof;
+    let mut steps = steps;
+    steps.push(step)?;
+    Ok(OpenProof { candidate, steps })
+}
+
+fn next_rows(alloc: Global, body: Body, rows: u64) -> Result<Option<Draft>, NoMemory>
+    ensures { IfOk result (GoesOn body (line.Rows rows)) }
+{
+    let Body {
+        digests,
+        count,
+        pairs,
+        last,
+    } = body;
+    let Some(pair) = last else {
+        return Ok(None);
+    };
+    let OpenPair {
+        state,
+        proved,
         proof,
+    } = pair;
+    let Some(proof) = proof else {
+        return Ok(None);
+    };
+    if rows == 0 {
+        let proof = with_step(proof, Step::Rows(Items::new(alloc)))?;
+        let last = Some(OpenPair {
+            state,
+            proved,
+            proof: Some(proof),
+        });
+        return Ok(Some(Draft::Body(Body {
+            digests,
+            count,
+            pairs,
+            last,
+        })));
+    }
+    Ok(Some(Draft::Rows(OpenRows {
+        digests,
+        count,
+        pairs,
+        state,
+        proved,
+        proof,
+        rows: Items::new(alloc),
+        later: rows - 1,
+    })))
+}
+
+fn next_row(begun: OpenRows, row: RowLine) -> Result<Option<Draft>, NoMemory>
+    ensures { IfOk result (RowsGoOn begun (line.Row row)) }
+{
+    let OpenRows {
+        digests,
+        count,
+        pairs,
+        state,
+        proved,
+        proof,
+        rows,
+        later,
+    } = begun;
+    let mut rows = rows;
+    rows.push(row)?;
+    if later > 0 {
+        return Ok(Some(Draft::Rows(OpenRows {
+            digests,
+            count,
+            pairs,
+            state,
+            proved,
+            proof,
+            rows,
+            later: later - 1,
+        })));
+    }
+    let proof = with_step(proof, Step::Rows(rows))?;
+    let last = Some(OpenPair {
+        state,
+        proved,
+        proof: Some(proof),
     });
     Ok(Some(Draft::Body(Body {
         digests,

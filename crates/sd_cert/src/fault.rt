@@ -16,7 +16,7 @@ pub enum CertError {
     OtherNew,
     OtherSettings,
     Pair(u32),
-    /// The line of the first bad step.
+    /// The first bad line of the steps, and why it is bad.
     Step(u64, StepCause),
 }
 

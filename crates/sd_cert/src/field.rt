@@ -1,11 +1,11 @@
 //! The fields of a line.
-ghost use Rattle.std.specs.Prelude.{◌≡◌, ◌≢◌, ◌<◌, ◌^◌, ◌++◌, ℕ, List, MatchOption};
+ghost use Rattle.std.specs.Prelude.{◌≡◌, ◌≢◌, ◌<◌, ◌^◌, ◌+◌, ◌++◌, ◌∷◌, ℕ, List, false, length, take, drop, MatchOption};
 ghost use Rattle.std.specs.Option.{option_copied};
 ghost use Rattle.std.specs.Fmt.{decimal};
 ghost use Rattle.hex.specs.Hex.{encode_lower};
 ghost use Rattle.std.specs.Char.{is_ascii_digit};
 ghost use Rattle.std.specs.List.{list_all};
-ghost use Rattle.sd_cert.specs.Fields.{IsReadAs, after_front, has_leading_zero, IsDigest};
+ghost use Rattle.sd_cert.specs.Fields.{IsReadAs, after_front, has_leading_zero, has_byte, IsDigest};
 
 /// What follows this front of a text, if the text has it.
 pub(crate) fn after<'a>(text: &'a [u8], front: &[u8]) -> Option<&'a [u8]>
@@ -19,6 +19,18 @@ pub(crate) fn before<'a>(text: &'a [u8], end: &[u8]) -> Option<&'a [u8]>
     ensures { MatchOption result ((front : List ℕ) → text.now ≢ front ++ end.now) (λ front. text.now ≡ front.now ++ end.now) }
 {
     text.strip_suffix(end)
+}
+
+/// The place of the first such byte.
+pub(crate) fn place_of(byte: u8, text: &[u8]) -> Option<usize>
+    ensures { MatchOption result (has_byte byte text.now ≡ false) (λ at. (at < length text.now) × (text.now ≡ take at text.now ++ byte ∷ drop (at + 1) text.now) × (has_byte byte (take at text.now) ≡ false)) }
+{
+    for (i, other) in text.iter().enumerate() {
+        if *other == byte {
+            return Some(i);
+        }
+    }
+    None
 }
 
 fn are_digits(text: &[u8]) -> bool

@@ -9,23 +9,13 @@ ghost use Rattle.sd_cert.specs.BadSteps.{how_fault, entries_fault, pairs_fault, 
 ghost use Rattle.sd_cert.specs.Shapes.{count_of};
 
 use crate::certificate::CertPair;
+use crate::counting::{below_entry, further};
 use crate::fault::CertError;
 use crate::shape::Shape;
-use sd_base::NoMemory;
 use sd_cand::LiveTable;
 use sd_kernel::{How, Proved, Verdict, proves};
 use sd_product::{Work, query};
 use std::alloc::Global;
-
-/// The line so many lines further. A text of 2^64 lines is out of memory.
-fn further(line: u64, count: u64) -> Result<u64, NoMemory>
-    ensures { IfOk result (λ l. l ≡ line + count) }
-{
-    match line.checked_add(count) {
-        Some(sum) => Ok(sum),
-        None => Err(NoMemory),
-    }
-}
 
 /// Judges an entry of the candidate with this number under the table. The candidate stands at this line.
 fn judge_entry(
@@ -50,16 +40,6 @@ fn judge_entry(
             Err(CertError::Step(at, cause))
         }
     }
-}
-
-/// The line below an entry.
-fn below_entry(entry: &Proved, line: u64) -> Result<u64, NoMemory>
-    ensures { IfOk result (λ l. l ≡ line + length (proved_lines entry.now)) }
-{
-    let How::Steps(proof) = &entry.how;
-    let count = proof.steps.len() as u64;
-    let first = further(line, 1)?;
-    further(first, count)
 }
 
 /// Judges the entries of a pair, whose candidates are numbered from `first` on, from this line on, and answers the line

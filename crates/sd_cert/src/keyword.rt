@@ -15,11 +15,23 @@ pub(crate) enum Keyword {
     Pairs,
     Pair,
     Candidate,
+    TermEq,
+    TermLe,
+    TermRead,
+    TermDiff,
     Split,
+    Order,
+    Ite,
+    Chain,
     Close,
+    Rows,
+    Fact,
+    Back,
+    Add,
+    Cut,
 }
 
-const KEYWORDS: [Keyword; 9] = [
+const KEYWORDS: [Keyword; 21] = [
     Keyword::Version,
     Keyword::Old,
     Keyword::New,
@@ -27,8 +39,20 @@ const KEYWORDS: [Keyword; 9] = [
     Keyword::Pairs,
     Keyword::Pair,
     Keyword::Candidate,
+    Keyword::TermEq,
+    Keyword::TermLe,
+    Keyword::TermRead,
+    Keyword::TermDiff,
     Keyword::Split,
+    Keyword::Order,
+    Keyword::Ite,
+    Keyword::Chain,
     Keyword::Close,
+    Keyword::Rows,
+    Keyword::Fact,
+    Keyword::Back,
+    Keyword::Add,
+    Keyword::Cut,
 ];
 
 /// The front of the lines with this word.
@@ -43,8 +67,20 @@ fn front(keyword: Keyword) -> &'static [u8]
         Keyword::Pairs => b"pairs ",
         Keyword::Pair => b"pair ",
         Keyword::Candidate => b"candidate ",
+        Keyword::TermEq => b"term eq ",
+        Keyword::TermLe => b"term le ",
+        Keyword::TermRead => b"term read ",
+        Keyword::TermDiff => b"term diff ",
         Keyword::Split => b"split ",
+        Keyword::Order => b"order ",
+        Keyword::Ite => b"ite ",
+        Keyword::Chain => b"chain ",
         Keyword::Close => b"close ",
+        Keyword::Rows => b"rows ",
+        Keyword::Fact => b"fact ",
+        Keyword::Back => b"back ",
+        Keyword::Add => b"add ",
+        Keyword::Cut => b"cut ",
     }
 }
 

@@ -2,6 +2,8 @@
 #![tactic(auto)]
 
 mod certificate;
+mod copying;
+mod counting;
 mod digest;
 mod draft;
 mod extend;
@@ -11,6 +13,8 @@ mod judge;
 mod keyword;
 pub mod laws;
 mod line;
+mod numbered;
+mod numbers;
 mod reading;
 mod refusal;
 mod replaying;

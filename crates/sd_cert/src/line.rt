@@ -1,13 +1,17 @@
 //! The lines of a certificate.
-ghost use Rattle.std.specs.Prelude.{◌≡◌, ◌++◌};
+ghost use Rattle.std.specs.Prelude.{◌≡◌, ◌++◌, IfOk};
 ghost use Rattle.std.specs.Option.{option_map};
 ghost use Rattle.sd_cert.specs.Fields.{IsReadAs};
 ghost use Rattle.sd_cert.specs.Keywords.{front_of};
 ghost use Rattle.sd_cert.specs.Lines.{line_text, IsLine, pair_fields, IsPairField};
 
-use crate::field::{before, read_digest, read_u32, read_u64};
+use crate::field::{before, read_digest, read_u32};
 use crate::keyword::{Keyword, keyword_of};
-use sd_kernel::Step;
+use crate::numbered::numbered_line;
+use crate::numbers::read_numbers;
+use sd_base::NoMemory;
+use sd_kernel::{RowLine, Step};
+use std::alloc::Global;
 
 /// What a certificate says of a pair: its candidates have queries, or the pair is refused.
 #[derive(Clone, Copy, Debug, PartialEq, Eq)]
@@ -17,7 +21,7 @@ pub enum CertState {
 }
 
 /// A line of a certificate.
-#[derive(Clone, Copy, Debug)]
+#[derive(Debug, Drop)]
 pub enum Line {
     Version(u64),
     Old([u8; 32]),
@@ -28,35 +32,40 @@ pub enum Line {
     Pair(u32, CertState),
     /// A live candidate, by its number within the pair.
     Candidate(u32),
+    /// A step that is one line.
     Step(Step),
+    /// A step of so many rows, which stand on the next lines.
+    Rows(u64),
+    Row(RowLine),
     End,
 }
 
 /// The line that a text without line feeds spells.
-pub fn read_line(text: &[u8]) -> Option<Line>
-    ensures { IsReadAs line_text IsLine text.now result }
+pub fn read_line(alloc: Global, text: &[u8]) -> Result<Option<Line>, NoMemory>
+    ensures { IfOk result (IsReadAs line_text IsLine text.now) }
 {
     if text == b"end".as_slice() {
-        return Some(Line::End);
+        return Ok(Some(Line::End));
     }
-    let (keyword, fields) = keyword_of(text)?;
-    read_fields(keyword, fields)
+    match keyword_of(text) {
+        Some((keyword, fields)) => read_fields(alloc, keyword, fields),
+        None => Ok(None),
+    }
 }
 
 /// The line that begins with this word and has these fields.
-fn read_fields(keyword: Keyword, fields: &[u8]) -> Option<Line>
-    ensures { IsReadAs line_text IsLine (front_of keyword ++ fields.now) result }
+fn read_fields(alloc: Global, keyword: Keyword, fields: &[u8]) -> Result<Option<Line>, NoMemory>
+    ensures { IfOk result (IsReadAs line_text IsLine (front_of keyword ++ fields.now)) }
 {
     match keyword {
-        Keyword::Version => Some(Line::Version(read_u64(fields)?)),
-        Keyword::Old => Some(Line::Old(read_digest(fields)?)),
-        Keyword::New => Some(Line::New(read_digest(fields)?)),
-        Keyword::Settings => Some(Line::Settings(read_digest(fields)?)),
-        Keyword::Pairs => Some(Line::Pairs(read_u64(fields)?)),
-        Keyword::Pair => pair_line(read_pair(fields)),
-        Keyword::Candidate => Some(Line::Candidate(read_u32(fields)?)),
-        Keyword::Split => Some(Line::Step(Step::Split(read_u32(fields)?))),
-        Keyword::Close => Some(Line::Step(Step::Close(read_u32(fields)?))),
+        Keyword::Old => Ok(read_digest(fields).map(Line::Old)),
+        Keyword::New => Ok(read_digest(fields).map(Line::New)),
+        Keyword::Settings => Ok(read_digest(fields).map(Line::Settings)),
+        Keyword::Pair => Ok(pair_line(read_pair(fields))),
+        _ => match read_numbers(alloc, fields)? {
+            Some(numbers) => numbered_line(alloc, keyword, numbers.as_slice()),
+            None => Ok(None),
+        },
     }
 }
 

@@ -1,5 +1,7 @@
 //! Certificates from their bytes.
 ghost use Rattle.std.specs.Prelude.{◌≡◌, ◌⊎◌, ◌+◌, ◌<◌, ◌^◌, IfOk, IfErr};
+ghost use Rattle.std.specs.List.{AllByRecursion};
+ghost use Rattle.sd_cert.specs.Lines.{IsLine};
 ghost use Rattle.sd_cert.specs.declared.certificate.Certificate.{Certificate as Spelled};
 ghost use Rattle.sd_cert.specs.declared.fault.CertError.TheVariants.{NoMemory as Memory};
 ghost use Rattle.sd_cert.specs.Certificates.{certificate_text, IsCertificate};
@@ -40,26 +42,27 @@ fn read_whole(alloc: Global, bytes: &[u8]) -> Result<Certificate, CertError>
 }
 
 fn read_draft(alloc: Global, lines: &[Line]) -> Result<Draft, CertError>
+    requires { AllByRecursion IsLine lines.now }
     ensures lines { IfOk result (λ draft. draft_lines draft ≡ lines.now) }
     ensures phase { IfOk result (λ draft. after_lines at_version lines.now ≡ Some (phase_of draft)) }
     ensures fault { IfErr result (IsLineFault lines.now) }
 {
     let mut draft = Draft::Empty;
     for (i, line) in lines.iter().enumerate() {
-        match next(alloc, draft, *line)? {
+        match next(alloc, draft, line)? {
             Some(longer) => draft = longer,
-            None => return Err(fault_at(i, *line)),
+            None => return Err(fault_at(i, line)),
         }
     }
     Ok(draft)
 }
 
-fn fault_at(place: usize, line: Line) -> CertError
+fn fault_at(place: usize, line: &Line) -> CertError
     requires { place + 1 < 2 ^ 64 }
-    ensures { IsPlaceFault place line result }
+    ensures { IsPlaceFault place line.now result }
 {
     match line {
-        Line::Version(version) if place == 0 => CertError::Version(version),
+        Line::Version(version) if place == 0 => CertError::Version(*version),
         _ => CertError::Line(place as u64 + 1),
     }
 }

@@ -44,23 +44,23 @@ fn candidate_count(shapes: &[Shape], pair: u32) -> u64
 }
 
 /// Why a line is refused.
-fn refusal(shapes: &[Shape], digests: &Digests, spot: Spot, line: Line) -> Option<CertError>
+fn refusal(shapes: &[Shape], digests: &Digests, spot: Spot, line: &Line) -> Option<CertError>
     requires { length shapes.now < 2 ^ 32 }
-    ensures { result ≡ refusal shapes.now digests.now spot line }
+    ensures { result ≡ refusal shapes.now digests.now spot line.now }
 {
     match line {
-        Line::Old(old) => unless(old == digests.old, CertError::OtherOld),
-        Line::New(new) => unless(new == digests.new, CertError::OtherNew),
+        Line::Old(old) => unless(*old == digests.old, CertError::OtherOld),
+        Line::New(new) => unless(*new == digests.new, CertError::OtherNew),
         Line::Settings(settings) => {
-            unless(settings == digests.settings, CertError::OtherSettings)
+            unless(*settings == digests.settings, CertError::OtherSettings)
         }
         Line::Pairs(count) => {
             let own = shapes.len() as u64;
-            unless(count == own, CertError::Pair(count.min(own) as u32))
+            unless(*count == own, CertError::Pair((*count).min(own) as u32))
         }
-        Line::Pair(pair, state) => unless(has_state(shapes, pair, state), CertError::Pair(pair)),
+        Line::Pair(pair, state) => unless(has_state(shapes, *pair, *state), CertError::Pair(*pair)),
         Line::Candidate(candidate) => {
-            let number = candidate as u64;
+            let number = *candidate as u64;
             let count = candidate_count(shapes, spot.pair);
             unless(
                 spot.least <= number && number < count,
@@ -71,14 +71,17 @@ fn refusal(shapes: &[Shape], digests: &Digests, spot: Spot, line: Line) -> Optio
     }
 }
 
-fn spot_after(spot: Spot, line: Line) -> Spot
-    ensures { result ≡ spot_after spot line }
+fn spot_after(spot: Spot, line: &Line) -> Spot
+    ensures { result ≡ spot_after spot line.now }
 {
     match line {
-        Line::Pair(pair, _) => Spot { pair, least: 0 },
+        Line::Pair(pair, _) => Spot {
+            pair: *pair,
+            least: 0,
+        },
         Line::Candidate(candidate) => Spot {
             pair: spot.pair,
-            least: candidate as u64 + 1,
+            least: *candidate as u64 + 1,
         },
         _ => spot,
     }
@@ -95,10 +98,10 @@ pub(crate) fn first_refusal(
 {
     let mut spot = Spot { pair: 0, least: 0 };
     for line in lines {
-        if let Some(fault) = refusal(shapes, digests, spot, *line) {
+        if let Some(fault) = refusal(shapes, digests, spot, line) {
             return Some(fault);
         }
-        spot = spot_after(spot, *line);
+        spot = spot_after(spot, line);
     }
     None
 }

@@ -108,7 +108,7 @@ fn check(
 /// The first bad line is answered: `Version` and `Line` as `read_certificate` has them; `OtherOld`, `OtherNew` and
 /// `OtherSettings` for another digest; `Pair` for a number of pairs other than theirs, with the lesser of the two, and
 /// for a pair's wrong state and a candidate that the pair doesn't have or that isn't above the one before, with the
-/// pair's number. Only where no line is bad are the steps judged, and `Step` has the line of the first bad step.
+/// pair's number. Only where no line is bad are the steps judged, and `Step` has the first of their lines that is bad.
 pub fn replay(
     alloc: Global,
     work: &Work,

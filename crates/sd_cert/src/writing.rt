@@ -7,6 +7,7 @@ ghost use Rattle.sd_cert.specs.Shapes.{shapes_of, count_of};
 ghost use Rattle.sd_cert.specs.Written.{IsCertificateOf, IsWritten};
 
 use crate::certificate::{CertPair, Certificate};
+use crate::copying::copy_steps;
 use crate::digest::Digests;
 use crate::line::CertState;
 use crate::shape::{Shape, shapes_of};
@@ -23,7 +24,7 @@ fn entry_of(alloc: Global, proved: &Proved, first: u32) -> Result<Proved, NoMemo
     ensures { IfOk result (λ entry. numbered_from first entry ≡ proved.now) }
 {
     let How::Steps(proof) = &proved.how;
-    let steps = Items::from_slice(alloc, proof.steps.as_slice())?;
+    let steps = copy_steps(alloc, proof.steps.as_slice())?;
     Ok(Proved {
         candidate: proved.candidate - first,
         how: How::Steps(Proof { steps }),

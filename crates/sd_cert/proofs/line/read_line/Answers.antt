@@ -1,10 +1,11 @@
-use Rattle.std.proofs.Common.{List, ℕ, sym, ap, ◌∙◌}
-use Rattle.std.specs.Option.{option_map}
-use Rattle.sd_cert.specs.declared.keyword.Keyword.{Keyword}
-use Rattle.sd_cert.proofs.LineLemmas.{line_by_keyword}
+use Rattle.std.proofs.Common.{◌++◌, sym}
+use Rattle.sd_cert.specs.Fields.{IsReadAs}
+use Rattle.sd_cert.specs.Keywords.{front_of}
+use Rattle.sd_cert.specs.Lines.{line_text, IsLine}
+use Rattle.sd_cert.proofs.LineLemmas.{line_by_keyword, each-ok}
 use Rattle.sd_cert.proofs.line.read_line.Goals as goal
 
-pub returns : goal.returns
-returns c =
-    line_by_keyword c.args.text.now c.in_ok-keyword.keyword c.in_ok-keyword.fields.now c.read_fields.result
-    (sym c.keyword_of.ensures ∙ ap (option_map {U = Keyword × List ℕ} (λ found. (found.0, found.1.now))) c.in_ok-keyword.was) c.read_fields.ensures
+pub returns-in-Some : goal.returns-in-Some
+returns-in-Some c =
+    each-ok (IsReadAs line_text IsLine (front_of c.in-Some.keyword ++ c.in-Some.fields.now)) (IsReadAs line_text IsLine c.args.text.now) c.read_fields.result
+    (λ o h. line_by_keyword c.args.text.now c.in-Some.keyword c.in-Some.fields.now o (sym c.in-Some.ensures) h) c.read_fields.ensures

@@ -7,7 +7,8 @@ use Rattle.sd_cert.proofs.TextLemmas.{fit-push, whole-push}
 use Rattle.sd_cert.proofs.text.read_lines.Goals as goal
 
 pub lines-preserved : goal.lines-preserved
-lines-preserved c = record {
-  fit = subst (λ (ls : List Line). AllByRecursion IsLine ls) (sym c.in_ok-push.ensures.ok) (fit-push c.lines.lines c.in-Some.line c.lines.invariant.fit c.in-Some.ensures.0);
-  whole = whole-push c.args.text.now c.lines.rest.now c.in-Some.after.now c.lines.lines c.in-Some.line c.lines.invariant.whole c.in-Some.ensures.1 ∙ ap (λ ls. lines_text ls ++ c.in-Some.after.now) (sym c.in_ok-push.ensures.ok);
-}
+lines-preserved c =
+    let first = rw c.in-Some.is at c.in_ok-line.ensures in record {
+      fit = subst (λ (ls : List Line). AllByRecursion IsLine ls) (sym c.in_ok-push.ensures.ok) (fit-push c.lines.lines c.in-Some.line c.lines.invariant.fit first.0);
+      whole = whole-push c.args.text.now c.lines.rest.now c.in-Some.after.now c.lines.lines c.in-Some.line c.lines.invariant.whole first.1 ∙ ap (λ ls. lines_text ls ++ c.in-Some.after.now) (sym c.in_ok-push.ensures.ok);
+    }
