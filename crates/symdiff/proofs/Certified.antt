@@ -14,7 +14,7 @@ use Rattle.sd_cert.specs.Accepts.{Ascend, Accepts}
 use Rattle.sd_cert.specs.ReplayFaults.{IsReplayFault}
 use Rattle.symdiff.specs.declared.verdict.Otherwise.TheVariants.{Unknown, Unproved}
 use Rattle.symdiff.specs.Texts.{Texts, IsWorkOf, digests_of}
-use Rattle.symdiff.specs.Outcome.{Outcome, IsReport, IsCertified, IsComparison, IsReplay, IsRefused}
+use Rattle.symdiff.specs.Outcome.{Outcome, IsReport, IsCertified, IsComparison, IsReplay, IsRefused, default_leaves}
 use Rattle.symdiff.specs.Replies.{IsMade}
 
 -- ---- what is made shows the table
@@ -29,12 +29,12 @@ made-certified t h proofs live (Some name) None size inductive m = absurd m
 -- ---- comparisons
 
 -- the proofs of a settled table ascend
-pub settled-ascends : (h : Held) (live : List Bool) (deaths : List Death) (proofs slice : List Proved) → IsSettled h live deaths proofs → slice ≡ proofs → Ascend 0 (length (claims_in h)) (proved_of slice)
+pub settled-ascends : (h : Held) (live : List Bool) (deaths : List Death) (proofs slice : List Proved) → IsSettled default_leaves h live deaths proofs → slice ≡ proofs → Ascend 0 (length (claims_in h)) (proved_of slice)
 settled-ascends h live deaths proofs slice s is =
     subst (λ (ps : List Proved). Ascend 0 (length (claims_in h)) (proved_of ps)) (sym is)
     (inductive-ascends (queries_under h live) (length (claims_in h)) live proofs s.size s.inductive)
 
-pub comparison-of : (t : Texts) (h : Held) (name : Option (List ℕ)) (o : Outcome) (live : List Bool) (proofs slice : List Proved) → IsWorkOf t h → IsSettled h live o.deaths proofs → slice ≡ proofs
+pub comparison-of : (t : Texts) (h : Held) (name : Option (List ℕ)) (o : Outcome) (live : List Bool) (proofs slice : List Proved) → IsWorkOf t h → IsSettled default_leaves h live o.deaths proofs → slice ≡ proofs
     → IsMade t h slice name o.certificate → IsReport Unknown t live o → IsComparison name t o
 comparison-of t h name o live proofs slice work s same made told = record {
   work = h;

@@ -34,7 +34,8 @@ use Rattle.symdiff.specs.declared.verdict.Otherwise.{Otherwise}
 use Rattle.symdiff.specs.declared.verdict.Otherwise.TheVariants as otherwise
 use Rattle.symdiff.specs.TextRefusals.{IsTaken}
 use Rattle.symdiff.specs.Texts.{Texts, IsWorkOf}
-use Rattle.symdiff.specs.Outcome.{Outcome, IsComparison, IsReplay}
+use Rattle.sd_rounds.specs.declared.settle.Death.{Death}
+use Rattle.symdiff.specs.Outcome.{Outcome, IsComparison, IsReplay, default_leaves}
 use Rattle.symdiff.specs.Verdicts.{NoNewFailure, AreNewFailures}
 use Rattle.symdiff.proofs.Settling.{IsOpenAt, dead_open}
 use Rattle.symdiff.proofs.VerdictLemmas.{IsRight, all_right}
@@ -55,8 +56,8 @@ all-map A B f [] a = tt
 all-map A B f (x ∷ xs) a = (f x a.0, all-map A B f xs a.1)
 
 module _ (t : Texts) (old_read : IsTaken t.old_bytes t.old) (new_read : IsTaken t.new_bytes t.new) where
-  abbrev AreRight : List PairVerdict → Type 0
-  AreRight vs = AllByRecursion (IsRight t.old t.new) vs
+  abbrev AreRight : List Death → List PairVerdict → Type 0
+  AreRight deaths vs = AllByRecursion (IsRight t.old t.new deaths) vs
 
   straight-core : (C : CoreProgram) → C ≡ core_program t.old → IsStraightProgram t.old → IsStraightCore C
   straight-core C is straight = subst IsStraightCore (sym is) (straight_kept t.old old_read.typed straight)
@@ -67,30 +68,30 @@ module _ (t : Texts) (old_read : IsTaken t.old_bytes t.old) (new_read : IsTaken 
   failed : (h : Held) → IsWorkOf t h → IsStraightProgram t.old → IsStraightProgram t.new → (n : ℕ) (x : Claimed) → IsFlagAt h n x → x.candidate.when ≡ equal_inputs x.pair → IsOpenAt h n → NewFailureOf h.old h.new x.pair.old x.pair.new
   failed h w old new n x at when o = open_fails h o.seen n x o.facts o.cube w.held (straight-core h.old w.old old) (straight-new h.new w.new new) at when o.query o.«open»
 
-  pub compared_right : (name : Option (List ℕ)) (o : Outcome) → IsComparison name t o → AreRight o.pairs
+  pub compared_right : (name : Option (List ℕ)) (o : Outcome) → IsComparison name t o → AreRight o.deaths o.pairs
   compared_right name o c =
       let h : Held = c.work in
       let w = c.is_work in
-      subst AreRight (sym c.told.verdicts)
-      (all_right t.old t.new old_read.typed new_read.typed h w.old w.new otherwise.Unknown c.live
+      subst (AreRight o.deaths) (sym c.told.verdicts)
+      (all_right t.old t.new old_read.typed new_read.typed h w.old w.new otherwise.Unknown c.live o.deaths
       (λ n x. live_safe h c.live c.proofs n x w.held c.settled.inductive)
-      (λ is old new n x at when dead. failed h w old new n x at when (dead_open h c.live o.deaths c.proofs c.settled n (slice_get_within (claims_in h) n x at.at) dead))
+      (λ is old new n x at when dead unspent. failed h w old new n x at when (dead_open default_leaves h c.live o.deaths c.proofs c.settled n (slice_get_within (claims_in h) n x at.at) dead unspent))
       c.settled.size)
 
-  pub replayed_right : (bytes : List ℕ) (o : Outcome) → IsReplay bytes t o → AreRight o.pairs
+  pub replayed_right : (bytes : List ℕ) (o : Outcome) → IsReplay bytes t o → AreRight o.deaths o.pairs
   replayed_right bytes o r =
       let h : Held = r.work in
       let w = r.is_work in
-      subst AreRight (sym r.told.verdicts)
-      (all_right t.old t.new old_read.typed new_read.typed h w.old w.new otherwise.Unproved r.live
+      subst (AreRight o.deaths) (sym r.told.verdicts)
+      (all_right t.old t.new old_read.typed new_read.typed h w.old w.new otherwise.Unproved r.live o.deaths
       (λ n x. live_safe h r.live _ n x w.held r.accepted.inductive)
       (λ is. absurd (let bad : ◌≡◌ {A = Otherwise} otherwise.Unproved otherwise.Unknown = is in cc))
       r.accepted.size)
 
   -- no safe pair has a new failure
-  pub right_safe : (pairs : List PairVerdict) → AreRight pairs → NoNewFailure t.old t.new pairs
-  right_safe pairs a = all-map (IsRight t.old t.new) (λ v. _) (λ v r. r.0) pairs a
+  pub right_safe : (deaths : List Death) (pairs : List PairVerdict) → AreRight deaths pairs → NoNewFailure t.old t.new pairs
+  right_safe deaths pairs a = all-map (IsRight t.old t.new deaths) (λ v. _) (λ v r. r.0) pairs a
 
   -- an unknown pair has one, without calls and loops
-  pub right_unknown : (pairs : List PairVerdict) → AreRight pairs → IsStraightProgram t.old → IsStraightProgram t.new → AreNewFailures t.old t.new pairs
-  right_unknown pairs a old new = all-map (IsRight t.old t.new) (λ v. _) (λ v r is. r.1 is old new) pairs a
+  pub right_unknown : (deaths : List Death) (pairs : List PairVerdict) → AreRight deaths pairs → IsStraightProgram t.old → IsStraightProgram t.new → AreNewFailures t.old t.new deaths pairs
+  right_unknown deaths pairs a old new = all-map (IsRight t.old t.new deaths) (λ v. _) (λ v r is none. r.1 is old new none) pairs a

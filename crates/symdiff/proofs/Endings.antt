@@ -100,7 +100,7 @@ module _ (words : List (List ℕ)) (held : List ℕ → Option (List ℕ)) (e : 
   pub ended_headline : Headline words held e.pairs.items
   ended_headline = row_headline words held (outcome code text certificate e) ended_answer
 
-  pub ended_unknown : UnknownIsFailure words held e.pairs.items
+  pub ended_unknown : UnknownIsFailure words held e.deaths.items e.pairs.items
   ended_unknown = row_unknown words held (outcome code text certificate e) ended_answer
 
 -- ---- files

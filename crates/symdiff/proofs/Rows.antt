@@ -22,6 +22,7 @@ use Rattle.sd_match.specs.declared.refusal.MatchError.TheVariants as matching
 use Rattle.symdiff.specs.Texts.{Holds, Texts, AreRead, AreMatched, clash_of}
 use Rattle.symdiff.specs.Outcome.{Outcome, message, status_of}
 use Rattle.symdiff.specs.Replies.{IsTextReply, IsClashReply, IsTextsReply, IsReplayReply}
+use Rattle.sd_rounds.specs.declared.settle.Death.{Death}
 use Rattle.symdiff.specs.Verdicts.{NoNewFailure, AreNewFailures}
 use Rattle.symdiff.specs.Answer.{Answer, no_job, old_refused, new_refused, clashing, compared, too_long, certificate_refused, replayed, ForPrograms, Headline, UnknownIsFailure, CertificateRose}
 use Rattle.symdiff.proofs.Comparison.{compared_right, replayed_right, right_safe, right_unknown, one_taken}
@@ -102,27 +103,27 @@ module _ (words : List (List ℕ)) (held : List ℕ → Option (List ℕ)) (o : 
   row_headline (new_refused job old r a b c is) = silent_for NoNewFailure (λ P Q. tt) (refusal_status r) _ is
   row_headline (clashing job t r a b c is) = silent_for NoNewFailure (λ P Q. tt) 4 _ is
   row_headline (compared job t name a b c r) =
-      let s = c.are_read in texts_for NoNewFailure (λ P Q. tt) job t a s (right_safe t s.old_read s.new_read o.pairs (compared_right t s.old_read s.new_read name o r))
+      let s = c.are_read in texts_for NoNewFailure (λ P Q. tt) job t a s (right_safe t s.old_read s.new_read o.deaths o.pairs (compared_right t s.old_read s.new_read name o r))
   row_headline (too_long job t name a b c d is) = silent_for NoNewFailure (λ P Q. tt) 9 _ is
   row_headline (certificate_refused job t name bytes e a b c d r is) = silent_for NoNewFailure (λ P Q. tt) 5 _ is
   row_headline (replayed job t name bytes a b c d r) =
-      let s = c.are_read in texts_for NoNewFailure (λ P Q. tt) job t a s (right_safe t s.old_read s.new_read o.pairs (replayed_right t s.old_read s.new_read bytes o r))
+      let s = c.are_read in texts_for NoNewFailure (λ P Q. tt) job t a s (right_safe t s.old_read s.new_read o.deaths o.pairs (replayed_right t s.old_read s.new_read bytes o r))
 
   -- and an unknown pair has a failure, without calls and loops
   abbrev Unknowns : Program → Program → List PairVerdict → Type 0
-  Unknowns P Q pairs = IsStraightProgram P → IsStraightProgram Q → AreNewFailures P Q pairs
+  Unknowns P Q pairs = IsStraightProgram P → IsStraightProgram Q → AreNewFailures P Q o.deaths pairs
 
-  pub row_unknown : Answer words held o → UnknownIsFailure words held o.pairs
+  pub row_unknown : Answer words held o → UnknownIsFailure words held o.deaths o.pairs
   row_unknown (no_job a is) = silent_for Unknowns (λ P Q p q. tt) 2 _ is
   row_unknown (old_refused job r a b is) = silent_for Unknowns (λ P Q p q. tt) (refusal_status r) _ is
   row_unknown (new_refused job old r a b c is) = silent_for Unknowns (λ P Q p q. tt) (refusal_status r) _ is
   row_unknown (clashing job t r a b c is) = silent_for Unknowns (λ P Q p q. tt) 4 _ is
   row_unknown (compared job t name a b c r) =
-      let s = c.are_read in texts_for Unknowns (λ P Q p q. tt) job t a s (right_unknown t s.old_read s.new_read o.pairs (compared_right t s.old_read s.new_read name o r))
+      let s = c.are_read in texts_for Unknowns (λ P Q p q. tt) job t a s (right_unknown t s.old_read s.new_read o.deaths o.pairs (compared_right t s.old_read s.new_read name o r))
   row_unknown (too_long job t name a b c d is) = silent_for Unknowns (λ P Q p q. tt) 9 _ is
   row_unknown (certificate_refused job t name bytes e a b c d r is) = silent_for Unknowns (λ P Q p q. tt) 5 _ is
   row_unknown (replayed job t name bytes a b c d r) =
-      let s = c.are_read in texts_for Unknowns (λ P Q p q. tt) job t a s (right_unknown t s.old_read s.new_read o.pairs (replayed_right t s.old_read s.new_read bytes o r))
+      let s = c.are_read in texts_for Unknowns (λ P Q p q. tt) job t a s (right_unknown t s.old_read s.new_read o.deaths o.pairs (replayed_right t s.old_read s.new_read bytes o r))
 
 -- ---- rows
 
@@ -185,5 +186,5 @@ certificate_later (replay name) before mid now same rose = rose_later (before na
 pub none_headline : (words : List (List ℕ)) (held : List ℕ → Option (List ℕ)) (pairs : List PairVerdict) → pairs ≡ [] → Headline words held pairs
 none_headline words held pairs e j m ob ot nb nt P Q s t = subst (λ (vs : List PairVerdict). NoNewFailure P Q vs) (sym e) tt
 
-pub none_unknown : (words : List (List ℕ)) (held : List ℕ → Option (List ℕ)) (pairs : List PairVerdict) → pairs ≡ [] → UnknownIsFailure words held pairs
-none_unknown words held pairs e j m ob ot nb nt P Q s t old new = subst (λ (vs : List PairVerdict). AreNewFailures P Q vs) (sym e) tt
+pub none_unknown : (words : List (List ℕ)) (held : List ℕ → Option (List ℕ)) (deaths : List Death) (pairs : List PairVerdict) → pairs ≡ [] → UnknownIsFailure words held deaths pairs
+none_unknown words held deaths pairs e j m ob ot nb nt P Q s t old new = subst (λ (vs : List PairVerdict). AreNewFailures P Q deaths vs) (sym e) tt

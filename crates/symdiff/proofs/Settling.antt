@@ -6,14 +6,15 @@ use Rattle.std.proofs.lemmas.Option.{slice_get-get_or}
 use Rattle.std.proofs.Math.ListN.{length-replicate}
 use Rattle.sd_term.specs.Tree.{Tree}
 use Rattle.sd_term.specs.declared.cube.Cube.{Cube}
-use Rattle.sd_kernel.specs.OpenCube.{IsOpenCube}
+use Rattle.sd_cube.specs.OpenCube.{IsOpenCube}
 use Rattle.sd_kernel.specs.declared.proved.Proved.{Proved}
 use Rattle.sd_product.specs.Work.{Held, claims_in, queries_under}
 use Rattle.sd_rounds.specs.declared.settle.Cause.{Cause}
-use Rattle.sd_rounds.specs.declared.settle.Cause.TheVariants.{Open}
+use Rattle.sd_rounds.specs.declared.settle.Cause.TheVariants.{Open, Spent}
 use Rattle.sd_rounds.specs.declared.settle.Death.{Death}
 use Rattle.sd_rounds.specs.Table.{cleared}
 use Rattle.sd_rounds.specs.Settled.{dead_of, IsCause, IsLegalDeath, AreLegal, IsSettled}
+use Rattle.symdiff.specs.Verdicts.{is_spent}
 
 contains_head : {X : Type 0} (x : X) (xs : List X) → Contains (x ∷ xs) x
 contains_head x xs = (0, omega arith, refl)
@@ -34,8 +35,9 @@ pub record IsOpenAt (h : Held) (c : ℕ) : Type 0 where
   pub query : slice_get (queries_under h seen) c ≡ Some facts
   pub «open» : IsOpenCube facts cube
 
-open_at : (h : Held) (c : ℕ) (seen : List Bool) (facts : List Tree) (cause : Cause) → slice_get (queries_under h seen) c ≡ Some facts → IsCause facts cause → IsOpenAt h c
-open_at h c seen facts (Open cube) query is = record { seen = seen; facts = facts; cube = cube; query = query; «open» = is }
+open_at : (leaves : ℕ) (h : Held) (c : ℕ) (seen : List Bool) (facts : List Tree) (cause : Cause) → slice_get (queries_under h seen) c ≡ Some facts → IsCause leaves facts cause → (is_spent cause ≡ true → ⊥) → IsOpenAt h c
+open_at leaves h c seen facts (Open cube) query is unspent = record { seen = seen; facts = facts; cube = cube; query = query; «open» = is }
+open_at leaves h c seen facts (Spent n) query is unspent = absurd (unspent refl)
 
 set_false : (t : List Bool) (c i : ℕ) → slice_get (set t c false) i ≡ Some false → (slice_get t i ≡ Some false) ⊎ (c ≡ i)
 set_false [] c i e = inl e
@@ -51,21 +53,28 @@ cleared_false t (c ∷ cs) i e = elim (cleared_false (set t c false) cs i e) [
   | inr h ↦ inr (contains_tail c cs i h)
 ]
 
-module _ (h : Held) (table : List Bool) (deaths : List Death) (proofs : List Proved) (settled : IsSettled h table deaths proofs) where
+module _ (leaves : ℕ) (h : Held) (table : List Bool) (deaths : List Death) (proofs : List Proved) (settled : IsSettled leaves h table deaths proofs) where
   record Lawful (c : ℕ) : Type 0 where
     before : List ℕ
     death : Death
     named : death.candidate ≡ c
-    legal : IsLegalDeath h before death
+    legal : IsLegalDeath leaves h before death
 
-  lawful : (before : List ℕ) (ds : List Death) (c : ℕ) → AreLegal h before ds → Contains (dead_of ds) c → Lawful c
+  -- one of some deaths is of candidate c, and is lawful
+  record LawfulIn (ds : List Death) (c : ℕ) : Type 0 where
+    one : Lawful c
+    died : Contains ds one.death
+
+  lawful : (before : List ℕ) (ds : List Death) (c : ℕ) → AreLegal leaves h before ds → Contains (dead_of ds) c → LawfulIn ds c
   lawful before [] c a (k, within, is) = absurd (omega arith)
-  lawful before (d ∷ ds) c a (zero, within, is) = record { before = before; death = d; named = is; legal = a.0 }
-  lawful before (d ∷ ds) c a (suc k, within, is) = lawful (before ++ d.candidate ∷ []) ds c a.1 (k, omega arith, is)
+  lawful before (d ∷ ds) c a (zero, within, is) = record { one = record { before = before; death = d; named = is; legal = a.0 }; died = contains_head d ds }
+  lawful before (d ∷ ds) c a (suc k, within, is) =
+      let l = lawful (before ++ d.candidate ∷ []) ds c a.1 (k, omega arith, is) in
+      record { one = l.one; died = contains_tail d ds l.one.death l.died }
 
-  -- the query of a dead candidate was open
-  pub dead_open : (c : ℕ) → c < length (claims_in h) → slice_get table c ≡ Some false → IsOpenAt h c
-  dead_open c below dead =
+  -- the query of a dead candidate was open, unless the search for its proof was spent
+  pub dead_open : (c : ℕ) → c < length (claims_in h) → slice_get table c ≡ Some false → ((d : Death) → Contains deaths d → d.candidate ≡ c → is_spent d.cause ≡ true → ⊥) → IsOpenAt h c
+  dead_open c below dead unspent =
       let count : ℕ = length (claims_in h) in
       let full : slice_get (replicate count true) c ≡ Some true =
       slice_get-get_or (replicate count true) c false (subst (λ (n : ℕ). c < n) (sym (length-replicate count true)) below) ∙ ap Some (get_or-replicate count c true false below) in
@@ -73,6 +82,7 @@ module _ (h : Held) (table : List Bool) (deaths : List Death) (proofs : List Pro
       elim (cleared_false (replicate count true) (dead_of deaths) c gone) [
         | inl bad ↦ absurd (let worse : false ≡ true = bool_is false true (sym bad ∙ full) in cc)
         | inr found ↦
-            let l : Lawful c = lawful [] deaths c settled.legal found in
-            open_at h c l.legal.seen l.legal.facts l.death.cause (ap (λ k. slice_get (queries_under h l.legal.seen) k) (sym l.named) ∙ l.legal.query) l.legal.cause
+            let in_deaths : LawfulIn deaths c = lawful [] deaths c settled.legal found in
+            let l : Lawful c = in_deaths.one in
+            open_at leaves h c l.legal.seen l.legal.facts l.death.cause (ap (λ k. slice_get (queries_under h l.legal.seen) k) (sym l.named) ∙ l.legal.query) l.legal.cause (unspent l.death in_deaths.died l.named)
       ]

@@ -1,6 +1,6 @@
 -- What the verdicts on two programs tell.
 use Rattle.std.proofs.Common.{◌≡◌, ◌∙◌, sym, ap, refl, subst, ℕ, suc, zero, ◌+◌, ◌≤◌, ◌<◌, Bool, true, false, List, [], ◌∷◌, ◌++◌, length, drop, length-append, arith}
-use Rattle.std.specs.Prelude.{Option, Some, None, ◌↔◌, ◌&&◌, ◌||◌, map, is_some, slice_get, if◌then◌else◌}
+use Rattle.std.specs.Prelude.{Option, Some, None, ◌↔◌, ◌&&◌, ◌||◌, map, is_some, slice_get, Contains, if◌then◌else◌}
 use Rattle.std.specs.List.{AllByRecursion}
 use Rattle.std.proofs.lemmas.Option.{slice_get_within}
 use Rattle.sd_ast.specs.declared.Program.{Program}
@@ -36,7 +36,8 @@ use Rattle.symdiff.specs.declared.verdict.VerdictState.TheVariants.{Safe, Unknow
 use Rattle.symdiff.specs.declared.verdict.Otherwise.{Otherwise}
 use Rattle.symdiff.specs.declared.verdict.Otherwise.TheVariants as otherwise
 use Rattle.symdiff.proofs.Tables.{count_first}
-use Rattle.symdiff.specs.Verdicts.{is_flag, flag_live, said, state_of, verdict_by, verdict_of, verdicts_of}
+use Rattle.sd_rounds.specs.declared.settle.Death.{Death}
+use Rattle.symdiff.specs.Verdicts.{is_flag, flag_live, said, state_of, verdict_by, verdict_of, verdicts_of, is_spent, IsSpentPair}
 
 -- ---- lists
 
@@ -161,8 +162,14 @@ equal_flag pair is = go (equal_inputs pair) refl
 -- ---- verdicts
 
 -- what is claimed by a verdict
-abbrev pub IsRight : Program → Program → PairVerdict → Type 0
-IsRight P Q v = (v.state ≡ Safe → NewFailure P Q v.old v.new → ⊥) × (v.state ≡ Unknown → IsStraightProgram P → IsStraightProgram Q → NewFailure P Q v.old v.new)
+abbrev pub IsRight : Program → Program → List Death → PairVerdict → Type 0
+IsRight P Q deaths v =
+    (v.state ≡ Safe → NewFailure P Q v.old v.new → ⊥)
+    × (v.state ≡ Unknown → IsStraightProgram P → IsStraightProgram Q → (IsSpentPair P Q deaths v.old v.new → ⊥) → NewFailure P Q v.old v.new)
+
+-- no search for candidate n was spent
+abbrev pub IsUnspent : List Death → ℕ → Type 0
+IsUnspent deaths n = (d : Death) → Contains deaths d → d.candidate ≡ n → is_spent d.cause ≡ true → ⊥
 
 module _ (P Q : Program) (old_typed : WellTyped P) (new_typed : WellTyped Q) where
   -- a failure of two procedures of the core is one of the texts' procedures of their names
@@ -178,9 +185,9 @@ module _ (P Q : Program) (old_typed : WellTyped P) (new_typed : WellTyped Q) whe
       let kept = failures_kept runs_kept procedures_kept axioms_kept extracted_formed P Q p.name q.name r.0 s.0 old_typed new_typed r.1 s.1 in
       subst (λ (n : ℕ). NewFailure P Q p.name q.name ↔ NewFailureOf C D n j) (sym r.2) (subst (λ (m : ℕ). NewFailure P Q p.name q.name ↔ NewFailureOf C D (number_of P p.name) m) (sym s.2) kept)
 
-  module _ (h : Held) (old_is : h.old ≡ core_program P) (new_is : h.new ≡ core_program Q) (o : Otherwise) (live : List Bool)
+  module _ (h : Held) (old_is : h.old ≡ core_program P) (new_is : h.new ≡ core_program Q) (o : Otherwise) (live : List Bool) (deaths : List Death)
       (safe : (n : ℕ) (x : Claimed) → IsFlagAt h n x → slice_get live n ≡ Some true → NewFailureOf h.old h.new x.pair.old x.pair.new → ⊥)
-      (failure : o ≡ otherwise.Unknown → IsStraightProgram P → IsStraightProgram Q → (n : ℕ) (x : Claimed) → IsFlagAt h n x → x.candidate.when ≡ equal_inputs x.pair → slice_get live n ≡ Some false → NewFailureOf h.old h.new x.pair.old x.pair.new)
+      (failure : o ≡ otherwise.Unknown → IsStraightProgram P → IsStraightProgram Q → (n : ℕ) (x : Claimed) → IsFlagAt h n x → x.candidate.when ≡ equal_inputs x.pair → slice_get live n ≡ Some false → IsUnspent deaths n → NewFailureOf h.old h.new x.pair.old x.pair.new)
     where
       kept : AreKept h.old h.new
       kept = subst (λ (C : CoreProgram). AreKept C h.new) (sym old_is) (subst (λ (D : CoreProgram). AreKept (core_program P) D) (sym new_is) failures-kept)
@@ -214,7 +221,28 @@ module _ (P Q : Program) (old_typed : WellTyped P) (new_typed : WellTyped Q) whe
           let same : rooted.new ≡ q = some_same rooted.new q (sym rooted.new_found ∙ found) in
           ap (λ (r : CoreProc). r.parent) (sym same) ∙ rooted.new_root
 
-      right_open : (n : ℕ) (pair : Pair) (table : List Bool) (p q : CoreProc) → IsHere n pair table p q → pair.state ≡ pair_state.Open → (b : Bool) → flag_live (candidates_of pair) table ≡ b → IsRight P Q (verdict_with p q (if b then Safe else said o))
+      -- a spent search for a candidate of the pair
+      spent_pair : (n : ℕ) (pair : Pair) (table : List Bool) (p q : CoreProc) → IsHere n pair table p q → (k : ℕ) (c : Candidate) → slice_get (candidates_of pair) k ≡ Some c
+          → (d : Death) → Contains deaths d → d.candidate ≡ n + k → is_spent d.cause ≡ true → IsSpentPair P Q deaths p.name q.name
+      spent_pair n pair table p q here k c at d died named spent = record {
+        death = d;
+        died = died;
+        spent = spent;
+        claim = record { pair = pair; candidate = c };
+        claim_is =
+            ap (λ m. slice_get (claims_of (pairs_of (core_program P) (core_program Q))) m) named
+            ∙ (ap (λ (C : CoreProgram). slice_get (claims_of (pairs_of C (core_program Q))) (n + k)) (sym old_is)
+            ∙ (ap (λ (D : CoreProgram). slice_get (claims_of (pairs_of h.old D)) (n + k)) (sym new_is)
+            ∙ here.claims k c at));
+        old = p;
+        old_is = ap (λ (C : CoreProgram). slice_get C.procs pair.old) (sym old_is) ∙ here.old_found;
+        old_name = refl;
+        new = q;
+        new_is = ap (λ (D : CoreProgram). slice_get D.procs pair.new) (sym new_is) ∙ here.new_found;
+        new_name = refl;
+      }
+
+      right_open : (n : ℕ) (pair : Pair) (table : List Bool) (p q : CoreProc) → IsHere n pair table p q → pair.state ≡ pair_state.Open → (b : Bool) → flag_live (candidates_of pair) table ≡ b → IsRight P Q deaths (verdict_with p q (if b then Safe else said o))
       right_open n pair table p q here is true flags =
           let f = live_in (candidates_of pair) table flags in
           let at : IsFlagAt h (n + f.place) (record { pair = pair; candidate = f.candidate }) = record { at = here.claims f.place f.candidate f.at; flag = f.flag; old = p; found = here.old_found; root = here.old_root } in (
@@ -226,10 +254,11 @@ module _ (P Q : Program) (old_typed : WellTyped P) (new_typed : WellTyped Q) whe
           let at : IsFlagAt h (n + f.place) (record { pair = pair; candidate = f.candidate }) = record { at = here.claims f.place f.candidate f.at; flag = f.flag; old = p; found = here.old_found; root = here.old_root } in
           let dead : slice_get live (n + f.place) ≡ Some false = here.rest f.place false (dead_at (candidates_of pair) table f.place f.candidate here.long flags f.at f.flag) in (
             λ bad. absurd (said_not_safe o bad),
-            λ unknown old new. (kept pair.old pair.new p q here.old_found here.new_found here.old_root (new_root (n + f.place) (record { pair = pair; candidate = f.candidate }) q at here.new_found)).1 (failure (said_unknown o unknown) old new (n + f.place) (record { pair = pair; candidate = f.candidate }) at f.when dead),
+            λ unknown old new none. (kept pair.old pair.new p q here.old_found here.new_found here.old_root (new_root (n + f.place) (record { pair = pair; candidate = f.candidate }) q at here.new_found)).1
+                (failure (said_unknown o unknown) old new (n + f.place) (record { pair = pair; candidate = f.candidate }) at f.when dead (λ d died named spent. none (spent_pair n pair table p q here f.place f.candidate f.at d died named spent))),
           )
 
-      right_state : (n : ℕ) (pair : Pair) (table : List Bool) (p q : CoreProc) → IsHere n pair table p q → (s : PairState) → pair.state ≡ s → IsRight P Q (verdict_with p q (state_of o s (flag_live (candidates_of pair) table)))
+      right_state : (n : ℕ) (pair : Pair) (table : List Bool) (p q : CoreProc) → IsHere n pair table p q → (s : PairState) → pair.state ≡ s → IsRight P Q deaths (verdict_with p q (state_of o s (flag_live (candidates_of pair) table)))
       right_state n pair table p q here pair_state.Open is = right_open n pair table p q here is (flag_live (candidates_of pair) table) refl
       right_state n pair table p q here pair_state.Signature is =
           (λ bad. absurd (let worse : ◌≡◌ {A = VerdictState} Signature Safe = bad in cc), λ bad. absurd (let worse : ◌≡◌ {A = VerdictState} Signature Unknown = bad in cc))
@@ -245,7 +274,7 @@ module _ (P Q : Program) (old_typed : WellTyped P) (new_typed : WellTyped Q) whe
         size : length table ≡ length (claims_of pairs)
 
       right_found : (n : ℕ) (pair : Pair) (pairs : List Pair) (table : List Bool) → AreHere n (pair ∷ pairs) table → (old new : Option CoreProc) → slice_get h.old.procs pair.old ≡ old → slice_get h.new.procs pair.new ≡ new
-          → AllByRecursion (IsRight P Q) (verdict_by o pair (flag_live (candidates_of pair) table) old new)
+          → AllByRecursion (IsRight P Q deaths) (verdict_by o pair (flag_live (candidates_of pair) table) old new)
       right_found n pair pairs table here None new at at' = tt
       right_found n pair pairs table here (Some p) None at at' = tt
       right_found n pair pairs table here (Some p) (Some q) at at' = go p.parent refl
@@ -261,15 +290,15 @@ module _ (P Q : Program) (old_typed : WellTyped P) (new_typed : WellTyped Q) whe
           }
 
           go : (parent : Option (ℕ × ℕ)) → p.parent ≡ parent
-              → AllByRecursion (IsRight P Q) (if is_some p.parent then [] else verdict_with p q (state_of o pair.state (flag_live (candidates_of pair) table)) ∷ [])
-          go None e = subst (λ (x : Option (ℕ × ℕ)). AllByRecursion (IsRight P Q) (if is_some x then [] else verdict_with p q (state_of o pair.state (flag_live (candidates_of pair) table)) ∷ [])) (sym e) (right_state n pair table p q (here_with e) pair.state refl, tt)
-          go (Some parent) e = subst (λ (x : Option (ℕ × ℕ)). AllByRecursion (IsRight P Q) (if is_some x then [] else verdict_with p q (state_of o pair.state (flag_live (candidates_of pair) table)) ∷ [])) (sym e) tt
+              → AllByRecursion (IsRight P Q deaths) (if is_some p.parent then [] else verdict_with p q (state_of o pair.state (flag_live (candidates_of pair) table)) ∷ [])
+          go None e = subst (λ (x : Option (ℕ × ℕ)). AllByRecursion (IsRight P Q deaths) (if is_some x then [] else verdict_with p q (state_of o pair.state (flag_live (candidates_of pair) table)) ∷ [])) (sym e) (right_state n pair table p q (here_with e) pair.state refl, tt)
+          go (Some parent) e = subst (λ (x : Option (ℕ × ℕ)). AllByRecursion (IsRight P Q deaths) (if is_some x then [] else verdict_with p q (state_of o pair.state (flag_live (candidates_of pair) table)) ∷ [])) (sym e) tt
 
-      all-joined : (vs ws : List PairVerdict) → AllByRecursion (IsRight P Q) vs → AllByRecursion (IsRight P Q) ws → AllByRecursion (IsRight P Q) (vs ++ ws)
+      all-joined : (vs ws : List PairVerdict) → AllByRecursion (IsRight P Q deaths) vs → AllByRecursion (IsRight P Q deaths) ws → AllByRecursion (IsRight P Q deaths) (vs ++ ws)
       all-joined [] ws a b = b
       all-joined (v ∷ vs) ws a b = (a.0, all-joined vs ws a.1 b)
 
-      right_pairs : (n : ℕ) (pairs : List Pair) (table : List Bool) → AreHere n pairs table → AllByRecursion (IsRight P Q) (verdicts_of o h.old h.new pairs table)
+      right_pairs : (n : ℕ) (pairs : List Pair) (table : List Bool) → AreHere n pairs table → AllByRecursion (IsRight P Q deaths) (verdicts_of o h.old h.new pairs table)
       right_pairs n [] table here = tt
       right_pairs n (pair ∷ pairs) table here =
           let count : ℕ = length (candidates_of pair) in
@@ -288,9 +317,9 @@ module _ (P Q : Program) (old_typed : WellTyped P) (new_typed : WellTyped Q) whe
           (right_found n pair pairs table here (slice_get h.old.procs pair.old) (slice_get h.new.procs pair.new) refl refl) (right_pairs (n + count) pairs (drop count table) next)
 
       -- the verdicts of the pairs of the programs are right
-      pub all_right : length live ≡ length (claims_in h) → AllByRecursion (IsRight P Q) (verdicts_of o (core_program P) (core_program Q) (pairs_of (core_program P) (core_program Q)) live)
+      pub all_right : length live ≡ length (claims_in h) → AllByRecursion (IsRight P Q deaths) (verdicts_of o (core_program P) (core_program Q) (pairs_of (core_program P) (core_program Q)) live)
       all_right size =
           let zero_is : (k : ℕ) → 0 + k ≡ k = λ k. omega arith in
           let right = right_pairs 0 (pairs_in h) live (record { claims = λ k x e. ap (λ m. slice_get (claims_in h) m) (zero_is k) ∙ e; rest = λ k b e. ap (λ m. slice_get live m) (zero_is k) ∙ e; size = size }) in
-          subst (λ (C : CoreProgram). AllByRecursion (IsRight P Q) (verdicts_of o C (core_program Q) (pairs_of C (core_program Q)) live)) old_is
-          (subst (λ (D : CoreProgram). AllByRecursion (IsRight P Q) (verdicts_of o h.old D (pairs_of h.old D) live)) new_is right)
+          subst (λ (C : CoreProgram). AllByRecursion (IsRight P Q deaths) (verdicts_of o C (core_program Q) (pairs_of C (core_program Q)) live)) old_is
+          (subst (λ (D : CoreProgram). AllByRecursion (IsRight P Q deaths) (verdicts_of o h.old D (pairs_of h.old D) live)) new_is right)

@@ -11,6 +11,7 @@ use Rattle.symdiff.specs.Texts.{Holds, Texts, AreRead, AreMatched, clash_of}
 use Rattle.symdiff.specs.declared.text.TextRefusal.{TextRefusal}
 use Rattle.symdiff.specs.TextRefusals.{IsTaken, IsTextRefusal, refusal_status, text_error}
 use Rattle.symdiff.specs.Outcome.{Outcome, message, IsComparison, IsReplay, IsRefused}
+use Rattle.sd_rounds.specs.declared.settle.Death.{Death}
 use Rattle.symdiff.specs.Verdicts.{NoNewFailure, AreNewFailures}
 use Rattle.symdiff.specs.Report.{usage_text, certificate_size}
 use Rattle.symdiff.specs.MatchErrors.{match_error}
@@ -40,9 +41,10 @@ ForPrograms words held P = ForJob words (λ job. WhereTold (held job.old) (λ ol
 abbrev pub Headline : List (List ℕ) → (List ℕ → Option (List ℕ)) → List PairVerdict → Type 0
 Headline words held pairs = ForPrograms words held (λ old new. NoNewFailure old new pairs)
 
--- Where the texts have no calls and no loops, each pair that is said to be unknown has a new failure.
-abbrev pub UnknownIsFailure : List (List ℕ) → (List ℕ → Option (List ℕ)) → List PairVerdict → Type 0
-UnknownIsFailure words held pairs = ForPrograms words held (λ old new. IsStraightProgram old → IsStraightProgram new → AreNewFailures old new pairs)
+-- Where the texts are over truth values, without calls and loops, each pair that is said to be unknown, though no search for a
+-- candidate of it was spent, has a new failure.
+abbrev pub UnknownIsFailure : List (List ℕ) → (List ℕ → Option (List ℕ)) → List Death → List PairVerdict → Type 0
+UnknownIsFailure words held deaths pairs = ForPrograms words held (λ old new. IsStraightProgram old → IsStraightProgram new → AreNewFailures old new deaths pairs)
 
 -- the count of a certificate that is to be read rose
 abbrev pub CertificateRose : Task → (List ℕ → ℕ) → (List ℕ → ℕ) → Type 0

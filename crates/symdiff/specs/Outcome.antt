@@ -49,13 +49,17 @@ IsCertified t h live None None = Unit {0}
 IsCertified t h live (Some name) (Some file) = (file.0 ≡ name) × Accepts h (digests_of t) file.1 live
 IsCertified t h live _ _ = ⊥
 
+-- how many cubes a search for a proof may close
+abbrev pub default_leaves : ℕ
+default_leaves = 2000
+
 -- Two texts were compared: each live candidate has a proof, and each other one died lawfully.
 pub record IsComparison (name : Option (List ℕ)) (t : Texts) (o : Outcome) : Type 0 where
   pub work : Held
   pub is_work : IsWorkOf t work
   pub live : List Bool
   pub proofs : List Proved
-  pub settled : IsSettled work live o.deaths proofs
+  pub settled : IsSettled default_leaves work live o.deaths proofs
   pub told : IsReport Unknown t live o
   pub certified : IsCertified t work live name o.certificate
 

@@ -3,7 +3,7 @@ use Rattle.std.specs.Prelude.{◌≡◌, ◌≢◌, ℕ, List, [], ◌++◌, Som
 use Rattle.sd_base.specs.declared.Place.{Place}
 use Rattle.sd_base.specs.Value.{Text}
 use Rattle.sd_ast.specs.declared.Program.{Program}
-use Rattle.sd_form.specs.Form.{IsBooleanProgram}
+use Rattle.sd_taken.specs.Form.{IsComparedProgram}
 use Rattle.sd_lex.specs.declared.token.LexError.{LexError}
 use Rattle.sd_lex.specs.declared.token.LexError.TheVariants as lex
 use Rattle.sd_parse.specs.declared.answer.ReadError.{ReadError}
@@ -20,13 +20,13 @@ use Rattle.symdiff.specs.Report.{line_end}
 pub record IsTaken (bytes : List ℕ) (P : Program) : Type 0 where
   pub read : IsReading bytes (Ok P)
   pub typed : WellTyped P
-  pub boolean : IsBooleanProgram P
+  pub form : IsComparedProgram P
 
 -- The text isn't read, or it breaks a rule on names and types, or its form isn't taken yet.
 abbrev pub IsTextRefusal : List ℕ → TextRefusal → Type 0
 IsTextRefusal bytes (Reading e) = IsReading bytes (Err e) × (e ≢ read.NoMemory)
 IsTextRefusal bytes (Typing e) = (P : Program) × IsReading bytes (Ok P) × (first_broken P ≡ Some e) × (e ≢ kind.NoMemory)
-IsTextRefusal bytes NotYet = (P : Program) × IsReading bytes (Ok P) × WellTyped P × (IsBooleanProgram P → ⊥)
+IsTextRefusal bytes NotYet = (P : Program) × IsReading bytes (Ok P) × WellTyped P × (IsComparedProgram P → ⊥)
 
 -- ---- what is said
 

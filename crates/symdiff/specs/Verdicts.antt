@@ -1,5 +1,5 @@
 -- What is said of each pair of procedures.
-use Rattle.std.specs.Prelude.{◌≡◌, Bool, true, false, ◌&&◌, ◌||◌, List, [], ◌∷◌, ◌++◌, length, drop, Option, Some, is_some, slice_get, if◌then◌else◌}
+use Rattle.std.specs.Prelude.{◌≡◌, Bool, true, false, ◌&&◌, ◌||◌, List, [], ◌∷◌, ◌++◌, length, drop, Option, Some, is_some, slice_get, Contains, if◌then◌else◌}
 use Rattle.std.specs.List.{AllByRecursion}
 use Rattle.sd_ast.specs.declared.Program.{Program}
 use Rattle.sd_meaning.specs.NewFailure.{NewFailure}
@@ -12,6 +12,14 @@ use Rattle.sd_cand.specs.declared.candidate.Claim.{Claim}
 use Rattle.sd_cand.specs.declared.candidate.Claim.TheVariants.{Flag}
 use Rattle.sd_cand.specs.declared.candidate.Candidate.{Candidate}
 use Rattle.sd_cand.specs.Candidates.{candidates_of}
+use Rattle.sd_base.specs.Value.{Text}
+use Rattle.sd_extract.specs.Programs.{core_program}
+use Rattle.sd_match.specs.Pairs.{pairs_of}
+use Rattle.sd_product.specs.Query.{Claimed}
+use Rattle.sd_product.specs.Work.{claims_of}
+use Rattle.sd_rounds.specs.declared.settle.Cause.{Cause}
+use Rattle.sd_rounds.specs.declared.settle.Cause.TheVariants.{Spent}
+use Rattle.sd_rounds.specs.declared.settle.Death.{Death}
 use Rattle.symdiff.specs.declared.verdict.PairVerdict.{PairVerdict}
 use Rattle.symdiff.specs.declared.verdict.VerdictState.{VerdictState}
 use Rattle.symdiff.specs.declared.verdict.VerdictState.TheVariants.{Safe, Unknown, Unproved, Signature, UnmatchedRecursion}
@@ -55,6 +63,24 @@ verdicts_of o P Q (pair ∷ pairs) table = verdict_of o P Q pair (flag_live (can
 abbrev pub NoNewFailure : Program → Program → List PairVerdict → Type 0
 NoNewFailure P Q verdicts = AllByRecursion (λ v. v.state ≡ Safe → NewFailure P Q v.old v.new → ⊥) verdicts
 
--- each pair that is said to be unknown has one
-abbrev pub AreNewFailures : Program → Program → List PairVerdict → Type 0
-AreNewFailures P Q verdicts = AllByRecursion (λ v. v.state ≡ Unknown → NewFailure P Q v.old v.new) verdicts
+abbrev pub is_spent : Cause → Bool
+is_spent (Spent leaves) = true
+is_spent _ = false
+
+-- a candidate of the two procedures with these names died because the search for its proof was spent
+pub record IsSpentPair (P Q : Program) (deaths : List Death) (f g : Text) : Type 0 where
+  pub death : Death
+  pub died : Contains deaths death
+  pub spent : is_spent death.cause ≡ true
+  pub claim : Claimed
+  pub claim_is : slice_get (claims_of (pairs_of (core_program P) (core_program Q))) death.candidate ≡ Some claim
+  pub old : CoreProc
+  pub old_is : slice_get (core_program P).procs claim.pair.old ≡ Some old
+  pub old_name : old.name ≡ f
+  pub new : CoreProc
+  pub new_is : slice_get (core_program Q).procs claim.pair.new ≡ Some new
+  pub new_name : new.name ≡ g
+
+-- each pair that is said to be unknown, though no search for a candidate of it was spent, has one
+abbrev pub AreNewFailures : Program → Program → List Death → List PairVerdict → Type 0
+AreNewFailures P Q deaths verdicts = AllByRecursion (λ v. v.state ≡ Unknown → (IsSpentPair P Q deaths v.old v.new → ⊥) → NewFailure P Q v.old v.new) verdicts

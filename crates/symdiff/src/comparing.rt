@@ -12,10 +12,12 @@ use crate::reply::{NamedCertificate, Reply, report_on};
 use crate::verdict::Otherwise;
 use sd_base::NoMemory;
 use sd_cert::write_certificate;
-use sd_form::laws::boolean_is_kept;
 use sd_kernel::Proved;
 use sd_rounds::settle_one;
 use std::alloc::Global;
+
+/// How many cubes a search for a proof may close.
+const DEFAULT_LEAVES: u32 = 2000;
 
 /// The certificate of two texts with these proofs, if a file is named for it.
 fn certify<'a>(
@@ -43,8 +45,7 @@ pub fn compare<'a>(
     requires { IsMatched matched.now }
     ensures { IfOk result (λ reply. IsComparison (option_copied name.entry) (texts_of matched.now.old matched.now.new) (outcome_of reply)) }
 {
-    boolean_is_kept();
-    let settled = settle_one(alloc, &matched.work)?;
+    let settled = settle_one(alloc, &matched.work, DEFAULT_LEAVES)?;
     let certificate = certify(alloc, matched, settled.proofs.as_slice(), name)?;
     let report = report_on(alloc, matched, &settled.table, Otherwise::Unknown)?;
     Ok(Reply {

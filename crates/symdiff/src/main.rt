@@ -4,6 +4,8 @@
 mod answering;
 mod certificate_error;
 mod comparing;
+#[cfg(test)]
+mod integers;
 mod judge;
 mod line;
 mod match_error;

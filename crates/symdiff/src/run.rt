@@ -165,8 +165,9 @@ pub fn run<R: Threads + Sync, F: Files, S: Sink, G: Gate>(
     // Where a pair is said to be safe, no meaning and no equal input let the old procedure end while the new one fails.
     ensures headline { Headline (map string_bytes words.now) (F.held files.old) result.pairs.items }
 
-    // Where a pair is said to be unknown and the texts have no calls and no loops, such an input is there.
-    ensures unknown { UnknownIsFailure (map string_bytes words.now) (F.held files.old) result.pairs.items }
+    // Where a pair is said to be unknown, no search for a candidate of it was spent, and the texts are over truth values without
+    // calls and loops, such an input is there.
+    ensures unknown { UnknownIsFailure (map string_bytes words.now) (F.held files.old) result.deaths.items result.pairs.items }
 {
     let reply = match reply_to(alloc, words, files) {
         Ok(reply) => reply,

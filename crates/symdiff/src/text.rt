@@ -10,8 +10,8 @@ ghost use Rattle.symdiff.specs.Taking.{IsFault, IsReadFault, IsTypeFault};
 
 use sd_base::limits::TEXT_BYTES;
 use sd_base::{Files, ReadFault, read_up_to};
-use sd_form::is_boolean_program;
 use sd_parse::{ReadError, read_program};
+use sd_taken::is_compared_program;
 use sd_types::{TypeError, Typed, check};
 use std::alloc::Global;
 
@@ -73,7 +73,7 @@ fn take(alloc: Global, bytes: &[u8]) -> Result<Typed, TextFault>
         Ok(typed) => typed,
         Err((_, error)) => return Err(type_fault(error)),
     };
-    if !is_boolean_program(typed.program()) {
+    if !is_compared_program(typed.program()) {
         return Err(TextFault::Refused(TextRefusal::NotYet));
     }
     Ok(typed)

@@ -1,4 +1,0 @@
-pub mod FormLemmas
-pub mod Routines
-pub mod Statements
-pub mod Procedures
