@@ -9,9 +9,9 @@ greatest peak memory, and then the ratio of the two times.
 
 It does the same with texts of N and of 2N procedures that call themselves. All their pairs are settled in two sweeps.
 
-Then it makes two texts of one procedure that takes the parity of its parameters, in one order and in the other, lets the program
+Then it makes two texts of procedures that take the parity of their parameters, in one order and in the other, lets the program
 write the certificate, and runs `symdiff replay old new certificate` R times: once on a certificate of more than 10000 steps, and
-once on one of more than twice as many; the ratio is that of the times a step, twice.
+once on one of twice as many procedures; the ratio is that of the times a step, twice.
 
 Then it makes texts of N and of 2N procedures of 20 statements each, with contracts and `old`, and runs `symdiff verify old new` with one as
 the old text and none as the new one: the text is read, checked, and turned into its core program, and nothing is compared.
@@ -19,6 +19,13 @@ the old text and none as the new one: the text is read, checked, and turned into
 Last it makes a text of 16777216 bytes, the longest that is read, and one of half the size, with types, maps, loops, calls and contracts,
 and runs `symdiff verify old new` R times with it as the old text and none as the new one. The texts are read and checked whole, and
 answered with `not yet`, since their form isn't taken.
+
+Then it makes texts of 200 and of 400 pairs of procedures over integers, of which three in four are safe, and runs `symdiff verify old
+new` on them. Where Boogie and Z3 are installed (Debian's packages `boogie` and `z3`), Boogie runs on one text of products of the same
+200 pairs: a procedure a pair, which takes both bodies one after the other with a flag for each, and asserts that the new flag implies the old
+one. The built program has to take less time than Boogie.
+
+Last it prints for some pairs over integers, with recursion and loops, how many steps the proofs of a certificate have and how many branches they close.
 
 It is no part of the gate. The program has to be built before: `rt run` in crates/symdiff leaves it as
 crates/symdiff/out/symdiff.
@@ -30,6 +37,7 @@ so, and the status is 1.
 
 import argparse
 import os
+import shutil
 import subprocess
 import sys
 import tempfile
@@ -41,10 +49,12 @@ GREATEST_RATIO = 2.5
 GREATEST_SECONDS = 1.0
 GREATEST_BYTES = 200_000_000
 LEAST_STEPS = 10_000
-REPLAY_PARAMETERS = 11
+REPLAY_PARAMETERS = 8
+REPLAY_PROCEDURES = 4
 LONGEST_TEXT = 16_777_216
 READING_SECONDS = 4.0
 READING_BYTES = 3_000_000_000
+INTEGER_PAIRS = 200
 
 # One procedure. The parts that the new text may change are the last two assertions.
 FORM = """procedure handler_{number:04d}(ready: bool, locked: bool, open: bool, forced: bool)
@@ -160,12 +170,16 @@ def measure(program, count, runs, complaints):
 
 
 def measure_replay(program, count, runs, complaints):
-    """The least time of several replays of the certificate of a parity over so many parameters, and its number of steps."""
-    parameters = ["p%02d" % number for number in range(count)]
-    report = "safe odd odd\npairs 1 safe 1 equal 0 unknown 0 refused 0 axioms 0 0\n"
+    """The least time of several replays of the certificate of so many procedures of parities, and its number of steps."""
+    parameters = ["p%02d" % number for number in range(REPLAY_PARAMETERS)]
+    names = ["odd_%02d" % number for number in range(count)]
+    report = "".join("safe %s %s\n" % (name, name) for name in names)
+    report += "pairs %d safe %d equal 0 unknown 0 refused 0 axioms 0 0\n" % (count, count)
     best = None
     with tempfile.TemporaryDirectory() as folder:
-        put_texts(folder, parity("odd", parameters), parity("odd", parameters[::-1]))
+        old = "".join(parity(name, parameters) for name in names)
+        new = "".join(parity(name, parameters[::-1]) for name in names)
+        put_texts(folder, old, new)
         run_once(program, folder, ("verify", "old", "new", "--certificate", "certificate"))
         with open(os.path.join(folder, "certificate"), encoding="ascii") as file:
             steps = sum(line.startswith(("split ", "close ")) for line in file)
@@ -262,6 +276,129 @@ def measure_reading(program, size, runs, complaints):
     return best, peak
 
 
+# Procedures over integers in two forms, as statements over X, Y and R that set the flag F where an assertion fails; and whether the
+# new one has no failure that the old one lacks.
+INTEGERS = [
+    (["R := X;", "if (Y > 0) { R := X + Y; }", "assert R >= X;", "assert Y <= K;"],
+     ["R := X + Y;", "if (Y <= 0) { R := X; }", "assert Y <= K + 1 && R >= X;"], True),
+    (["R := X - K;", "assert R <= Y;"], ["R := Y - X;", "assert R + K + 1 > 0;", "R := X - K;"], True),
+    (["R := X;", "if (X < Y) { R := Y; }", "assert R == X;"], ["R := Y;", "if (X >= Y) { R := X; }", "assert !(R > X);"], True),
+    (["R := X + Y;", "assert R <= K;"], ["R := X + Y;", "assert R < K;"], False),
+]
+
+
+def procedure_text(number, body):
+    """A procedure with this body."""
+    lines = " ".join(body).replace("X", "x").replace("Y", "y").replace("R", "r").replace("K", str(number))
+    return "procedure sum_%04d(x: int, y: int) returns (r: int) { %s }\n" % (number, lines)
+
+
+def flagged(number, body, result, flag):
+    """The body over a result and a flag of its own."""
+    lines = []
+    for line in body:
+        if line.startswith("assert "):
+            line = "if (!%s && !(%s)) { %s := true; }" % (flag, line[len("assert "):-1], flag)
+        lines.append(line.replace("X", "x").replace("Y", "y").replace("R", result).replace("K", str(number)))
+    return " ".join(lines)
+
+
+def product_text(number, old, new):
+    """A procedure that takes both bodies, and asserts that the new one fails only where the old one does."""
+    return (
+        "procedure sum_%04d(x: int, y: int) { var r, s: int; var f, g: bool; f := false; g := false; %s %s assert g ==> f; }\n"
+        % (number, flagged(number, old, "r", "f"), flagged(number, new, "s", "g"))
+    )
+
+
+def integer_texts(count):
+    """The old text, the new text, the report that is right for them, and the text of the products."""
+    old, new, report, product = [], [], [], []
+    safe = 0
+    for number in range(count):
+        before, after, is_safe = INTEGERS[number % len(INTEGERS)]
+        old.append(procedure_text(number, before))
+        new.append(procedure_text(number, after))
+        product.append(product_text(number, before, after))
+        report.append("%s sum_%04d sum_%04d\n" % ("safe" if is_safe else "unknown", number, number))
+        safe += is_safe
+    report.append("pairs %d safe %d equal 0 unknown %d refused 0 axioms 0 0\n" % (count, safe, count - safe))
+    return "".join(old), "".join(new), "".join(report), "".join(product)
+
+
+def measure_integers(program, count, runs, complaints):
+    """The least time of several runs on so many pairs over integers."""
+    old, new, report, _ = integer_texts(count)
+    best = None
+    with tempfile.TemporaryDirectory() as folder:
+        put_texts(folder, old, new)
+        for _ in range(runs):
+            seconds, _, status, written = run_once(program, folder)
+            best = seconds if best is None else min(best, seconds)
+            if status != 1 or written != report:
+                complaints.append("%d pairs over integers: status %d, and the report isn't the one that is right" % (count, status))
+                break
+    print("%5d pairs over integers  %8d bytes a text  %8.3f s" % (count, len(old), best))
+    return best
+
+
+def measure_boogie(count, runs, complaints):
+    """The least time that Boogie takes for the products of so many pairs, or None where it isn't installed."""
+    if not (shutil.which("boogie") and shutil.which("z3")):
+        print("Boogie and Z3 aren't installed, and aren't run")
+        return None
+    product = integer_texts(count)[3]
+    failing = sum(not is_safe for _, _, is_safe in (INTEGERS[number % len(INTEGERS)] for number in range(count)))
+    best = None
+    with tempfile.TemporaryDirectory() as folder:
+        path = os.path.join(folder, "product.bpl")
+        with open(path, "w", encoding="ascii") as file:
+            file.write(product)
+        for _ in range(runs):
+            begin = time.perf_counter()
+            ran = subprocess.run(["boogie", path], stdin=subprocess.DEVNULL, capture_output=True, text=True)
+            seconds = time.perf_counter() - begin
+            best = seconds if best is None else min(best, seconds)
+            wanted = "%d verified, %d error" % (count - failing, failing)
+            if wanted not in ran.stdout:
+                complaints.append("Boogie doesn't say `%s` of the products" % wanted)
+                break
+    print("%5d products by Boogie  %8.3f s" % (count, best))
+    return best
+
+
+# Pairs over integers, by name: the old and the new text, of which the second is changed.
+SHOWN = {
+    "an assertion that says less": ("procedure p(x: int) { assert x >= 1; }", "procedure p(x: int) { assert x >= 0; }"),
+    "an assertion that always fails": ("procedure p(x: int) { assert false; }", "procedure p(x: int) { assert x == 7; }"),
+    "a loop that never ends": (
+        "procedure p(x: int) { var i: int; i := 0; while (i < x) { i := i + 1; } assert x <= 9; }",
+        "procedure p(x: int) { var i: int; i := 0; while (i < x) { i := i; } assert x <= 9; }",
+    ),
+    "recursion": (
+        "procedure f(n: int) returns (r: int) { var a: int; var b: int; if (n <= 0) { r := 0; return; } a := n - 1; b := n; call r := f(a); r := r + b; assert r >= 0; }",
+        "procedure f(n: int) returns (r: int) { var s: int; var t: int; if (n <= 0) { r := 0; return; } t := n; s := n - 1; call r := f(s); r := r + t; assert r >= 0; }",
+    ),
+    "a loop with a counter": (
+        "procedure p(n: int, len: int) { var i: int; i := 0; while (i < n) { assert i < len; i := i + 1; } }",
+        "var c: int; procedure p(n: int, len: int) modifies c; { var i: int; i := 0; while (i < n) { assert i < len; c := c + 1; i := i + 1; } }",
+    ),
+}
+
+
+def show_proofs(program):
+    """Prints for each of these pairs how many steps its proofs have, and how many branches they close."""
+    for name, (old, new) in SHOWN.items():
+        with tempfile.TemporaryDirectory() as folder:
+            put_texts(folder, old, new)
+            seconds, _, _, _ = run_once(program, folder, ("verify", "old", "new", "--certificate", "certificate"))
+            with open(os.path.join(folder, "certificate"), encoding="ascii") as file:
+                words = [line.split()[0] for line in file]
+        steps = sum(word in ("term", "split", "order", "ite", "chain", "close", "rows") for word in words)
+        leaves = sum(word in ("close", "rows") for word in words)
+        print("%-32s %3d proofs  %6d steps  %5d branches closed  %8.3f s" % (name, words.count("candidate"), steps, leaves, seconds))
+
+
 def main():
     parser = argparse.ArgumentParser(description="times the built program on texts of many procedures, on replays, and on long texts")
     parser.add_argument("--count", type=int, default=2048)
@@ -290,8 +427,8 @@ def main():
     print("ratio of the times with calls at %d and %d: %.2f" % (2 * given.count, given.count, double / single))
     if double / single >= GREATEST_RATIO:
         complaints.append("the ratio of the times with calls isn't below %.1f" % GREATEST_RATIO)
-    single, steps = measure_replay(program, REPLAY_PARAMETERS, given.runs, complaints)
-    double, more = measure_replay(program, REPLAY_PARAMETERS + 1, given.runs, complaints)
+    single, steps = measure_replay(program, REPLAY_PROCEDURES, given.runs, complaints)
+    double, more = measure_replay(program, 2 * REPLAY_PROCEDURES, given.runs, complaints)
     ratio = 2 * (double / more) / (single / steps)
     print("ratio of the times of replay at twice the steps, from %d and %d: %.2f" % (more, steps, ratio))
     if steps < LEAST_STEPS:
@@ -316,6 +453,15 @@ def main():
         complaints.append("the longest text takes 4 seconds or more")
     if peak >= READING_BYTES:
         complaints.append("the longest text takes 3 GB or more")
+    single = measure_integers(program, INTEGER_PAIRS, given.runs, complaints)
+    double = measure_integers(program, 2 * INTEGER_PAIRS, given.runs, complaints)
+    print("ratio of the times over integers at %d and %d: %.2f" % (2 * INTEGER_PAIRS, INTEGER_PAIRS, double / single))
+    if double / single >= GREATEST_RATIO:
+        complaints.append("the ratio of the times over integers isn't below %.1f" % GREATEST_RATIO)
+    peer = measure_boogie(INTEGER_PAIRS, given.runs, complaints)
+    if peer is not None and single >= peer:
+        complaints.append("%d pairs over integers take longer than Boogie takes for their products" % INTEGER_PAIRS)
+    show_proofs(program)
     for complaint in complaints:
         print("falls short: " + complaint)
     return 1 if complaints else 0

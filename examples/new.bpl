@@ -1,27 +1,7 @@
-procedure greet()
-{
-}
-
-procedure leave(shut: bool, lit: bool)
-{
-  if (lit) {
-    assert false;
-    return;
+procedure fill(count: int, room: int) returns (done: int) {
+  done := 0;
+  while (done <= count) {
+    assert done < room;
+    done := done + 1;
   }
-  assert shut;
-}
-
-procedure lock(shut: bool, bolt: bool)
-{
-  assert shut;
-}
-
-procedure open(key: bool, alarm: bool)
-{
-  assert key;
-}
-
-procedure ring(bell: bool, loud: bool)
-{
-  assert bell || loud;
 }

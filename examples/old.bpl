@@ -1,29 +1,7 @@
-procedure open(key: bool, alarm: bool)
-{
-  assert key && !alarm;
-}
-
-procedure lock(shut: bool, bolt: bool)
-{
-  assert bolt ==> shut;
-}
-
-procedure leave(shut: bool, lit: bool)
-{
-  var ready: bool;
-  ready := shut;
-  if (lit) {
-    ready := false;
+procedure fill(count: int, room: int) returns (done: int) {
+  done := 0;
+  while (done < count) {
+    assert done < room;
+    done := done + 1;
   }
-  assert ready;
-}
-
-procedure ring(bell: bool)
-{
-  assert bell;
-}
-
-procedure knock(hand: bool)
-{
-  assert hand;
 }
