@@ -19,7 +19,8 @@ use Rattle.sd_rows.specs.declared.form.Form.{Form}
 use Rattle.sd_rows.specs.Forms.{value_at, plus, less, scaled, constant}
 use Rattle.sd_rows.proofs.FormValues.{value_at-plus, value_at-less, value_at-scaled, value_at-column, value_at-number, value_at-bounded, value_at-product}
 use Rattle.sd_forms.specs.LinearForms.{place_of, form_at, form_by, form_of, columns_under}
-use Rattle.sd_forms.specs.Closed.{IsClosed}
+use Rattle.sd_term.specs.Closed.{IsClosed}
+use Rattle.sd_forms.specs.Laws.{KeepsValue}
 use Rattle.sd_forms.proofs.Places.{place_of-tree}
 
 -- each form has the number of the value in its place
@@ -96,5 +97,5 @@ int-value w s e h = go w (subst (λ r. HasSort r w) e h)
     go (Map d es) h = absurd h
 
 -- an integer term has the number of its form as its value
-pub form_of-value : (v : Valuation) (terms : List Tree) (t : Tree) → IsClosed terms → has terms t ≡ true → sort_of t ≡ Int → value v t ≡ Number (value_at (columns_under v terms) (form_of terms t))
-form_of-value v terms t c h s = int-value (value v t) (sort_of t) s (value-sorted v t) ∙ ap Number (sym (form_of-number v terms t (c t h)))
+pub form_of-value : (terms : List Tree) (t : Tree) → IsClosed terms → has terms t ≡ true → KeepsValue terms t (form_of terms t)
+form_of-value terms t c h v s = int-value (value v t) (sort_of t) s (value-sorted v t) ∙ ap Number (sym (form_of-number v terms t (c t h)))

@@ -2,7 +2,6 @@ pub mod Places
 pub mod FormNodes
 pub mod FitForms
 pub mod TwoParts
-pub mod ClosedTerms
 pub mod Growing
 pub mod FormMeaning
 pub mod RowsHold

@@ -18,10 +18,10 @@ use Rattle.sd_rows.specs.Rows.{Holds, AllHold}
 use Rattle.sd_rows.specs.Forms.{value_at, less, at_most}
 use Rattle.sd_rows.proofs.FormValues.{value_at-less, Holds-at_most}
 use Rattle.sd_forms.specs.LinearForms.{form_of, columns_under}
-use Rattle.sd_forms.specs.Closed.{IsClosed}
+use Rattle.sd_term.specs.Closed.{IsClosed}
 use Rattle.sd_forms.specs.FactRows.{part_at, is_int_sort, is_le_head, is_eq_head, is_le, is_int_eq, is_comparison, below_row, back_row, above_row, rows_of}
 use Rattle.sd_forms.proofs.TwoParts.{two-parts}
-use Rattle.sd_forms.proofs.ClosedTerms.{AllIn-get, parts-in}
+use Rattle.sd_term.proofs.ClosedTerms.{AllIn-get, parts-in}
 use Rattle.sd_forms.proofs.FormMeaning.{form_of-number}
 
 -- ---- rows of differences

@@ -1,4 +1,3 @@
 pub mod LinearForms
 pub mod FactRows
-pub mod Closed
 pub mod Laws

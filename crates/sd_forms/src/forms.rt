@@ -2,6 +2,7 @@ ghost use Rattle.std.specs.Prelude.{◌≡◌, ℕ, ◌<◌, ◌≤◌, pos, IfO
 ghost use Rattle.sd_term.specs.Bank.{tree_at, PartsBelow};
 ghost use Rattle.sd_rows.specs.Forms.{IsFit, constant};
 ghost use Rattle.sd_forms.specs.LinearForms.{place_of, form_at, form_by, form_of};
+ghost use Rattle.sd_forms.specs.Laws.{KeepsValue};
 
 use sd_base::NoMemory;
 use sd_rows::Form;
@@ -20,10 +21,13 @@ pub fn forms_of(alloc: Global, terms: &Bank) -> Result<Items<Form>, NoMemory>
 /// The linear form of a term.
 pub fn linear_form(alloc: Global, terms: &Bank, id: TermId) -> Result<Form, NoMemory>
     requires { id < length terms.now }
-    ensures { IfOk result (λ f. f ≡ form_of terms.now (tree_at terms.now id)) }
+    ensures form { IfOk result (λ f. f ≡ form_of terms.now (tree_at terms.now id)) }
+    ensures value { IfOk result (λ f. KeepsValue terms.now (tree_at terms.now id) f) }
 {
+    terms.is_closed();
     let forms = forms_below(alloc, terms, id.number())?;
-    next_form(alloc, terms, forms.as_slice(), id)
+    let form = next_form(alloc, terms, forms.as_slice(), id)?;
+    Ok(form)
 }
 
 /// The linear forms of the terms with numbers below a bound.

@@ -36,7 +36,7 @@ fn some_order(alloc: Global) -> Result<Order, NoMemory>
 }
 
 #[test]
-fn forms(rt: HostRuntime) -> Result<(), Fail> {
+fn a_sum_has_the_form_of_its_parts_and_an_order_is_a_column(rt: HostRuntime) -> Result<(), Fail> {
     let alloc = rt.alloc();
     let Order { terms, sum, order } = some_order(alloc)?;
     let forms = forms_of(alloc, &terms)?;
@@ -50,7 +50,7 @@ fn forms(rt: HostRuntime) -> Result<(), Fail> {
 }
 
 #[test]
-fn rows(rt: HostRuntime) -> Result<(), Fail> {
+fn an_order_gives_the_row_of_its_sides_moved_to_the_left(rt: HostRuntime) -> Result<(), Fail> {
     let alloc = rt.alloc();
     let Order {
         terms,

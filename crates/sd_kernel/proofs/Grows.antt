@@ -6,9 +6,9 @@ use Rattle.sd_term.specs.Tree.{Tree, tree, and-left, and-right}
 use Rattle.sd_term.specs.Numbering.{has, numbered}
 use Rattle.sd_term.specs.Sorts.{sort_of, same_sort, same_sort-true, IsWellSorted, AllWellSorted}
 use Rattle.sd_term.proofs.BuildSorts.{eq-well, le-well}
-use Rattle.sd_forms.specs.Closed.{IsClosed}
+use Rattle.sd_term.specs.Closed.{IsClosed}
 use Rattle.sd_forms.specs.FactRows.{is_int_sort}
-use Rattle.sd_forms.proofs.ClosedTerms.{IsClosed-numbered, IsClosed-more}
+use Rattle.sd_term.proofs.ClosedTerms.{IsClosed-numbered, IsClosed-more}
 use Rattle.sd_kernel.specs.declared.step.NodeLine.{NodeLine}
 use Rattle.sd_kernel.specs.declared.step.NodeLine.TheVariants.{Eq as EqLine, Le as LeLine, Read as ReadLine, Diff as DiffLine}
 use Rattle.sd_kernel.specs.declared.step.Step.{Step}

@@ -1,4 +1,5 @@
 pub mod Known
+pub mod FirstFacts
 pub mod Facts
 pub mod Steps
 pub mod Proof

@@ -3,7 +3,8 @@ ghost use Rattle.sd_term.specs.Tree.{head_of, same_tree};
 ghost use Rattle.sd_term.specs.Bank.{tree_at, PartsBelow};
 ghost use Rattle.sd_term.specs.Sorts.{is_truth_sort, sort_at, sort_of};
 ghost use Rattle.sd_term.specs.Truth.{same_bool};
-ghost use Rattle.sd_kernel.specs.Known.{not3, and3, or3, iff3, ite3, known_at, known, by_parts, known_by_parts, is_known, has_fact, first_fact};
+ghost use Rattle.sd_kernel.specs.Known.{not3, and3, or3, iff3, ite3, known_at, known, by_parts, known_by_parts, is_known, has_fact, first_fact, Trail};
+ghost use Rattle.sd_kernel.specs.FirstFacts.{HasFirstFacts};
 ghost use Rattle.sd_kernel.specs.Facts.{trail_of, fact_of};
 
 use sd_base::NoMemory;
@@ -125,31 +126,49 @@ fn value_by_parts(terms: &Bank, node: &TermNode, values: &[Option<bool>]) -> Opt
     }
 }
 
-/// The value in the first fact on a term.
-fn first_on(terms: &Bank, trail: &[Fact], id: TermId) -> Option<bool>
-    requires facts { All (λ f. f.term < length terms.now) trail.now }
-    requires id { id < length terms.now }
-    ensures { result ≡ first_fact (trail_of terms.now trail.now) (tree_at terms.now id) }
+/// The value in the first fact on each term, at the least number of the term.
+fn first_values(
+    alloc: Global,
+    terms: &Bank,
+    trail: &[Fact],
+) -> Result<Items<Option<bool>>, NoMemory>
+    requires { All (λ f. f.term < length terms.now) trail.now }
+    ensures { IfOk result (λ firsts. HasFirstFacts terms.now (trail_of terms.now trail.now) firsts) }
 {
-    for fact in trail {
-        if terms.same_term(fact.term, id) {
-            return Some(fact.value);
-        }
+    let mut firsts = Items::from_vec(vec![in alloc; None; terms.len()]?);
+    for k in (0..trail.len()).rev() {
+        let fact = trail[k];
+        let first = terms.first(fact.term);
+        firsts.set(first.number() as usize, Some(fact.value));
     }
-    None
+    Ok(firsts)
+}
+
+/// The value in the first fact on a term.
+fn first_value(terms: &Bank, firsts: &[Option<bool>], id: TermId) -> Option<bool>
+    requires id { id < length terms.now }
+    requires long { length firsts.now ≡ length terms.now }
+    ensures { (trail : Trail) → HasFirstFacts terms.now trail firsts.now → result ≡ first_fact trail (tree_at terms.now id) }
+{
+    value_of(firsts, terms.first(id))
 }
 
 /// What is known of a term where that of each earlier one is at hand.
-fn known_value(terms: &Bank, trail: &[Fact], id: TermId, values: &[Option<bool>]) -> Option<bool>
-    requires facts { All (λ f. f.term < length terms.now) trail.now }
+fn known_value(
+    terms: &Bank,
+    firsts: &[Option<bool>],
+    id: TermId,
+    values: &[Option<bool>],
+) -> Option<bool>
     requires id { id < length terms.now }
-    requires values { values.now ≡ map (λ t. known (trail_of terms.now trail.now) t) (take id terms.now) }
-    ensures { result ≡ known (trail_of terms.now trail.now) (tree_at terms.now id) }
+    requires long { length firsts.now ≡ length terms.now }
+    requires values { length values.now ≡ id }
+    ensures { (trail : Trail) → HasFirstFacts terms.now trail firsts.now → values.now ≡ map (λ t. known trail t) (take id terms.now) → result ≡ known trail (tree_at terms.now id) }
 {
     let node = terms.node(id);
     match value_by_parts(terms, node, values) {
         Some(value) => value,
-        None => first_on(terms, trail, id),
+        None => first_value(terms, firsts, id),
     }
 }
 
@@ -162,9 +181,11 @@ pub fn known_values(
     requires { All (λ f. f.term < length terms.now) trail.now }
     ensures { IfOk result (λ values. values ≡ map (λ t. known (trail_of terms.now trail.now) t) terms.now) }
 {
+    let firsts = first_values(alloc, terms, trail)?;
     let mut values = Items::new(alloc);
     for i in 0..terms.len() {
-        let value = known_value(terms, trail, TermId::new(i as u32), values.as_slice());
+        let id = TermId::new(i as u32);
+        let value = known_value(terms, firsts.as_slice(), id, values.as_slice());
         values.push(value)?;
     }
     Ok(values)

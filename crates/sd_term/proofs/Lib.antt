@@ -3,6 +3,8 @@ pub mod Firsts
 pub mod Folds
 pub mod Builds
 pub mod Numbers
+pub mod ClosedTerms
+pub mod ClosedBanks
 pub mod Symbols
 pub mod Typed
 pub mod BuildValues

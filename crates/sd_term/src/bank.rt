@@ -2,6 +2,7 @@ ghost use Rattle.std.specs.Prelude.{◌≡◌, ℕ, ◌<◌, ◌≤◌, [], ◌�
 ghost use Rattle.std.specs.Prelude.{List, IfSome, IfNone, map, slice_index_or, ◌^◌, ◌-◌};
 ghost use Rattle.std.specs.Prelude.{All, ◌≢◌, max};
 ghost use Rattle.sd_term.specs.Numbering.{IsFirst};
+ghost use Rattle.sd_term.specs.Closed.{IsClosed};
 ghost use Rattle.sd_term.specs.Tree.{leaf, tree};
 ghost use Rattle.sd_term.specs.Build.{Extends};
 ghost use Rattle.sd_term.specs.Symbols.{above, next_symbol};
@@ -66,6 +67,13 @@ impl Bank {
         ensures small { result < 2 ^ 32 }
     {
         self.nodes.len()
+    }
+
+    /// With each term the bank has its parts, theirs and so on.
+    pub fn is_closed(&self)
+        ensures { IsClosed self.now }
+    {
+        self.nodes.len();
     }
 
     /// The head of a term and the numbers of its parts, which are smaller than its own.

@@ -1,14 +1,12 @@
 use Rattle.std.proofs.Common.{sym, ◌∙◌, Some, None, arith}
-use Rattle.sd_kernel.specs.Facts.{trail_of}
 use Rattle.sd_kernel.proofs.Tables.{value-known}
 use Rattle.sd_kernel.proofs.known.known_value.Goals as goal
 
 pub returns-in-Some : goal.returns-in-Some
-returns-in-Some c =
-    value-known (trail_of c.args.terms.now c.args.trail.now) c.args.terms.now c.args.values.now c.args.id c.node-node.result.now c.requires.values (omega (arith, c.requires.id)) c.node-node.ensures.parts c.node-node.ensures.tree
-    (Some c.in-Some.value) (sym c.in-Some.is ∙ c.value_by_parts.ensures)
+returns-in-Some c = λ trail h values.
+    value-known trail c.args.terms.now c.args.values.now c.args.id c.node-node.result.now values (omega (arith, c.requires.id)) c.node-node.ensures.parts c.node-node.ensures.tree (Some c.in-Some.value) (sym c.in-Some.is ∙ c.value_by_parts.ensures)
 
 pub returns-in-None : goal.returns-in-None
-returns-in-None c =
-    c.first_on.ensures ∙ value-known (trail_of c.args.terms.now c.args.trail.now) c.args.terms.now c.args.values.now c.args.id c.node-node.result.now c.requires.values (omega (arith, c.requires.id)) c.node-node.ensures.parts c.node-node.ensures.tree
-    None (sym c.in-None.is ∙ c.value_by_parts.ensures)
+returns-in-None c = λ trail h values.
+    c.first_value.ensures trail h
+    ∙ value-known trail c.args.terms.now c.args.values.now c.args.id c.node-node.result.now values (omega (arith, c.requires.id)) c.node-node.ensures.parts c.node-node.ensures.tree None (sym c.in-None.is ∙ c.value_by_parts.ensures)
