@@ -61,10 +61,10 @@ module _ (terms : List Tree) (trail : Trail) (t : Tree) (k : ℕ) where
   gives-back : slice_get trail k ≡ Some (t, true) → is_int_eq t ≡ true → Gives terms trail (Back k) (back_row terms t)
   gives-back e h before = ap (λ (o : Option Fact). named_row o (row_back terms)) e ∙ ap (λ (b : Bool). if b then made (back_row terms t) else wrong Shape) h
 
-comparison-le : (t : Tree) → is_le t ≡ true → is_comparison t ≡ true
+pub comparison-le : (t : Tree) → is_le t ≡ true → is_comparison t ≡ true
 comparison-le t e = ap (λ b. b || is_int_eq t) e
 
-comparison-eq : (t : Tree) → is_int_eq t ≡ true → is_comparison t ≡ true
+pub comparison-eq : (t : Tree) → is_int_eq t ≡ true → is_comparison t ≡ true
 comparison-eq t e = ap (λ b. is_le t || b) e ∙ or-true (is_le t)
   where
     or-true : (b : Bool) → b || true ≡ true

@@ -8,10 +8,11 @@ use Rattle.sd_base.specs.declared.sort.Sort.{Sort}
 use Rattle.sd_term.specs.declared.node.Head.{Head}
 use Rattle.sd_term.specs.Heads.{True, False, Not, And, Or, Eq, Ite}
 use Rattle.sd_term.specs.declared.cube.Cube.{Cube}
-use Rattle.sd_term.specs.Tree.{Tree, head_of, at_parts, same_tree, and-right}
+use Rattle.sd_term.specs.Tree.{Tree, head_of, parts_of, at_parts, same_tree, and-right}
 use Rattle.sd_term.specs.Sorts.{is_truth_sort, is_truth_valued, sort_at, sorts_of}
 use Rattle.sd_term.specs.Numbering.{has, numbered, AllIn}
 use Rattle.sd_term.proofs.Numbers.{numbered-facts}
+use Rattle.sd_term.proofs.ClosedTerms.{IsClosed-numbered, parts-in}
 use Rattle.sd_kernel.specs.Known.{Fact, Trail, first_fact, known, known_by, by_parts}
 use Rattle.sd_kernel.specs.Proof.{start}
 use Rattle.sd_kernel.proofs.Tables.{first_fact-hit}
@@ -19,7 +20,7 @@ use Rattle.sd_cube.specs.Atoms.{is_atom}
 use Rattle.sd_cube.specs.Needed.{IsNeeded}
 use Rattle.sd_cube.specs.CubeTerms.{cube_terms}
 use Rattle.sd_cube.specs.Spent.{Reaches, IsReached, IsLeft, IsDue, AreDue, IsClosedCube, cube_literals, AreApart, IsOutside, IsSpent}
-use Rattle.sd_cube.specs.Laws.{AtomsAmong, LiteralsAmong, SpentSearchesAreSmall, SpentCubesAreFew}
+use Rattle.sd_cube.specs.Laws.{AtomsAmong, LiteralsAmong, NeverLeft, FactAtomsAmong, SpentSearchesAreSmall, ReachedSearchesAreSmall, SpentCubesAreFew}
 use Rattle.sd_cube.proofs.Counting.{DifferAmong, AllDiffer, differing-are-few}
 
 -- what is known of an atom is the value of the first fact on it
@@ -60,6 +61,16 @@ module _ (facts : List Tree) where
       needed-reached trail r.1 r.0 u (IsNeeded.term r.0 (has-contained (numbered facts) facts r.0 (numbered-facts facts) r.2.0 r.2.1 r.2.2)) r.3
   needed-due terms trail u (inr r) = r.2
 
+  -- an atom that is reached is among the terms of the facts
+
+  reached-there : (trail : Trail) (way : List Tree) (t u : Tree) → has (numbered facts) t ≡ true → Reaches trail t way u → has (numbered facts) u ≡ true
+  reached-there trail [] t u n r = subst (λ w. has (numbered facts) w ≡ true) r.0 n
+  reached-there trail (p ∷ ps) t u n r =
+      reached-there trail ps p u (has-contained (numbered facts) (parts_of t) p (parts-in (numbered facts) t (IsClosed-numbered facts t n)) r.1.0 r.1.1 r.1.2) r.2
+
+  reached-fact : (trail : Trail) (u : Tree) → IsReached facts trail u → has (numbered facts) u ≡ true
+  reached-fact trail u r = reached-there trail r.1 r.0 u (has-contained (numbered facts) facts r.0 (numbered-facts facts) r.2.0 r.2.1 r.2.2) r.3
+
   -- a literal of due ones has its term's value, and its term is a needed atom
 
   first_fact-after : (xs ys : Trail) (t : Tree) → first_fact xs t ≡ None → first_fact (xs ++ ys) t ≡ first_fact ys t
@@ -83,7 +94,7 @@ module _ (facts : List Tree) where
   all-settled : (terms : List Tree) (before fs : Trail) → AreDue facts terms before fs → AllByRecursion (IsSettled (start facts ++ (before ++ fs))) fs
   all-settled terms before [] d = tt
   all-settled terms before (f ∷ fs) d = (
-    subst (λ l. IsSettled l f) (append_assoc (start facts) before (f ∷ fs)) (settled-first _ (start facts ++ before) fs f d.0.1),
+    subst (λ l. IsSettled l f) (append_assoc (start facts) before (f ∷ fs)) (settled-first terms (start facts ++ before) fs f d.0),
     subst (λ l. AllByRecursion (IsSettled (start facts ++ l)) fs) (append_assoc before (f ∷ []) fs) (all-settled terms (before ++ f ∷ []) fs d.1),
   )
 
@@ -147,8 +158,24 @@ module _ (facts : List Tree) where
     closed-among all [] closed = tt
     closed-among all (c ∷ cs) closed = (settled-among all (start facts ++ cube_literals facts c) (cube_literals facts c) (settled-in c closed.0), closed-among all cs closed.1)
 
+    -- where only reached atoms are due, the literals of closed cubes are atoms among the terms of the facts
+    due-among : NeverLeft facts → FactAtomsAmong facts atoms → (cube : Cube) (before fs : Trail) → AreDue facts (cube_terms facts cube) before fs → AllByRecursion IsAmong fs
+    due-among never all cube before [] d = tt
+    due-among never all cube before (f ∷ fs) d = (all f.0 d.0.atom (there d.0.due), due-among never all cube (before ++ f ∷ []) fs d.1)
+      where
+        there : IsReached facts (start facts ++ before) f.0 ⊎ IsLeft facts (cube_terms facts cube) (start facts ++ before) f.0 → has (numbered facts) f.0 ≡ true
+        there (inl r) = reached-fact (start facts ++ before) f.0 r
+        there (inr l) = absurd (never cube before f.0 l)
+
+    pub reached-among : NeverLeft facts → FactAtomsAmong facts atoms → (cubes : List Cube) → AllByRecursion (IsClosedCube facts) cubes → LiteralsAmong facts cubes atoms
+    reached-among never all [] closed = tt
+    reached-among never all (c ∷ cs) closed = (due-among never all c [] (cube_literals facts c) closed.0.due, reached-among never all cs closed.1)
+
 pub spent-few : SpentCubesAreFew
 spent-few facts cubes leaves atoms among s = spent-bounded facts atoms cubes leaves among s
 
 pub spent-small : SpentSearchesAreSmall
 spent-small facts cubes leaves atoms all s = spent-bounded facts atoms cubes leaves (closed-among facts atoms all cubes s.closed) s
+
+pub spent-reached : ReachedSearchesAreSmall
+spent-reached facts cubes leaves atoms never all s = spent-bounded facts atoms cubes leaves (reached-among facts atoms never all cubes s.closed) s

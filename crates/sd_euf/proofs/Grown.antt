@@ -11,7 +11,7 @@ use Rattle.sd_term.specs.Bank.{tree_at}
 use Rattle.sd_term.specs.Numbering.{has, AllIn}
 use Rattle.sd_term.specs.Sorts.{sort_of, IsWellSorted, AllWellSorted}
 use Rattle.sd_term.proofs.Numbers.{has-more, has-last, has-cases, has-at, AllIn-more, AllIn-append, AllIn-subterms, subterms-parts}
-use Rattle.sd_forms.specs.Closed.{IsClosed}
+use Rattle.sd_term.specs.Closed.{IsClosed}
 use Rattle.sd_term.proofs.BuildSorts.{eq-well, le-well}
 use Rattle.sd_euf.proofs.Shapes.{well-at}
 

@@ -14,7 +14,7 @@ use Rattle.sd_cube.specs.Asked.{IsThere, IsAsked, order as asks_order, back as a
 use Rattle.sd_term.proofs.Numbers.{has-at}
 use Rattle.sd_euf.specs.declared.find.Pair.{Pair}
 use Rattle.sd_euf.specs.declared.find.Standing.{Standing}
-use Rattle.sd_euf.specs.declared.find.Standing.TheVariants.{Known}
+use Rattle.sd_euf.specs.declared.find.Standing.TheVariants.{Absent, Unknown, Known}
 use Rattle.sd_euf.specs.Judged.{HasValues, Breaks, Asks, Stands, AtEquality, OrderHolds, is_false_standing}
 use Rattle.sd_euf.proofs.Shapes.{IsEqForm, eq-form, well-at, tree-got, value-at}
 use Rattle.sd_euf.proofs.Outcomes.{plain-le, shuts, le-outcome, order-outcome}
@@ -64,11 +64,31 @@ module _ (terms : List Tree) (values : List (Option Bool)) (id : ℕ) (sides : P
   false-here : (trail : Trail) → HasValues terms trail values → known trail whole ≡ Some false
   false-here trail e = sym (value-at terms trail values id e h.below) ∙ h.value
 
-  asked : (trail : Trail) → HasValues terms trail values → IsAsked terms trail (le_tree left right)
-  asked trail e = subst (IsAsked terms trail) (sym order-is) (asks_order whole here is-int (false-here trail e))
+  -- a term that isn't there and false
+  abbrev IsOpen : Tree → Type 0
+  IsOpen t = (s : Standing) × Stands terms values t s × (is_false_standing s ≡ false)
 
-  asked-back : (trail : Trail) → HasValues terms trail values → IsAsked terms trail (le_tree right left)
-  asked-back trail e = subst (IsAsked terms trail) (sym back-is) (asks_back whole here is-int (false-here trail e))
+  not-there : (t u : Tree) → t ≡ u → (s : Standing) → Stands terms values t s → is_false_standing s ≡ false → (trail : Trail) → HasValues terms trail values → IsThere terms trail u false → ⊥
+  not-there t u e Absent s o trail v i =
+      let f : false ≡ true = sym s ∙ ap (has terms) e ∙ i.0 in
+      cc
+  not-there t u e (Unknown n) s o trail v i =
+      let f : None ≡ Some false = sym s.2 ∙ value-at terms trail values n v s.0 ∙ ap (known trail) (s.1 ∙ e) ∙ i.1 in
+      cc
+  not-there t u e (Known n true) s o trail v i =
+      let f : Some true ≡ Some false = sym s.2 ∙ value-at terms trail values n v s.0 ∙ ap (known trail) (s.1 ∙ e) ∙ i.1 in
+      cc
+  not-there t u e (Known n false) s o trail v i =
+      let f : true ≡ false = o in
+      cc
+
+  asked : IsOpen (le_tree right left) → (trail : Trail) → HasValues terms trail values → IsAsked terms trail (le_tree left right)
+  asked o trail e =
+      subst (IsAsked terms trail) (sym order-is) (asks_order whole here is-int (false-here trail e) (not-there (le_tree right left) (order_back whole) back-is o.0 o.1 o.2 trail e))
+
+  asked-back : IsOpen (le_tree left right) → (trail : Trail) → HasValues terms trail values → IsAsked terms trail (le_tree right left)
+  asked-back o trail e =
+      subst (IsAsked terms trail) (sym back-is) (asks_back whole here is-int (false-here trail e) (not-there (le_tree left right) (order_of whole) order-is o.0 o.1 o.2 trail e))
 
   there : (t u : Tree) (n : ℕ) (b : Bool) → t ≡ u → n < length terms → tree_at terms n ≡ t → get_or values n None ≡ Some b → (trail : Trail) → HasValues terms trail values → IsThere terms trail u b
   there t u n b e lt is k trail v = (has-at terms u n lt (is ∙ e), ap (known trail) (sym (is ∙ e)) ∙ sym (value-at terms trail values n v lt) ∙ k)
@@ -83,19 +103,19 @@ module _ (terms : List Tree) (values : List (Option Bool)) (id : ℕ) (sides : P
   back-false (Known n true) s e trail v = let f : false ≡ true = e in cc
   back-false _ s e trail v = let f : false ≡ true = e in cc
 
-  pub order-unknown : (n : ℕ) → n < length terms → tree_at terms n ≡ le_tree left right → get_or values n None ≡ None → Asks terms values (Split n)
-  order-unknown n lt is k trail v = (lt, subst (IsAsked terms trail) (sym is) (asked trail v), sym (value-at terms trail values n v lt) ∙ k)
+  pub order-unknown : (n : ℕ) → n < length terms → tree_at terms n ≡ le_tree left right → get_or values n None ≡ None → IsOpen (le_tree right left) → Asks terms values (Split n)
+  order-unknown n lt is k o trail v = (lt, subst (IsAsked terms trail) (sym is) (asked o trail v), sym (value-at terms trail values n v lt) ∙ k)
 
-  pub back-unknown : (n : ℕ) → n < length terms → tree_at terms n ≡ le_tree right left → get_or values n None ≡ None → Asks terms values (Split n)
-  back-unknown n lt is k trail v = (lt, subst (IsAsked terms trail) (sym is) (asked-back trail v), sym (value-at terms trail values n v lt) ∙ k)
+  pub back-unknown : (n : ℕ) → n < length terms → tree_at terms n ≡ le_tree right left → get_or values n None ≡ None → IsOpen (le_tree left right) → Asks terms values (Split n)
+  back-unknown n lt is k o trail v = (lt, subst (IsAsked terms trail) (sym is) (asked-back o trail v), sym (value-at terms trail values n v lt) ∙ k)
 
-  pub order-absent : has terms (le_tree left right) ≡ false → Asks terms values (Term (LeLine sides.left sides.right))
-  order-absent a trail v =
-      (le_tree left right, asked trail v, le-outcome terms trail sides.left sides.right left right (tree-got terms sides.left h.pair.left) (tree-got terms sides.right h.pair.right) h.int int-right a)
+  pub order-absent : has terms (le_tree left right) ≡ false → IsOpen (le_tree right left) → Asks terms values (Term (LeLine sides.left sides.right))
+  order-absent a o trail v =
+      (le_tree left right, asked o trail v, le-outcome terms trail sides.left sides.right left right (tree-got terms sides.left h.pair.left) (tree-got terms sides.right h.pair.right) h.int int-right a)
 
-  pub back-absent : has terms (le_tree right left) ≡ false → Asks terms values (Term (LeLine sides.right sides.left))
-  back-absent a trail v =
-      (le_tree right left, asked-back trail v, le-outcome terms trail sides.right sides.left right left (tree-got terms sides.right h.pair.right) (tree-got terms sides.left h.pair.left) int-right h.int a)
+  pub back-absent : has terms (le_tree right left) ≡ false → IsOpen (le_tree left right) → Asks terms values (Term (LeLine sides.right sides.left))
+  back-absent a o trail v =
+      (le_tree right left, asked-back o trail v, le-outcome terms trail sides.right sides.left right left (tree-got terms sides.right h.pair.right) (tree-got terms sides.left h.pair.left) int-right h.int a)
 
   pub both-true : (l r : ℕ) → l < length terms → tree_at terms l ≡ le_tree left right → get_or values l None ≡ Some true → r < length terms → tree_at terms r ≡ le_tree right left → get_or values r None ≡ Some true
       → Breaks terms values (Order id l r)

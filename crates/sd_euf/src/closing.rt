@@ -1,5 +1,5 @@
 ghost use Rattle.std.specs.Prelude.{◌≡◌, ℕ, ◌<◌, ◌^◌, All, IfOk, [], ◌∷◌, length, map};
-ghost use Rattle.sd_forms.specs.Closed.{IsClosed};
+ghost use Rattle.sd_term.specs.Closed.{IsClosed};
 ghost use Rattle.sd_kernel.specs.Facts.{trail_of};
 ghost use Rattle.sd_kernel.specs.Known.{known};
 ghost use Rattle.sd_term.specs.Sorts.{AllWellSorted};

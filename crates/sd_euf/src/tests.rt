@@ -1,7 +1,7 @@
 ghost use Rattle.std.specs.Prelude.{◌≡◌, ◌<◌, ◌+◌, ◌↔◌, All, IfOk, IsTrue, OnOk, length};
 ghost use Rattle.sd_term.specs.Bank.{tree_at};
 ghost use Rattle.sd_term.specs.Sorts.{sort_of, AllWellSorted};
-ghost use Rattle.sd_forms.specs.Closed.{IsClosed};
+ghost use Rattle.sd_term.specs.Closed.{IsClosed};
 
 use crate::{Closed, close};
 use sd_base::{NoMemory, Sort, is_same_sort};

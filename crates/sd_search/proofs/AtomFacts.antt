@@ -1,5 +1,5 @@
 -- atoms: truth-valued terms that aren't judged by their parts
-use Rattle.std.proofs.Common.{◌≡◌, ℕ, List, [], ◌∷◌, ◌++◌, refl, sym, ap, ◌∙◌, Bool, true, false, not, ◌&&◌, cond, Option, Some, None, unwrap_or, is_some}
+use Rattle.std.proofs.Common.{◌≡◌, List, [], ◌∷◌, ◌++◌, refl, ap, ◌∙◌, Bool, true, false, not, ◌&&◌, cond, Option, Some, None, unwrap_or, is_some}
 use Rattle.sd_base.specs.declared.sort.Sort.{Sort}
 use Rattle.sd_term.specs.declared.node.Head.{Head}
 use Rattle.sd_term.specs.Heads.{True, False, Not, And, Or, Eq, Ite}

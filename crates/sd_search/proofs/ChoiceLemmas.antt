@@ -1,31 +1,27 @@
 -- what comes next on a branch may be done
-use Rattle.std.proofs.Common.{◌≡◌, ◌≢◌, ℕ, zero, suc, ◌<◌, ◌≤◌, List, [], ◌∷◌, ◌++◌, map, length, get_or, refl, sym, ap, ◌∙◌, subst, Bool, true, false, not, cond, ◌||◌, ◌&&◌, ◌⊎◌, inl, inr, Option, Some, None, unwrap_or, is_some, take, slice_get, arith, All, length-append}
+use Rattle.std.proofs.Common.{◌≡◌, ◌≢◌, ℕ, zero, suc, ◌<◌, ◌≤◌, List, [], ◌∷◌, ◌++◌, map, length, get_or, refl, sym, ap, ◌∙◌, subst, Bool, true, false, not, cond, ◌||◌, inl, inr, Option, Some, None, unwrap_or, is_some, take, slice_get, arith, All, length-append}
 use Rattle.std.specs.List.{AllByRecursion}
 use Rattle.std.specs.Prelude.{Result, Ok, Err, IfOk, IfNone}
 use Rattle.sd_linear.specs.Elimination.{refuted}
-use Rattle.sd_term.specs.declared.node.Head.{Head}
-use Rattle.sd_term.specs.Heads.{Eq, Le}
 use Rattle.sd_term.specs.Tree.{Tree, head_of, at_parts, same_tree, same_tree-self}
 use Rattle.sd_term.specs.Bank.{tree_at}
-use Rattle.sd_term.specs.Sorts.{sort_of, sorts_of, is_truth_sort, is_truth_valued}
-use Rattle.sd_term.specs.Numbering.{has}
+use Rattle.sd_term.specs.Sorts.{sorts_of, is_truth_valued}
 use Rattle.sd_term.proofs.Numbers.{has-at}
 use Rattle.sd_kernel.specs.declared.step.Step.{Step}
 use Rattle.sd_kernel.specs.declared.step.Step.TheVariants.{Close, Term, Split as SplitStep}
 use Rattle.sd_kernel.specs.declared.step.StepCause.TheVariants.{Value as Value'}
-use Rattle.sd_kernel.specs.Known.{Fact, Trail, first_fact, has_fact, by_parts, known_by, known, known_by_parts, known_at, is_known, if_truth}
+use Rattle.sd_kernel.specs.Known.{Fact, Trail, first_fact, has_fact, by_parts, known_by, known, known_by_parts, known_at, is_known}
 use Rattle.sd_kernel.specs.Steps.{leaves, named, needs, outcome, chosen_part}
 use Rattle.sd_kernel.specs.Proof.{start}
 use Rattle.sd_cube.specs.Atoms.{is_atom}
 use Rattle.sd_cube.specs.Asked.{IsAsked, choice, order, back, eq_tree}
 use Rattle.sd_cube.specs.CubeRows.{eliminated_branch}
 use Rattle.sd_cube.specs.OpenCube.{AllKnown}
-use Rattle.sd_cube.specs.Spent.{IsReached, IsLeft, IsDue, Shuts}
+use Rattle.sd_cube.specs.Spent.{IsReached, IsDue, Shuts}
 use Rattle.sd_euf.specs.Closed.{IsAskedStep, AreSettled}
 use Rattle.sd_search.specs.declared.choice.Choice.{Choice}
 use Rattle.sd_search.specs.declared.choice.Choice.TheVariants as made
 use Rattle.sd_search.specs.Terms.{AreTerms, AllTruthValued, AreValuesUnder, IsOpenAtom, IsReachedAtom}
-use Rattle.sd_search.specs.Settled.{IsSettled}
 use Rattle.sd_search.specs.Choice.{IsChoice, Begins, Asks, choice_of, IsLeftAtom}
 use Rattle.sd_search.proofs.WaysDown.{value-at}
 
@@ -95,10 +91,10 @@ eq-atom a b n =
     let f : Bool → Option (Option Bool) = λ q. cond q (Some None) None in
     ap (λ q. not (is_some (f q))) n
 
-asked-atom : (terms : List Tree) (b : Trail) (t : Tree) → IsAsked terms b t → is_atom t ≡ true
+pub asked-atom : (terms : List Tree) (b : Trail) (t : Tree) → IsAsked terms b t → is_atom t ≡ true
 asked-atom terms b _ (choice t v h c k) = eq-atom t (chosen_part t v) c.1
-asked-atom terms b _ (order e h i k) = refl
-asked-atom terms b _ (back e h i k) = refl
+asked-atom terms b _ (order e h i k n) = refl
+asked-atom terms b _ (back e h i k n) = refl
 
 module _ (facts terms : List Tree) (b : Trail) (ids : List ℕ) (values : List (Option Bool)) (are : map (λ f. tree_at terms f) ids ≡ facts) (within : All (λ f. f < length terms) ids) (is : AreValuesUnder b terms values) where
   pub closes-by : (k : ℕ) → Begins facts b → k < length ids → known_at values (get_or ids k 0) ≡ Some false → Shuts terms b (Close k ∷ [])

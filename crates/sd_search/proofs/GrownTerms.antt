@@ -1,15 +1,15 @@
 -- the terms of a search: well sorted, needed and with their parts, and how they grow
-use Rattle.std.proofs.Common.{◌≡◌, ℕ, zero, suc, ◌+◌, ◌<◌, List, [], ◌∷◌, ◌++◌, map, length, get_or, refl, sym, ap, ◌∙◌, subst, Bool, true, false, not, cond, ◌&&◌, ◌||◌, ◌⊎◌, inl, inr, Option, Some, None, slice_get, arith, length-append}
+use Rattle.std.proofs.Common.{◌≡◌, ℕ, zero, suc, List, [], ◌∷◌, ◌++◌, length, refl, sym, ap, ◌∙◌, subst, Bool, true, false, not, ◌||◌, inl, inr, Option, Some, None, slice_get}
 use Rattle.sd_base.specs.declared.sort.Sort.{Sort, Int}
 use Rattle.sd_base.specs.Sorts.{MapOf}
 use Rattle.sd_term.specs.declared.node.TermNode.{TermNode}
 use Rattle.sd_term.specs.Tree.{Tree, leaf, call, tree, head_of, same_tree, same_tree-self, and-left, and-right}
-use Rattle.sd_term.specs.Bank.{tree_at, tree_of, grown, PartsBelow}
-use Rattle.sd_term.specs.Numbering.{has, numbered, AllIn}
+use Rattle.sd_term.specs.Bank.{tree_of, grown, PartsBelow}
+use Rattle.sd_term.specs.Numbering.{has, numbered}
 use Rattle.sd_term.specs.Sorts.{sort_of, sorts_of, same_sort, same_sort-true, Takes, PartsWellSorted, IsWellSorted, AllWellSorted}
 use Rattle.sd_term.proofs.Numbers.{has-more, has-cases, AllIn-more, numbered-facts}
 use Rattle.sd_term.proofs.BuildSorts.{eq-well, le-well}
-use Rattle.sd_forms.specs.Closed.{IsClosed}
+use Rattle.sd_term.specs.Closed.{IsClosed}
 use Rattle.sd_forms.specs.FactRows.{is_int_sort}
 use Rattle.sd_kernel.specs.declared.step.NodeLine.{NodeLine}
 use Rattle.sd_kernel.specs.declared.step.NodeLine.TheVariants.{Eq as EqLine, Le as LeLine, Read as ReadLine, Diff as DiffLine}
@@ -22,7 +22,7 @@ use Rattle.sd_cube.specs.Asked.{IsAsked, choice, order, back}
 use Rattle.sd_cube.specs.Needed.{IsNeeded, term as is_term, choice as is_choice, order as is_order, back as is_back}
 use Rattle.sd_cube.specs.OpenCube.{AreExtra}
 use Rattle.sd_search.specs.Terms.{AreTerms}
-use Rattle.sd_search.proofs.ClosedTerms.{IsClosed-numbered, IsClosed-more}
+use Rattle.sd_term.proofs.ClosedTerms.{IsClosed-numbered, IsClosed-more}
 use Rattle.sd_search.proofs.Everywhere.{Each, Inside, Everywhere, each-numbered}
 use Rattle.sd_search.proofs.OpenCubes.{sorted-in}
 
@@ -147,8 +147,8 @@ new-term terms trail line t w c e =
 -- what is asked for is needed
 pub asked-needed : (facts terms : List Tree) (b : Trail) (t : Tree) → AreTerms facts terms → IsAsked terms b t → IsNeeded facts t
 asked-needed facts terms b _ w (choice t v h c k) = is_choice t v (w.needed t h) c
-asked-needed facts terms b _ w (order e h i k) = is_order e (w.needed e h) i
-asked-needed facts terms b _ w (back e h i k) = is_back e (w.needed e h) i
+asked-needed facts terms b _ w (order e h i k n) = is_order e (w.needed e h) i
+asked-needed facts terms b _ w (back e h i k n) = is_back e (w.needed e h) i
 
 pub grown-terms : (facts terms : List Tree) (t : Tree) → AreTerms facts terms → IsNew terms t → IsNeeded facts t → AreTerms facts (terms ++ t ∷ [])
 grown-terms facts terms t w n h = record {

@@ -1,6 +1,7 @@
 pub mod Everywhere
 pub mod Behind
 pub mod AtomFacts
+pub mod GrownRows
 pub mod Due
 pub mod Judged
 pub mod Same
@@ -10,7 +11,6 @@ pub mod WaysDown
 pub mod AtomSteps
 pub mod ChoiceLemmas
 pub mod Steps
-pub mod ClosedTerms
 pub mod GrownTerms
 pub mod Runs
 pub mod Accepted

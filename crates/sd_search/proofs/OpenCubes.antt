@@ -1,26 +1,24 @@
 -- where nothing is left to do, the values of the atoms are an open cube
-use Rattle.std.proofs.Common.{◌≡◌, ◌≢◌, ℕ, zero, suc, ◌<◌, List, [], ◌∷◌, ◌++◌, map, length, refl, sym, ap, ◌∙◌, subst, Bool, true, false, not, cond, Option, Some, None, unwrap_or, is_some, All, arith, ◌⊎◌, inl, inr, get_or, slice_get}
+use Rattle.std.proofs.Common.{◌≡◌, ◌≢◌, ℕ, zero, suc, ◌<◌, List, [], ◌∷◌, ◌++◌, map, length, refl, sym, ap, ◌∙◌, subst, Bool, true, false, not, cond, Option, Some, None, unwrap_or, is_some, All, arith, ◌⊎◌, inl, inr, get_or}
 use Rattle.std.specs.Prelude.{filter}
 use Rattle.std.specs.List.{AllByRecursion, flat_map}
-use Rattle.sd_rows.specs.declared.row.Row.{Row}
 use Rattle.sd_rows.specs.Rows.{is_within}
 use Rattle.sd_linear.specs.Elimination.{elimination, refuted}
 use Rattle.sd_term.specs.declared.cube.Cube.{Cube}
 use Rattle.sd_term.specs.declared.cube.Literal.{Literal}
 use Rattle.sd_term.specs.Heads.{True}
-use Rattle.sd_term.specs.Tree.{Tree, leaf, call, below, subterms, same_tree, same_tree-true, same_tree-self, parts_of}
+use Rattle.sd_term.specs.Tree.{Tree, leaf, below, subterms, same_tree, same_tree-true, parts_of}
 use Rattle.sd_term.specs.Bank.{tree_at}
 use Rattle.sd_term.specs.Sorts.{is_truth_valued, IsWellSorted, AllWellSorted}
 use Rattle.sd_term.specs.Numbering.{has, numbered, AllIn}
 use Rattle.sd_term.proofs.Numbers.{has-at, AllIn-left, AllIn-right, below-parts}
-use Rattle.sd_forms.specs.Closed.{IsClosed}
+use Rattle.sd_term.specs.Closed.{IsClosed}
 use Rattle.sd_forms.specs.FactRows.{part_at}
-use Rattle.sd_kernel.specs.Known.{Fact, Trail, known, known_by_parts}
-use Rattle.sd_kernel.specs.Steps.{leads}
+use Rattle.sd_kernel.specs.Known.{Trail, known, known_by_parts}
 use Rattle.sd_cube.specs.Atoms.{is_atom}
-use Rattle.sd_cube.specs.Asked.{IsChoice, ChoicesHold, OrdersHold, NoneJoined, IsThere, IsTrueEq, AreJoined, choice_eq, order_of, order_back}
+use Rattle.sd_cube.specs.Asked.{ChoicesHold, OrdersHold, NoneJoined, IsThere, IsTrueEq, choice_eq, order_of, order_back}
 use Rattle.sd_cube.specs.CubeTerms.{cube_terms, literals_of}
-use Rattle.sd_cube.specs.CubeRows.{rows_if, branch_rows, eliminated_branch}
+use Rattle.sd_cube.specs.CubeRows.{rows_if, eliminated_branch}
 use Rattle.sd_cube.specs.OpenCube.{AreExtra, AllKnown, AllValued, NoneTwice, NoneOpposite, IsOpenCube}
 use Rattle.sd_search.specs.Atoms.{atom_literals}
 use Rattle.sd_search.specs.Settled.{IsSettled}

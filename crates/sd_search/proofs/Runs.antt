@@ -1,6 +1,5 @@
 -- each thing that a search does keeps it running
-use Rattle.std.proofs.Common.{◌≡◌, ℕ, zero, suc, ◌+◌, ◌<◌, ◌≤◌, List, [], ◌∷◌, ◌++◌, map, length, get_or, refl, sym, ap, ◌∙◌, subst, Bool, true, false, cond, ◌⊎◌, inl, inr, Option, Some, None, slice_get, All, below_more, take, drop, append_assoc, append-nil, arith, length-append}
-use Rattle.std.specs.Prelude.{AllPairs}
+use Rattle.std.proofs.Common.{◌≡◌, ℕ, zero, suc, ◌<◌, List, [], ◌∷◌, ◌++◌, map, length, get_or, refl, sym, ap, ◌∙◌, subst, Bool, true, false, ◌⊎◌, inl, inr, Option, Some, slice_get, All, append_assoc, append-nil, arith, length-append}
 use Rattle.std.specs.List.{AllByRecursion}
 use Rattle.std.proofs.lemmas.List.Elements.{All-cons, All-nil}
 use Rattle.sd_term.specs.declared.node.TermNode.{TermNode}
@@ -8,23 +7,24 @@ use Rattle.sd_term.specs.declared.cube.Cube.{Cube}
 use Rattle.sd_term.specs.declared.cube.Literal.{Literal}
 use Rattle.sd_term.specs.Tree.{Tree}
 use Rattle.sd_term.specs.Bank.{tree_at, tree_of, grown, PartsBelow}
-use Rattle.sd_term.specs.Sorts.{is_truth_sort, is_truth_valued, sort_of, IsWellSorted, AllWellSorted}
+use Rattle.sd_term.specs.Sorts.{is_truth_sort, sort_of, IsWellSorted, AllWellSorted}
 use Rattle.sd_term.specs.Numbering.{numbered, has, AllIn}
-use Rattle.sd_forms.specs.Closed.{IsClosed}
+use Rattle.sd_term.specs.Closed.{IsClosed}
+use Rattle.sd_term.proofs.Numbers.{has-at}
 use Rattle.sd_term.proofs.Trees.{grown-append, tree_at-append, tree_at-last, tree_of-same}
 use Rattle.sd_kernel.specs.declared.step.Step.{Step}
 use Rattle.sd_kernel.specs.declared.step.Step.TheVariants.{Split, Term}
 use Rattle.sd_kernel.specs.declared.step.NodeLine.{NodeLine}
 use Rattle.sd_kernel.specs.declared.step.StepCause.TheVariants.{Shape}
 use Rattle.sd_kernel.specs.Known.{Fact, Trail}
-use Rattle.sd_kernel.specs.Steps.{Outcome, leaves, named, needs, outcome}
+use Rattle.sd_kernel.specs.Steps.{leaves, named, needs, outcome}
 use Rattle.sd_kernel.specs.Proof.{State, IsOpen, front, start, next, goes, after}
 use Rattle.sd_cube.specs.Atoms.{is_atom}
 use Rattle.sd_cube.specs.Asked.{IsAsked}
 use Rattle.sd_cube.specs.Needed.{IsNeeded}
 use Rattle.sd_cube.specs.CubeTerms.{cube_terms, literals_of}
 use Rattle.sd_cube.specs.OpenCube.{AreExtra, IsOpenCube}
-use Rattle.sd_cube.specs.Spent.{IsDue, AreDue, IsClosedCube, AreApart, Shuts, cube_literals, IsSpent}
+use Rattle.sd_cube.specs.Spent.{IsDue, AreDue, IsClosedCube, Shuts, cube_literals, IsSpent}
 use Rattle.sd_search.specs.Path.{waiting, IsBehind, IsPast, IsTurned, AllSecond}
 use Rattle.sd_search.specs.Reading.{Reads, Goes, others}
 use Rattle.sd_search.specs.Outcome.{closings}
@@ -36,9 +36,9 @@ use Rattle.sd_search.proofs.Same.{AllTruths}
 use Rattle.sd_search.proofs.OpenCubes.{open-cube}
 use Rattle.sd_search.proofs.AtomFacts.{atom-truth}
 use Rattle.sd_search.proofs.Behind.{past-self, past-fronts, past-turn, behind-past, behind-more, waiting-true, waiting-false, waiting-seconds}
-use Rattle.sd_search.proofs.Due.{due-more, due-last, due-front, due-turn, all-apart, value_on, all-outside}
-use Rattle.sd_search.proofs.WaysDown.{get_or-any}
+use Rattle.sd_search.proofs.Due.{Among, due-more, due-last, due-front, due-turn, all-apart, value_on, all-outside}
 use Rattle.sd_search.proofs.GrownTerms.{IsNew, new-term, asked-needed, grown-terms, extra-last, first-terms}
+use Rattle.sd_search.proofs.ChoiceLemmas.{asked-atom}
 use Rattle.sd_search.proofs.Steps.{next-first, front-first, others-first, reads-none}
 
 abbrev pub literal : ℕ → Bool → Literal
@@ -55,6 +55,11 @@ literals-more terms more (l ∷ ls) h =
     let one : tree_at (terms ++ more) l.term ≡ tree_at terms l.term = tree_at-append terms more l.term (h 0 l (omega arith)) in
     let rest = literals-more terms more ls (λ k d lt. h (suc k) d (omega (arith, lt))) in
     λ i. (one i, l.value) ∷ rest i
+
+-- the literals are about terms that are there
+among-literals : (terms : List Tree) (ls : List Literal) → All (λ (l : Literal). l.term < length terms) ls → Among terms (literals_of terms ls)
+among-literals terms [] h = tt
+among-literals terms (l ∷ ls) h = (has-at terms (tree_at terms l.term) l.term (h 0 l (omega arith)) refl, among-literals terms ls (λ k d lt. h (suc k) d (omega (arith, lt))))
 
 facts-more : (terms more : List Tree) (ids : List ℕ) → All (λ f. f < length terms) ids → map (λ f. tree_at (terms ++ more) f) ids ≡ map (λ f. tree_at terms f) ids
 facts-more terms more [] h = refl
@@ -87,10 +92,6 @@ slice_get-tree : (ts : List Tree) (n : ℕ) → n < length ts → slice_get ts n
 slice_get-tree [] n h = absurd (omega (arith, h))
 slice_get-tree (t ∷ ts) zero h = refl
 slice_get-tree (t ∷ ts) (suc n) h = slice_get-tree ts n (omega (arith, h))
-
-take-whole : (ts : List Tree) → take (length ts) ts ≡ ts
-take-whole [] = refl
-take-whole (t ∷ ts) = ap (λ l. t ∷ l) (take-whole ts)
 
 goes-state : (s t : State) → goes s ≡ goes t → s ≡ t
 goes-state s t e = cc
@@ -127,8 +128,8 @@ module _ (facts : List Tree) (s : State) (ids : List ℕ) (path : List Literal) 
     pub split-goes : Goes s (Split n)
     split-goes = ((s.0, two), split-next)
 
-    due_here : IsDue facts (take (length s.0) s.0) (start facts ++ ([] ++ lits)) (tree_at s.0 n)
-    due_here = subst (λ ts. IsDue facts ts branch (tree_at s.0 n)) (sym (take-whole s.0)) (subst (λ b. IsDue facts s.0 b (tree_at s.0 n)) front-is due)
+    due_here : IsDue facts s.0 branch (tree_at s.0 n)
+    due_here = subst (λ b. IsDue facts s.0 b (tree_at s.0 n)) front-is due
 
     longer : literals_of s.0 (path ++ literal n true ∷ []) ≡ lits ++ (tree_at s.0 n, true) ∷ []
     longer = literals-append s.0 path (literal n true ∷ [])
@@ -151,7 +152,7 @@ module _ (facts : List Tree) (s : State) (ids : List ℕ) (path : List Literal) 
           below = r.below;
           path_below = all-append (λ (l : Literal). l.term < length s.0) path (literal n true ∷ []) r.path_below
               (All-cons (λ (l : Literal). l.term < length s.0) (literal n true) [] lt (All-nil (λ (l : Literal). l.term < length s.0)));
-          due = subst (AreDue facts s.0 []) (sym longer) (due-last facts s.0 [] lits (tree_at s.0 n, true) r.due (length s.0) due_here);
+          due = subst (AreDue facts s.0 []) (sym longer) (due-last facts s.0 [] lits (tree_at s.0 n, true) r.due due_here);
           closed = r.closed;
           apart = r.apart;
           behind = subst (λ fs. AllByRecursion (λ c. IsBehind fs (cube_literals facts c)) cubes) (sym longer)
@@ -195,7 +196,7 @@ module _ (facts : List Tree) (s : State) (ids : List ℕ) (path : List Literal) 
           facts_are = facts-more s.0 (t ∷ []) ids r.below ∙ r.facts_are;
           below = λ k d lt. up (get_or ids k d) (r.below k d lt);
           path_below = λ k d lt. up (get_or path k d).term (r.path_below k d lt);
-          due = subst (AreDue facts more []) (sym same) (due-more facts s.0 (t ∷ []) [] lits r.due);
+          due = subst (AreDue facts more []) (sym same) (due-more facts s.0 t r.terms term-new.lacks (asked-atom s.0 (front s) t asked) [] lits tt (among-literals s.0 path r.path_below) r.due);
           closed = r.closed;
           apart = r.apart;
           behind = subst (λ fs. AllByRecursion (λ c. IsBehind fs (cube_literals facts c)) cubes) (sym same) r.behind;
@@ -306,7 +307,7 @@ module _ (facts : List Tree) (s : State) (ids : List ℕ) (path : List Literal) 
 
   due-truths : (before fs : Trail) → AreDue facts s.0 before fs → AllTruths fs
   due-truths before [] d = tt
-  due-truths before (f ∷ fs) d = (atom-truth f.0 d.0.1.atom, due-truths (before ++ f ∷ []) fs d.1)
+  due-truths before (f ∷ fs) d = (atom-truth f.0 d.0.atom, due-truths (before ++ f ∷ []) fs d.1)
 
   truths-append : (a b : Trail) → AllTruths a → AllTruths b → AllTruths (a ++ b)
   truths-append [] b p q = q

@@ -1,12 +1,11 @@
 -- what is known of terms under the values of their atoms
-use Rattle.std.proofs.Common.{◌≡◌, ◌≢◌, ℕ, zero, suc, ◌<◌, List, [], ◌∷◌, ◌++◌, length, refl, sym, ap, ◌∙◌, subst, Bool, true, false, cond, ◌||◌, Option, Some, None, unwrap_or, is_some, arith, ◌⊎◌, inl, inr}
+use Rattle.std.proofs.Common.{◌≡◌, ◌≢◌, List, [], ◌∷◌, ◌++◌, refl, sym, ap, ◌∙◌, Bool, true, false, cond, ◌||◌, Option, Some, None, unwrap_or, is_some}
 use Rattle.std.specs.List.{AllByRecursion}
 use Rattle.sd_term.specs.Tree.{Tree, leaf, call, head_of, below, subterms, at_parts, same_tree, same_tree-true}
-use Rattle.sd_term.specs.Sorts.{sort_of, sorts_of, is_truth_sort, is_truth_valued, IsWellSorted, PartsWellSorted, Takes, AllWellSorted}
+use Rattle.sd_term.specs.Sorts.{sort_of, sorts_of, is_truth_valued, IsWellSorted, PartsWellSorted, Takes}
 use Rattle.sd_term.specs.Numbering.{has, AllIn}
 use Rattle.sd_term.proofs.Numbers.{AllIn-left, AllIn-right}
 use Rattle.sd_kernel.specs.Known.{Fact, Trail, first_fact, by_parts, known_by, known}
-use Rattle.sd_forms.specs.Closed.{IsClosed}
 use Rattle.sd_cube.specs.Atoms.{is_atom}
 use Rattle.sd_search.proofs.AtomFacts.{atom-truth, atom-known, unjudged-atom}
 use Rattle.sd_search.proofs.Judged.{AreKnown, are-known-last, IfJudged, judged-some}

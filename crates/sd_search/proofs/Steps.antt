@@ -1,5 +1,5 @@
 -- steps that are done one after another
-use Rattle.std.proofs.Common.{◌≡◌, ℕ, ◌+◌, List, [], ◌∷◌, ◌++◌, refl, sym, ap, ◌∙◌, subst, append-nil, append_assoc, arith, Option, Some, None, slice_get, take, drop, Bool, true, false, is_some, length, length-append}
+use Rattle.std.proofs.Common.{◌≡◌, ℕ, ◌+◌, List, [], ◌∷◌, ◌++◌, refl, sym, ap, ◌∙◌, subst, append-nil, append_assoc, arith, Option, Some, None, slice_get, take, Bool, true, false, length, length-append}
 use Rattle.std.specs.Prelude.{remove, if◌then◌else◌, not, ◌&&◌, ◌||◌, suc}
 use Rattle.std.specs.List.{list_all}
 use Rattle.sd_kernel.specs.declared.step.Step.{Step}
@@ -18,7 +18,7 @@ use Rattle.sd_term.specs.Tree.{Tree, tree}
 use Rattle.sd_term.specs.Numbering.{has}
 use Rattle.sd_term.specs.Sorts.{is_truth_sort, sort_of}
 use Rattle.sd_kernel.specs.Steps.{Outcome, bad, leaves, outcome, named, needs, adds, fits, line_head, first_part, second_part, numbers_next, are_orders_of, is_choice_of, is_chosen, all_at, is_chain, Made, made, wrong, row_of_line, refuted_by}
-use Rattle.sd_kernel.specs.Proof.{after, State, IsOpen, front, Next, fails, goes, next, at_end, lines_of, judged}
+use Rattle.sd_kernel.specs.Proof.{after, State, IsOpen, front, fails, goes, next, at_end, lines_of, judged}
 use Rattle.sd_cube.specs.Spent.{Shuts}
 use Rattle.sd_search.specs.Outcome.{closing, closings}
 use Rattle.sd_search.specs.Reading.{Reads, Goes, others, IsClosing}

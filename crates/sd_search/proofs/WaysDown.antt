@@ -1,10 +1,9 @@
 -- the way from a fact without a value down to an atom without a value
-use Rattle.std.proofs.Common.{◌≡◌, ◌≢◌, ℕ, zero, suc, ◌+◌, ◌<◌, ◌≤◌, List, [], ◌∷◌, ◌++◌, map, length, get_or, refl, sym, ap, ◌∙◌, subst, Bool, true, false, not, ◌&&◌, cond, ◌⊎◌, inl, inr, Option, Some, None, unwrap_or, is_some, All, arith}
+use Rattle.std.proofs.Common.{◌≡◌, ◌≢◌, ℕ, zero, suc, ◌<◌, ◌≤◌, List, [], ◌∷◌, ◌++◌, map, length, get_or, refl, sym, ap, ◌∙◌, subst, Bool, true, false, not, ◌&&◌, ◌⊎◌, inl, inr, Option, Some, None, unwrap_or, is_some, All, arith}
 use Rattle.std.specs.Prelude.{Contains}
 use Rattle.sd_base.specs.declared.sort.Sort.{Sort}
 use Rattle.sd_base.specs.declared.sort.Sort.{Bool as Truth}
 use Rattle.sd_term.specs.declared.node.TermNode.{TermNode}
-use Rattle.sd_term.specs.declared.node.Head.{Head}
 use Rattle.sd_term.specs.Heads.{Ite}
 use Rattle.sd_term.specs.Tree.{Tree, head_of, parts_of, at_parts}
 use Rattle.sd_term.specs.Bank.{tree_at, tree_of, PartsBelow}
@@ -13,7 +12,7 @@ use Rattle.sd_term.proofs.Folds.{at_parts-node, head_of-node}
 use Rattle.sd_term.proofs.Numbers.{node-parts}
 use Rattle.sd_kernel.specs.Known.{Trail, first_fact, known_at, by_parts, known_by, known}
 use Rattle.sd_cube.specs.Atoms.{is_atom}
-use Rattle.sd_cube.specs.Spent.{Reaches, IsReached}
+use Rattle.sd_cube.specs.Spent.{Reaches}
 use Rattle.sd_search.specs.Terms.{AreValuesUnder, AreValues, IsOpenAtom, IsOpenPart, IsReachedAtom}
 use Rattle.sd_search.proofs.AtomFacts.{judged-same}
 use Rattle.sd_search.proofs.Judged.{AreKnown, IfJudged, judged-some, second-some, judged-truths, truth-at}

@@ -1,11 +1,11 @@
 -- the terms of a search, and their truth values
-use Rattle.std.specs.Prelude.{◌≡◌, ◌≢◌, ℕ, ◌<◌, true, Bool, List, Option, None, map, length, Contains}
+use Rattle.std.specs.Prelude.{◌≡◌, ℕ, ◌<◌, true, Bool, List, Option, None, map, length, Contains}
 use Rattle.std.specs.List.{AllByRecursion}
 use Rattle.sd_term.specs.Tree.{Tree, parts_of}
 use Rattle.sd_term.specs.Bank.{tree_at}
 use Rattle.sd_term.specs.Sorts.{AllWellSorted, is_truth_valued}
 use Rattle.sd_term.specs.Numbering.{has, AllIn}
-use Rattle.sd_forms.specs.Closed.{IsClosed}
+use Rattle.sd_term.specs.Closed.{IsClosed}
 use Rattle.sd_kernel.specs.Known.{Trail, known, known_at}
 use Rattle.sd_cube.specs.Atoms.{is_atom}
 use Rattle.sd_cube.specs.Needed.{IsNeeded}

@@ -65,20 +65,11 @@ pub fn cube_of(alloc: Global, extra: &[TermNode], literals: &[Literal]) -> Resul
 {
     let mut copies = Items::new(alloc);
     for node in extra {
-        copies.push(clone_node(alloc, node)?)?;
+        copies.push(node.clone_of(alloc)?)?;
     }
     let literals = Items::from_slice(alloc, literals)?;
     Ok(Cube {
         extra: copies,
         literals,
     })
-}
-
-/// A copy of a node.
-pub fn clone_node(alloc: Global, node: &TermNode) -> Result<TermNode, NoMemory>
-    ensures { IfOk result (λ copy. copy ≡ node.now) }
-{
-    let head = node.head.clone_of(alloc)?;
-    let parts = Items::from_slice(alloc, node.parts.as_slice())?;
-    Ok(TermNode { head, parts })
 }

@@ -8,8 +8,8 @@ ghost use Rattle.sd_cube.specs.Spent.{Shuts};
 
 use crate::atoms::atom_literals;
 use crate::choice::{Choice, next_choice};
-use crate::leaf::{clone_node, cube_of, do_all, do_step, turn};
-use sd_base::NoMemory;
+use crate::leaf::{cube_of, do_all, do_step, turn};
+use sd_base::{CloneOf, NoMemory};
 use sd_kernel::{NodeLine, Step, Walk};
 use sd_term::{Bank, Cube, Literal, Numbered, Query, TermId, TermNode};
 use sqlite_items::Items;
@@ -149,6 +149,6 @@ fn node_at(alloc: Global, terms: &Bank, number: usize) -> Result<TermNode, NoMem
 {
     let count = terms.len();
     prove!(number < count);
-    let node = clone_node(alloc, terms.node(TermId::new(number as u32)))?;
+    let node = terms.node(TermId::new(number as u32)).clone_of(alloc)?;
     Ok(node)
 }

@@ -25,7 +25,7 @@ pub enum Outcome {
 }
 
 /// Looks for a proof that no valuation makes all facts of a query true. It splits on atoms, each at most once on a branch, and
-/// closes a branch as soon as a fact is false in it, its rows can't be met by integers, or its equalities clash (Davis, Logemann
+/// closes a branch as soon as a fact is false in it, elimination refutes its rows, or its equalities clash (Davis, Logemann
 /// and Loveland 1962; Nelson and Oppen 1979). At most `leaves` branches are closed. A search of 2^32 - 1 steps or more is out of
 /// memory, and so is a query of 2^32 facts or more.
 pub fn refute(alloc: Global, query: &Query, leaves: u32) -> Result<Outcome, NoMemory>

@@ -6,8 +6,8 @@ use Rattle.sd_term.specs.declared.node.Head.TheVariants.{Sym, Num}
 use Rattle.sd_term.specs.Heads.{Le}
 use Rattle.sd_term.specs.Tree.{Tree, leaf, tree}
 use Rattle.sd_term.proofs.Numbers.{has-at}
-use Rattle.sd_forms.specs.Closed.{IsClosed}
-use Rattle.sd_forms.proofs.ClosedTerms.{IsClosed-more}
+use Rattle.sd_term.specs.Closed.{IsClosed}
+use Rattle.sd_term.proofs.ClosedTerms.{IsClosed-more}
 use Rattle.sd_kernel.specs.declared.known.Fact.{Fact}
 use Rattle.sd_arith.proofs.tests.is_refuted.Goals as goal
 

@@ -1,4 +1,4 @@
-use Rattle.std.proofs.Common.{sym, ap, ◌∙◌, arith, false, true}
+use Rattle.std.proofs.Common.{sym, ap, ◌∙◌, arith}
 use Rattle.sd_term.specs.Bank.{tree_at}
 use Rattle.sd_cube.specs.Atoms.{is_atom}
 use Rattle.sd_search.specs.Atoms.{atom_literals}

@@ -1,7 +1,6 @@
-use Rattle.std.proofs.Common.{sym, ap, ◌∙◌, not, ◌&&◌, is_some, [], true, map}
+use Rattle.std.proofs.Common.{sym, ap, ◌∙◌, not, ◌&&◌, is_some, []}
 use Rattle.sd_term.specs.Tree.{head_of}
-use Rattle.sd_term.specs.Bank.{tree_at}
-use Rattle.sd_term.specs.Sorts.{sorts_of, sort_of, sort_by}
+use Rattle.sd_term.specs.Sorts.{sorts_of, sort_by}
 use Rattle.sd_term.proofs.Folds.{head_of-node, at_parts-node}
 use Rattle.sd_kernel.specs.Known.{by_parts}
 use Rattle.sd_search.proofs.atoms.is_atom.Goals as goal

@@ -1,8 +1,6 @@
-use Rattle.std.proofs.Common.{◌≡◌, ◌≢◌, sym, ap, ◌∙◌, subst, map, ℕ, ◌<◌, length, get_or, Some, None, false, IfOk, [], ◌∷◌}
+use Rattle.std.proofs.Common.{◌≢◌, sym, ◌∙◌, subst, [], ◌∷◌}
 use Rattle.sd_linear.specs.Elimination.{refuted}
-use Rattle.sd_term.specs.Bank.{tree_at}
 use Rattle.sd_kernel.specs.Facts.{trail_of}
-use Rattle.sd_kernel.specs.Known.{known_at}
 use Rattle.sd_cube.specs.CubeRows.{eliminated_branch}
 use Rattle.sd_kernel.specs.declared.step.Step.TheVariants.{Close as CloseStep}
 use Rattle.sd_euf.specs.Closed.{IfMissing, IfClasses, IsAskedStep, AreSettled}

@@ -1,4 +1,4 @@
-use Rattle.std.proofs.Common.{◌≡◌, ◌⊎◌, sym, ap, ◌∙◌, arith, inl, inr, true, Some, false, map, ℕ, ◌<◌, ◌≤◌, length}
+use Rattle.std.proofs.Common.{◌≡◌, ◌⊎◌, arith, inl, inr, Some, false, map}
 use Rattle.sd_term.specs.Heads.{Ite}
 use Rattle.sd_kernel.specs.Known.{known_at}
 use Rattle.sd_search.proofs.WaysDown.{open-part, no-value, read-none}

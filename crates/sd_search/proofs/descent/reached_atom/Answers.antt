@@ -1,4 +1,4 @@
-use Rattle.std.proofs.Common.{arith, ◌-◌}
+use Rattle.std.proofs.Common.{arith}
 use Rattle.sd_search.proofs.WaysDown.{reached-from}
 use Rattle.sd_search.proofs.descent.reached_atom.Goals as goal
 

@@ -1,4 +1,4 @@
-use Rattle.std.proofs.Common.{◌≡◌, List, ◌++◌, length}
+use Rattle.std.proofs.Common.{◌≡◌, ◌++◌, length}
 use Rattle.sd_kernel.specs.Proof.{State}
 use Rattle.sd_search.specs.Reading.{Reads, others, IsClosing}
 use Rattle.sd_search.proofs.leaf.do_all.Given as goal

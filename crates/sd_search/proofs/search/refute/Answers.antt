@@ -1,4 +1,4 @@
-use Rattle.std.proofs.Common.{◌≡◌, sym, ap, ◌∙◌, [], ◌∷◌, true, false, arith}
+use Rattle.std.proofs.Common.{◌≡◌, sym, ◌∙◌, [], ◌∷◌, true, false, arith}
 use Rattle.sd_term.specs.Numbering.{numbered}
 use Rattle.sd_kernel.specs.Proof.{start}
 use Rattle.sd_search.proofs.Accepted.{accepted-proves}

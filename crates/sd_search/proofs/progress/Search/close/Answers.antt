@@ -1,7 +1,6 @@
-use Rattle.std.proofs.Common.{◌≡◌, sym, ap, ◌∙◌, subst, refl, [], ◌∷◌, ◌++◌, length, arith}
+use Rattle.std.proofs.Common.{sym, ◌∙◌, subst, [], ◌∷◌}
 use Rattle.sd_term.specs.Numbering.{numbered}
 use Rattle.sd_kernel.specs.Proof.{start, front}
-use Rattle.sd_search.specs.Reading.{Reads}
 use Rattle.sd_search.specs.Running.{IsRunning}
 use Rattle.sd_search.proofs.Steps.{closings-closed}
 use Rattle.sd_search.proofs.Runs.{close-running}

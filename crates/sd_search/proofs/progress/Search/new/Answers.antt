@@ -1,12 +1,8 @@
-use Rattle.std.proofs.Common.{◌≡◌, sym, ap, ◌∙◌, subst, refl, map, All, ◌<◌, length, [], ◌∷◌, true}
+use Rattle.std.proofs.Common.{sym, ap, ◌∙◌, subst, map, [], ◌∷◌}
 use Rattle.sd_term.specs.Bank.{tree_at}
-use Rattle.sd_term.specs.Numbering.{numbered}
-use Rattle.sd_term.specs.Sorts.{AllWellSorted, is_truth_valued}
-use Rattle.sd_kernel.specs.Proof.{State, start}
-use Rattle.sd_search.specs.Reading.{Reads}
-use Rattle.sd_search.specs.Running.{IsRunning}
+use Rattle.sd_term.specs.Sorts.{AllWellSorted}
+use Rattle.sd_kernel.specs.Proof.{start}
 use Rattle.sd_search.proofs.GrownTerms.{first-terms}
-use Rattle.sd_search.proofs.Steps.{reads-none}
 use Rattle.sd_search.proofs.Runs.{new-search}
 use Rattle.sd_search.proofs.progress.Search.new.Goals as goal
 

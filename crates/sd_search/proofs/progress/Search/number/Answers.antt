@@ -1,6 +1,4 @@
-use Rattle.std.proofs.Common.{sym, ap, ◌∙◌, subst, refl, [], ◌∷◌, ◌++◌, length, arith}
-use Rattle.sd_term.specs.Bank.{tree_at, tree_of, PartsBelow}
-use Rattle.sd_term.proofs.Trees.{tree_at-append, tree_at-last, tree_of-same}
+use Rattle.std.proofs.Common.{sym, ap, ◌∙◌, subst, refl, [], ◌∷◌, length}
 use Rattle.sd_term.specs.Numbering.{numbered}
 use Rattle.sd_kernel.specs.declared.step.Step.TheVariants.{Term}
 use Rattle.sd_kernel.specs.Proof.{start}

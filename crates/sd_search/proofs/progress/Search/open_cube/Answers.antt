@@ -1,6 +1,5 @@
-use Rattle.std.proofs.Common.{sym, ap, ◌∙◌}
+use Rattle.std.proofs.Common.{ap, ◌∙◌}
 use Rattle.sd_search.specs.Atoms.{atom_literals}
-use Rattle.sd_search.proofs.OpenCubes.{open-cube}
 use Rattle.sd_search.proofs.Runs.{running-cube}
 use Rattle.sd_search.proofs.progress.Search.open_cube.Goals as goal
 

@@ -1,4 +1,4 @@
-use Rattle.std.proofs.Common.{sym, subst, refl, [], ◌∷◌, true}
+use Rattle.std.proofs.Common.{sym, subst, refl, [], ◌∷◌}
 use Rattle.sd_term.specs.Numbering.{numbered}
 use Rattle.sd_kernel.specs.declared.step.Step.TheVariants.{Split}
 use Rattle.sd_kernel.specs.Proof.{start}
