@@ -1,4 +1,4 @@
--- What an open query tells where nothing is called.
+-- What a valuation and an open cube of a query tell where both programs are over truth values and call nothing.
 use Rattle.std.specs.Prelude.{◌≡◌, Bool, List}
 use Rattle.sd_core.specs.Straight.{IsStraightCore}
 use Rattle.sd_core.specs.Failure.{NewFailureOf}

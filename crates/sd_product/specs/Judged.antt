@@ -27,7 +27,8 @@ LiveFlagsAreSafe =
     (h : Held) (table : List Bool) (proofs : List Proved) (n : ℕ) (x : Claimed) → IsHeld h → IsInductive (queries_under h table) table proofs →
     IsFlagAt h n x → slice_get table n ≡ Some true → NewFailureOf h.old h.new x.pair.old x.pair.new → ⊥
 
--- Where neither program calls, and the query of such a candidate that asks for equal inputs is open under some table, it has one.
+-- Where both programs are over truth values and call nothing, and the query of such a candidate that asks for equal inputs has an open cube
+-- under some table, it has one.
 abbrev pub OpenFlagsAreFailures : Type 0
 OpenFlagsAreFailures =
     (h : Held) (seen : List Bool) (n : ℕ) (x : Claimed) (facts : List Tree) (cube : Cube) → IsHeld h → IsStraightCore h.old → IsStraightCore h.new →

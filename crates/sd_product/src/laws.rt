@@ -24,8 +24,8 @@ pub fn queries_are_truths()
     ensures { QueriesAreTruths }
 {}
 
-/// Where nothing is called, a valuation that makes the query of the claim on the flag with equal inputs true is a failure of the new
-/// procedure that the old one lacks.
+/// Where both programs are over truth values and call nothing, a valuation that makes the query of the claim on the flag with equal
+/// inputs true is a failure of the new procedure that the old one lacks.
 pub fn valuations_are_failures()
     ensures { ValuationsAreFailures }
 {
@@ -46,7 +46,8 @@ pub fn live_flags_are_safe()
     no_new_failure();
 }
 
-/// Where nothing is called, an open query of a candidate on the flag with equal inputs shows such a failure.
+/// Where both programs are over truth values and call nothing, an open cube of the query of a candidate on the flag with equal inputs
+/// shows such a failure.
 pub fn open_flags_are_failures()
     ensures { OpenFlagsAreFailures }
 {

@@ -1,6 +1,6 @@
 -- How one candidate is judged.
 use Rattle.std.proofs.Common.{◌≡◌, ◌≢◌, ◌∙◌, sym, ap, refl, subst, ℕ, suc, zero, ◌+◌, ◌-◌, ◌<◌, ◌≤◌, Bool, true, false, List, [], ◌∷◌, ◌++◌, length, set, take, append_assoc, length-append, arith}
-use Rattle.std.specs.Prelude.{Some, Result, Ok, Err, IfOk, MatchBool, ◌||◌, replicate, slice_get, Contains}
+use Rattle.std.specs.Prelude.{Some, MatchBool, ◌||◌, replicate, slice_get, Contains}
 use Rattle.std.specs.List.{AllByRecursion}
 use Rattle.std.proofs.lemmas.List.{map-append, take_more, take_all, get_or-replicate, length-take-le}
 use Rattle.std.proofs.lemmas.Option.{slice_get_within, slice_get-get_or, get_or_from_slice_get}
@@ -18,11 +18,9 @@ use Rattle.sd_match.specs.declared.pair.Pair.{Pair}
 use Rattle.sd_product.specs.Work.{Held, pairs_in, claims_of, claims_in, queries_under}
 use Rattle.sd_product.specs.Bodies.{count_before}
 use Rattle.sd_rounds.specs.declared.settle.Finding.{Finding}
-use Rattle.sd_rounds.specs.declared.settle.Cause.{Cause}
-use Rattle.sd_rounds.specs.declared.settle.Cause.TheVariants.{Open, Spent}
 use Rattle.sd_rounds.specs.declared.settle.Death.{Death}
 use Rattle.sd_rounds.specs.Table.{cleared, live_from}
-use Rattle.sd_rounds.specs.Settled.{dead_of, IsCause, IsLegalDeath, AreLegal, IsProved, IsInductive, IsSettled}
+use Rattle.sd_rounds.specs.Settled.{dead_of, IsLegalDeath, AreLegal, IsProved, IsInductive, IsSettled, AreSweeps}
 use Rattle.sd_rounds.specs.Sweep.{IsCauseAt, IsFinding, finding_of, AreDead, AreProvedBelow, GoesOn}
 
 -- ---- lists
@@ -281,6 +279,13 @@ sweeps_on h n m start table table' deaths deaths' proofs proofs' true b below gr
 sweeps_on h n m start table table' deaths deaths' proofs proofs' false true below proved died more = omega arith
 sweeps_on h n m start table table' deaths deaths' proofs proofs' false false below proved goes more = subst (λ (t : List Bool). AreProvedBelow h m t proofs') (sym goes.table_stays) (goes.proved proved)
 
+-- where neither of two dropped one, there are as many deaths as before
+pub still_on : (h : Held) (n m start : ℕ) (table table' : List Bool) (deaths deaths' : List Death) (proofs proofs' : List Proved) (a b : Bool)
+    → (a ≡ false → length deaths ≡ start) → MatchBool b (length deaths < length deaths') (GoesOn h n m table table' deaths deaths' proofs proofs') → (a || b) ≡ false → length deaths' ≡ start
+still_on h n m start table table' deaths deaths' proofs proofs' true b before after none = absurd (cc)
+still_on h n m start table table' deaths deaths' proofs proofs' false true before after none = absurd (cc)
+still_on h n m start table table' deaths deaths' proofs proofs' false false before after none = ap length after.deaths_stay ∙ before refl
+
 -- all pairs have been passed where so many have
 pub passed_all : (h : Held) (pairs : ℕ) → length (pairs_in h) ≤ pairs → count_before h pairs ≡ length (claims_in h)
 passed_all h pairs ends = ap (λ (ps : List Pair). length (claims_of ps)) (take_all pairs (pairs_in h) ends)
@@ -293,6 +298,15 @@ swept h n table proofs false P ends proved = all_proved (queries_under h table) 
 -- fewer are live where more have died
 pub fewer_live : (leaves : ℕ) (h : Held) (table table' : List Bool) (deaths deaths' : List Death) → AreDead leaves h table deaths → AreDead leaves h table' deaths' → length deaths < length deaths' → length (live_from 0 table') < length (live_from 0 table)
 fewer_live leaves h table table' deaths deaths' before after more = let a = before.counted in let b = after.counted in omega (arith, a, b)
+
+-- ---- how many sweeps
+
+pub first_sweep : (deaths : ℕ) → deaths ≡ 0 → AreSweeps 1 deaths
+first_sweep deaths none = record { some = omega arith; few = omega arith; more = λ h. omega arith }
+
+-- one more after a sweep that dropped some
+pub one_sweep_more : (sweeps sweeps' deaths deaths' : ℕ) → AreSweeps sweeps deaths → sweeps' ≡ sweeps + 1 → deaths < deaths' → AreSweeps sweeps' deaths'
+one_sweep_more sweeps sweeps' deaths deaths' are more grown = let some = are.some in let few = are.few in record { some = omega arith; few = omega arith; more = λ h. omega arith }
 
 -- ---- what is settled
 

@@ -1,5 +1,5 @@
 -- What a settled table is: each candidate that isn't live died lawfully, and each live one is proved under this same table.
-use Rattle.std.specs.Prelude.{◌≡◌, ℕ, Bool, true, List, [], ◌∷◌, ◌++◌, Some, map, length, replicate, slice_get, Contains}
+use Rattle.std.specs.Prelude.{◌≡◌, ℕ, ◌+◌, ◌≤◌, Bool, true, List, [], ◌∷◌, ◌++◌, Some, map, length, replicate, slice_get, Contains}
 use Rattle.sd_term.specs.Tree.{Tree}
 use Rattle.sd_cand.specs.Words.{words_of}
 use Rattle.sd_term.specs.declared.cube.Cube.{Cube}
@@ -44,3 +44,10 @@ pub record IsSettled (leaves : ℕ) (h : Held) (table : List Bool) (deaths : Lis
   pub table_is : table ≡ cleared (replicate (length (claims_in h)) true) (dead_of deaths)
   pub legal : AreLegal leaves h [] deaths
   pub inductive : IsInductive (queries_under h table) table proofs
+
+-- how many sweeps there can be with so many deaths, where the last one drops nothing and each other one drops something
+pub record AreSweeps (sweeps deaths : ℕ) : Type 0 where
+  pub some : 1 ≤ sweeps
+  pub few : sweeps ≤ deaths + 1
+  -- a sweep that drops something isn't the last
+  pub more : 1 ≤ deaths → 2 ≤ sweeps

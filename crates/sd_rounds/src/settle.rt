@@ -1,7 +1,7 @@
-ghost use Rattle.std.specs.Prelude.{◌≡◌, ◌<◌, ◌≤◌, ◌+◌, ℕ, suc, true, false, IfOk, OnOk, IsTrue, MatchBool, Some, length, slice_get};
+ghost use Rattle.std.specs.Prelude.{◌≡◌, ◌<◌, ◌≤◌, ◌+◌, ℕ, true, false, IfOk, OnOk, IsTrue, MatchBool, Some, length, slice_get};
 ghost use Rattle.sd_product.specs.Bodies.{IsAbout, count_before};
 ghost use Rattle.sd_product.specs.Work.{claims_in, pairs_in, queries_under};
-ghost use Rattle.sd_rounds.specs.Settled.{IsInductive, IsSettled};
+ghost use Rattle.sd_rounds.specs.Settled.{AreSweeps, IsInductive, IsSettled};
 ghost use Rattle.sd_rounds.specs.Sweep.{AreDead, GoesOn, IsFinding, finding_of};
 
 use sd_base::NoMemory;
@@ -16,7 +16,7 @@ use std::alloc::Global;
 /// Why a candidate was dropped.
 #[derive(Drop)]
 pub enum Cause {
-    /// Values for the terms of its query that make all the facts true.
+    /// Truth values of terms under which the facts of its query are true, and no rule is broken.
     Open(Cube),
     /// So many cubes were closed, and don't cover everything.
     Spent(u32),
@@ -186,7 +186,7 @@ fn sweep(alloc: Global, work: &Work, settled: &mut Settled, leaves: u32) -> Resu
     ensures dropped { IfOk result (λ dropped. MatchBool dropped
         (length settled.old.deaths.items < length settled.new.deaths.items)
         (IsInductive (queries_under work.now settled.new.table) settled.new.table settled.new.proofs.items)) }
-    ensures grown { OnOk result (length settled.old.deaths.items ≤ length settled.new.deaths.items) }
+    ensures still { IfOk result (λ dropped. dropped ≡ false → length settled.new.deaths.items ≡ length settled.old.deaths.items) }
 {
     settled.proofs.clear();
     let mut dropped = false;
@@ -211,7 +211,7 @@ fn one_more(sweeps: u32) -> Result<u32, NoMemory>
 pub fn settle_one(alloc: Global, work: &Work, leaves: u32) -> Result<Settled, NoMemory>
     requires { 1 ≤ leaves }
     ensures settled { IfOk result (λ s. IsSettled leaves work.now s.table s.deaths.items s.proofs.items) }
-    ensures sweeps { IfOk result (λ s. (s.sweeps ≤ suc (length s.deaths.items)) × (1 ≤ s.sweeps)) }
+    ensures sweeps { IfOk result (λ s. AreSweeps s.sweeps (length s.deaths.items)) }
 {
     let mut settled = Settled {
         table: LiveTable::full(alloc, work.count())?,

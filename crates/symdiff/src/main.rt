@@ -5,7 +5,7 @@ mod answering;
 mod certificate_error;
 mod comparing;
 #[cfg(test)]
-mod integers;
+mod integer_tests;
 mod judge;
 mod line;
 mod match_error;
@@ -15,6 +15,8 @@ mod replaying;
 mod reply;
 mod report;
 mod run;
+#[cfg(test)]
+mod settling_tests;
 #[cfg(test)]
 mod tests;
 mod text;

@@ -122,8 +122,8 @@ fn end_with(reply: Reply<'_>, code: u8, certificate_file: CertificateFile) -> En
 /// others 2013: differential assertion checking); with `--certificate FILE` it writes before that the certificate of
 /// the report to a file. `replay OLD NEW CERTIFICATE` writes the report from a certificate that it checks. The
 /// statuses: 0 every pair is safe; 1 some pair isn't; 2 the words name no job; 3 a text is no program that this version
-/// takes; 4 the two texts declare a name with two types; 5 the certificate is refused; 6 the reading of a file failed; 7 the writing failed; 8 memory ran out; 9 the
-/// certificate is too long.
+/// takes; 4 the two texts declare a name with two types; 5 the certificate is refused; 6 the reading of a file failed;
+/// 7 the writing failed; 8 memory ran out; 9 a text or the certificate passes a limit.
 pub fn run<R: Threads + Sync, F: Files, S: Sink, G: Gate>(
     _rt: &R,
     alloc: Global,

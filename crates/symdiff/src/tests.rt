@@ -1,5 +1,7 @@
+use crate::integer_tests::has_literal;
 use crate::match_error::refuse_clash;
 use crate::run::{CertificateFile, Ended, run};
+use crate::settling_tests::are_deaths;
 use sd_base::{Files, MemFiles, MemSink, Name, OpenGate};
 use sd_match::MatchError;
 use sd_rounds::Cause;
@@ -365,27 +367,16 @@ fn an_open_cube_shows_the_new_failure(rt: HostRuntime) -> Result<(), Fail> {
     let texts = (ASSERTS_B_OF_TWO, ASSERTS_BOTH);
     let ended = run_words(&rt, alloc, &VERIFY, texts, &[], &mut sink)?;
     assert!(rt; ended.table.as_slice() == [0].as_slice());
+    assert!(rt; are_deaths(ended.deaths.as_slice(), &[(0, 3, None), (1, 2, None)]));
     assert_eq!(rt; ended.deaths.len(), 2);
-    assert_eq!(rt; ended.deaths[0].candidate, 0);
-    let death = &ended.deaths[1];
-    assert_eq!(rt; death.candidate, 1);
-    assert!(rt; death.seen.as_slice() == [2].as_slice());
     // The terms are the old `b`, the new one, their equality, the old `c`, the new one, and so on.
-    let Cause::Open(cube) = &death.cause else {
+    let Cause::Open(cube) = &ended.deaths[1].cause else {
         assert!(rt; false);
         return Ok(());
     };
     let literals = cube.literals.as_slice();
-    assert!(rt;
-        literals
-            .iter()
-            .any(|literal| literal.term == 1 && literal.value)
-    );
-    assert!(rt;
-        literals
-            .iter()
-            .any(|literal| literal.term == 4 && !literal.value)
-    );
+    assert!(rt; has_literal(literals, 1, true));
+    assert!(rt; has_literal(literals, 4, false));
     Ok(())
 }
 

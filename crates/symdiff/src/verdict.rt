@@ -66,6 +66,6 @@ pub struct PairVerdict {
     pub old: Name,
     pub new: Name,
     pub state: VerdictState,
-    /// Whether the outputs were shown to be equal. No such claim is made yet.
+    /// Whether the outputs are said to be equal. They never are yet, whatever was proved of them.
     pub equal: bool,
 }

@@ -1,13 +1,13 @@
-use Rattle.std.proofs.Common.{◌≤◌, suc, length}
+use Rattle.std.proofs.Common.{length}
 use Rattle.sd_rounds.specs.Table.{live_from}
+use Rattle.sd_rounds.specs.Settled.{AreSweeps}
 use Rattle.sd_rounds.specs.Sweep.{AreDead}
 use Rattle.sd_rounds.proofs.settle.settle_one.Given as goal
 
 abbrev pub invariant-sweeps : goal.invariant-sweeps
 invariant-sweeps l = record {
   dead : AreDead l.leaves l.work l.settled.table l.settled.deaths.items;
-  first : 1 ≤ l.settled.sweeps;
-  sweeps : l.settled.sweeps ≤ suc (length l.settled.deaths.items);
+  sweeps : AreSweeps l.settled.sweeps (length l.settled.deaths.items);
 }
 
 abbrev pub decreases-sweeps : goal.decreases-sweeps

@@ -1,7 +1,7 @@
 use Rattle.std.proofs.Common.{◌≤◌, ◌+◌, refl, arith, ap, ◌∙◌, sym, length}
 use Rattle.sd_product.specs.Work.{pairs_in, queries_under}
 use Rattle.sd_product.specs.Bodies.{count_before}
-use Rattle.sd_rounds.proofs.Settling.{none_proved, sweeps_on, swept, passed_all}
+use Rattle.sd_rounds.proofs.Settling.{none_proved, sweeps_on, still_on, swept, passed_all}
 use Rattle.sd_rounds.proofs.settle.sweep.Goals as goal
 
 pub each-init : goal.each-init
@@ -9,6 +9,7 @@ each-init c = record {
   dead = c.requires.dead;
   sweeps = refl;
   grown = omega arith;
+  still = λ none. refl;
   dropped = none_proved (queries_under c.args.work.now c.args.settled.now.table) c.args.settled.now.table (count_before c.args.work.now 0) _ refl (cc);
 }
 
@@ -23,6 +24,7 @@ each-preserved c =
       dead = after.dead;
       sweeps = cc;
       grown = omega (arith, before.grown, after.grown);
+      still = still_on h (count_before h c.each.pair) (count_before h (c.each.pair + 1)) _ was.table is.table was.deaths.items is.deaths.items was.proofs.items is.proofs.items c.each.dropped c.in_ok-dropped.field-0 before.still after.dropped;
       dropped = sweeps_on h (count_before h c.each.pair) (count_before h (c.each.pair + 1)) _ was.table is.table was.deaths.items is.deaths.items was.proofs.items is.proofs.items c.each.dropped c.in_ok-dropped.field-0 before.grown before.dropped after.dropped after.grown;
     }
 

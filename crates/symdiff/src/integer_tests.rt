@@ -1,13 +1,15 @@
 //! Reports on programs over integers.
 use crate::run::run;
+use crate::settling_tests::are_deaths;
 use crate::tests::{CERTIFY, REPLAY, VERIFY, files_of, run_words, words_of};
 use sd_base::{MemSink, OpenGate};
 use sd_rounds::Cause;
+use sd_term::Literal;
 use std::test::Fail;
 
-const AT_LEAST_ONE: &[u8] = b"procedure p(x: int) { assert x >= 1; }\n";
+pub(crate) const AT_LEAST_ONE: &[u8] = b"procedure p(x: int) { assert x >= 1; }\n";
 
-const AT_LEAST_ZERO: &[u8] = b"procedure p(x: int) { assert x >= 0; }\n";
+pub(crate) const AT_LEAST_ZERO: &[u8] = b"procedure p(x: int) { assert x >= 0; }\n";
 
 const SAFE: &[u8] = b"safe p p\npairs 1 safe 1 equal 0 unknown 0 refused 0 axioms 0 0\n";
 
@@ -100,6 +102,13 @@ fn integers_are_compared(rt: HostRuntime) -> Result<(), Fail> {
     Ok(())
 }
 
+/// Whether the term of this number has this value.
+pub(crate) fn has_literal(literals: &[Literal], term: u32, value: bool) -> bool {
+    literals
+        .iter()
+        .any(|literal| literal.term == term && literal.value == value)
+}
+
 #[test]
 fn the_table_and_the_deaths_are_told(rt: HostRuntime) -> Result<(), Fail> {
     let alloc = rt.alloc();
@@ -107,8 +116,17 @@ fn the_table_and_the_deaths_are_told(rt: HostRuntime) -> Result<(), Fail> {
     let texts = (AT_LEAST_ONE, AT_LEAST_ZERO);
     let ended = run_words(&rt, alloc, &VERIFY, texts, &[], &mut sink)?;
     assert!(rt; ended.table.as_slice() == [2].as_slice());
+    // Where the inputs may differ, a new input below 0 and an old one from 1 on make the claim false.
+    assert!(rt; are_deaths(ended.deaths.as_slice(), &[(0, 3, None)]));
     assert_eq!(rt; ended.deaths.len(), 1);
-    assert_eq!(rt; ended.deaths[0].candidate, 0);
+    let Cause::Open(cube) = &ended.deaths[0].cause else {
+        assert!(rt; false);
+        return Ok(());
+    };
+    // The terms are 0, the new `x`, `0 <= x` of the new side, 1, the old `x`, `1 <= x` of the old side, and so on.
+    let literals = cube.literals.as_slice();
+    assert!(rt; has_literal(literals, 2, false));
+    assert!(rt; has_literal(literals, 5, true));
     Ok(())
 }
 
@@ -119,25 +137,16 @@ fn an_open_cube_has_the_orders_of_the_new_failure(rt: HostRuntime) -> Result<(),
     let texts = (AT_LEAST_ZERO, AT_LEAST_ONE);
     let ended = run_words(&rt, alloc, &VERIFY, texts, &[], &mut sink)?;
     assert!(rt; ended.table.as_slice() == [0].as_slice());
+    assert!(rt; are_deaths(ended.deaths.as_slice(), &[(0, 3, None), (1, 2, None)]));
     assert_eq!(rt; ended.deaths.len(), 2);
-    let death = &ended.deaths[1];
-    assert_eq!(rt; death.candidate, 1);
-    let Cause::Open(cube) = &death.cause else {
+    let Cause::Open(cube) = &ended.deaths[1].cause else {
         assert!(rt; false);
         return Ok(());
     };
     // The terms are the old `x`, the new one, their equality, 1, `1 <= x` of the new side, 0, `0 <= x` of the old one, and so on.
     let literals = cube.literals.as_slice();
-    assert!(rt;
-        literals
-            .iter()
-            .any(|literal| literal.term == 4 && !literal.value)
-    );
-    assert!(rt;
-        literals
-            .iter()
-            .any(|literal| literal.term == 6 && literal.value)
-    );
+    assert!(rt; has_literal(literals, 4, false));
+    assert!(rt; has_literal(literals, 6, true));
     Ok(())
 }
 
