@@ -1,4 +1,6 @@
 //! Candidates that die: of which cause, under which table and in which sweep.
+ghost use Rattle.std.specs.Prelude.{◌≤◌};
+
 use crate::integer_tests::{AT_LEAST_ONE, AT_LEAST_ZERO};
 use crate::matching::{Matched, match_texts};
 use crate::run::{Ended, run};
@@ -57,49 +59,59 @@ const CALLS_WHAT_NEVER_FAILS: &[u8] =
 const CALLS_WHAT_ALWAYS_FAILS: &[u8] =
     b"procedure p() { call q(); } procedure q() { call r(); } procedure r() { assert false; }\n";
 
-/// Two texts and how many leaves a search has, with how many sweeps there are, and the deaths.
-const SETTLED: [(&[u8], &[u8], u32, u32, &[Died]); 5] = [
-    // The denial of the only claim is the term `false`, so its search closes one branch.
-    (FAILS_NEVER, FAILS_NEVER, 1, 1, &[]),
+/// Whether two texts, of which each search has so many leaves, are settled in so many sweeps with these deaths.
+fn is_settled<R: Abort>(
+    rt: &R,
+    alloc: Global,
+    texts: (&[u8], &[u8]),
+    leaves: u32,
+    sweeps: u32,
+    died: &[Died],
+) -> Result<bool, Fail>
+    requires { 1 ≤ leaves }
+{
+    let (old, new) = texts;
+    let matched = match_both(rt, alloc, old, new)?;
+    let settled = settle_one(alloc, &matched.work, leaves)?;
+    Ok(settled.sweeps == sweeps && are_deaths(settled.deaths.as_slice(), died))
+}
+
+#[test]
+fn one_sweep_is_enough_where_nothing_dies(rt: HostRuntime) -> Result<(), Fail> {
+    let texts = (FAILS_NEVER, FAILS_NEVER);
+    // The denial of each claim is false whatever the search does, so its search closes one branch.
+    assert!(rt; is_settled(&rt, rt.alloc(), texts, 1, 1, &[])?);
+    Ok(())
+}
+
+#[test]
+fn a_search_with_too_few_leaves_is_spent(rt: HostRuntime) -> Result<(), Fail> {
+    let alloc = rt.alloc();
+    let texts = (AT_LEAST_ONE, AT_LEAST_ZERO);
     // The denial of both claims is that `0 <= x` of the new side is false and `1 <= x` of the old one true. They are split in this order,
     // each where it is true first. Where the first is true, the denial is false: one leaf. Where it is false and the second is true, all facts
     // of claim 0 are true, and the equality of the two `x` closes claim 1 by rows: two leaves. Where the second is false, the denial is: three.
-    (
-        AT_LEAST_ONE,
-        AT_LEAST_ZERO,
-        1,
-        2,
-        &[(0, 3, Some(1)), (1, 2, Some(1))],
-    ),
-    (
-        AT_LEAST_ONE,
-        AT_LEAST_ZERO,
-        2,
-        2,
-        &[(0, 3, None), (1, 2, Some(2))],
-    ),
-    (AT_LEAST_ONE, AT_LEAST_ZERO, 3, 2, &[(0, 3, None)]),
-    // There is a claim for `p`, one for `q` and one for `r`. In the first sweep those for `p` and `q` are proved by the one for the callee, and the one for `r` dies.
-    // In the second one that for `q` dies, in the third one that for `p`, and the fourth one finds none.
-    (
-        CALLS_WHAT_NEVER_FAILS,
-        CALLS_WHAT_ALWAYS_FAILS,
-        1,
-        4,
-        &[(2, 7, None), (1, 3, None), (0, 1, None)],
-    ),
-];
+    assert!(rt; is_settled(&rt, alloc, texts, 1, 2, &[(0, 3, Some(1)), (1, 2, Some(1))])?);
+    assert!(rt; is_settled(&rt, alloc, texts, 2, 2, &[(0, 3, None), (1, 2, Some(2))])?);
+    assert!(rt; is_settled(&rt, alloc, texts, 3, 2, &[(0, 3, None)])?);
+    Ok(())
+}
 
 #[test]
-fn each_death_has_its_cause_and_its_sweep(rt: HostRuntime) -> Result<(), Fail> {
-    let alloc = rt.alloc();
-    for (old, new, leaves, sweeps, died) in SETTLED {
-        assert!(rt; leaves >= 1);
-        let matched = match_both(&rt, alloc, old, new)?;
-        let settled = settle_one(alloc, &matched.work, leaves)?;
-        assert_eq!(rt; settled.sweeps, sweeps);
-        assert!(rt; are_deaths(settled.deaths.as_slice(), died));
-    }
+fn a_death_is_seen_by_its_caller_in_the_next_sweep(rt: HostRuntime) -> Result<(), Fail> {
+    let texts = (CALLS_WHAT_NEVER_FAILS, CALLS_WHAT_ALWAYS_FAILS);
+    // There is a claim for `p`, one for `q` and one for `r`. In the first sweep those for `p` and `q` are proved by the one for the callee,
+    // and the one for `r` dies. In the second one that for `q` dies, in the third one that for `p`, and the fourth one finds none.
+    assert!(rt;
+        is_settled(
+            &rt,
+            rt.alloc(),
+            texts,
+            1,
+            4,
+            &[(2, 7, None), (1, 3, None), (0, 1, None)]
+        )?
+    );
     Ok(())
 }
 
