@@ -8,11 +8,11 @@ use Rattle.sd_kernel.specs.declared.step.RowLine.{RowLine}
 use Rattle.sd_kernel.specs.declared.step.Step.TheVariants.{Rows}
 use Rattle.sd_kernel.specs.Known.{Trail}
 use Rattle.sd_kernel.specs.Steps.{refuted_by}
-use Rattle.sd_cube.specs.Spent.{Shuts}
+use Rattle.sd_cube.specs.Spent.{ClosesBranch}
 use Rattle.sd_arith.specs.declared.gather.Gathered.{Gathered}
 use Rattle.sd_arith.specs.Lines.{line_of, HasInput}
 use Rattle.sd_arith.specs.Gathered.{IsGathered}
-use Rattle.sd_arith.proofs.Refuting.{refutation-shuts, refutation-inputs}
+use Rattle.sd_arith.proofs.Refuting.{refutation-closes_branch, refutation-inputs}
 
 module _ (terms : List Tree) (trail : Trail) (rows : List Row) (g : Gathered) (h : IsGathered terms trail rows g) where
   pub takes-inputs : (inputs : List Row) (lines : List RowLine) (steps : List RowStep) → inputs ≡ g.rows → lines ≡ g.lines → IsRefutation inputs steps → All (HasInput (length lines)) steps
@@ -20,7 +20,7 @@ module _ (terms : List Tree) (trail : Trail) (rows : List Row) (g : Gathered) (h
       subst (λ (ls : List RowLine). All (HasInput (length ls)) steps) (sym f)
       (refutation-inputs terms trail g.lines g.rows steps h.given (subst (λ (rs : List Row). IsRefutation rs steps) e r))
 
-  pub shuts : (inputs : List Row) (own lines : List RowLine) (steps : List RowStep) → inputs ≡ g.rows → own ≡ g.lines → IsRefutation inputs steps → lines ≡ map (line_of own) steps → Shuts terms trail (Rows lines ∷ [])
-  shuts inputs own lines steps e f r is =
+  pub closes_branch : (inputs : List Row) (own lines : List RowLine) (steps : List RowStep) → inputs ≡ g.rows → own ≡ g.lines → IsRefutation inputs steps → lines ≡ map (line_of own) steps → ClosesBranch terms trail (Rows lines ∷ [])
+  closes_branch inputs own lines steps e f r is =
       ap (λ (ls : List RowLine). refuted_by terms trail 1 [] ls) (is ∙ ap (λ (ls : List RowLine). map (line_of ls) steps) f)
-      ∙ refutation-shuts terms trail g.lines g.rows h.given steps (subst (λ (rs : List Row). IsRefutation rs steps) e r)
+      ∙ refutation-closes_branch terms trail g.lines g.rows h.given steps (subst (λ (rs : List Row). IsRefutation rs steps) e r)

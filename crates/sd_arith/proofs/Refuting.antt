@@ -96,9 +96,9 @@ module _ (terms : List Tree) (trail : Trail) where
         ∙ lines-refute (suc i) (before ++ r ∷ []) t ss h.1 w k e a
 
     -- the lines of a refutation close the branch
-    pub refutation-shuts : (steps : List RowStep) → IsRefutation inputs steps → refuted_by terms trail 1 [] (map (line_of lines) steps) ≡ leaves terms []
-    refutation-shuts [] h = absurd (omega (arith, h.refutes.ends.1))
-    refutation-shuts (s ∷ ss) h = lines-refute 1 [] s ss h.refutes.are_steps h.within h.refutes.ends.0 h.refutes.ends.1 h.refutes.ends.2
+    pub refutation-closes_branch : (steps : List RowStep) → IsRefutation inputs steps → refuted_by terms trail 1 [] (map (line_of lines) steps) ≡ leaves terms []
+    refutation-closes_branch [] h = absurd (omega (arith, h.refutes.ends.1))
+    refutation-closes_branch (s ∷ ss) h = lines-refute 1 [] s ss h.refutes.are_steps h.within h.refutes.ends.0 h.refutes.ends.1 h.refutes.ends.2
 
 -- the steps of a refutation take inputs that are there
 steps-inputs : (n : ℕ) (inputs before : List Row) (steps : List RowStep) → length inputs ≡ n → AreSteps inputs before steps → All (HasInput n) steps

@@ -7,6 +7,3 @@ mod places;
 mod rows;
 
 pub use rows::refuting_rows;
-
-#[cfg(test)]
-mod tests;

@@ -4,8 +4,6 @@
 mod candidate;
 mod generate;
 mod live;
-#[cfg(test)]
-mod tests;
 
 pub use candidate::{Candidate, Claim, Relation};
 pub use generate::{candidates, candidates_of};

@@ -8,7 +8,7 @@ use Rattle.sd_match.specs.declared.pair.Pair.{Pair}
 use Rattle.sd_cand.specs.declared.candidate.Candidate.{Candidate}
 use Rattle.sd_cand.specs.Candidates.{candidates_of}
 use Rattle.sd_product.specs.Query.{Claimed, query_of}
-use Rattle.sd_product.specs.Work.{Held, quiets_in, work_of, claims_of, claims_in, pairs_in, queries_under}
+use Rattle.sd_product.specs.Work.{Held, infallibles_in, work_of, claims_of, claims_in, pairs_in, queries_under}
 use Rattle.sd_cert.specs.declared.shape.Shape.{Shape}
 use Rattle.sd_cert.specs.Shapes.{is_refused, shape_of, shapes_of, count_of}
 
@@ -38,7 +38,7 @@ pub count-in : (h : Held) → count_of (shapes_of h) ≡ length (claims_in h)
 count-in h = shapes-count (pairs_in h)
 
 queries-count : (h : Held) (table : List Bool) → length (queries_under h table) ≡ length (claims_in h)
-queries-count h table = length-map (claims_in h) (query_of (work_of h.old h.new) (quiets_in h) table)
+queries-count h table = length-map (claims_in h) (query_of (work_of h.old h.new) (infallibles_in h) table)
 
 pub count-own : (h : Held) (shapes : List Shape) → shapes ≡ shapes_of h → count_of shapes ≡ length (claims_in h)
 count-own h shapes own = ap count_of own ∙ count-in h

@@ -46,7 +46,7 @@ pairs_fault queries first line _ _ = None
 abbrev pub step_fault : Held → List CertPair → Option CertError
 step_fault h pairs = pairs_fault (queries_under h (table_of (shapes_of h) pairs)) 0 6 (shapes_of h) pairs
 
--- the result names the fault, if there is one, but for want of memory
+-- the result names the fault, if there is one, but for out of memory
 abbrev pub Names : {A : Type 0} → Option CertError → Result A CertError → Type 0
 Names fault (Ok x) = fault ≡ None
 Names fault (Err e) = (e ≡ NoMemory) ⊎ (fault ≡ Some e)

@@ -33,6 +33,3 @@ pub use replaying::{Replayed, replay};
 pub use shape::{Shape, shapes_of};
 pub use spelling::spell_certificate;
 pub use writing::write_certificate;
-
-#[cfg(test)]
-mod tests;

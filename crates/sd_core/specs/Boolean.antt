@@ -4,7 +4,7 @@ use Rattle.std.specs.List.{AllByRecursion}
 use Rattle.sd_core.specs.declared.tree.CoreStmt.{CoreStmt, Assign, If', Call, Assume, Fail, Return, Row_of-CoreStmt, end_of-CoreStmt, more_of-CoreStmt}
 use Rattle.sd_core.specs.declared.tree.CoreProc.{CoreProc}
 use Rattle.sd_core.specs.declared.tree.CoreProgram.{CoreProgram}
-use Rattle.sd_core.specs.Straight.{AreTruths, HasNoNumber}
+use Rattle.sd_core.specs.Propositional.{AreTruths, HasNoNumber}
 
 -- no number stands in the statement
 abbrev mutual

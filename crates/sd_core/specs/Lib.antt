@@ -3,7 +3,7 @@ pub mod Run
 pub mod Formed
 pub mod Meanings
 pub mod Failure
-pub mod Straight
+pub mod Propositional
 pub mod Boolean
 pub mod Same
 pub mod Becomes

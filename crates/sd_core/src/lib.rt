@@ -7,6 +7,3 @@ mod tree;
 
 pub use same::same_body;
 pub use tree::{CoreExpr, CoreOp, CoreProc, CoreProgram, CoreStmt, Function, Shared, Spot};
-
-#[cfg(test)]
-mod tests;

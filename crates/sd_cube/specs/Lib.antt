@@ -1,6 +1,6 @@
 pub mod Atoms
 pub mod CubeTerms
-pub mod Asked
+pub mod Required
 pub mod Needed
 pub mod CubeRows
 pub mod OpenCube

@@ -3,7 +3,7 @@ use Rattle.std.specs.Prelude.{◌≡◌, true, Bool, List, Contains}
 use Rattle.sd_term.specs.Tree.{Tree, parts_of}
 use Rattle.sd_term.specs.Numbering.{numbered, has}
 use Rattle.sd_forms.specs.FactRows.{is_int_eq}
-use Rattle.sd_cube.specs.Asked.{IsChoice, choice_eq, order_of, order_back}
+use Rattle.sd_cube.specs.Required.{IsChoice, choice_eq, order_of, order_back}
 
 -- The least set that has the terms of the facts and the parts of each of its terms, with a choice its equality with each
 -- of the two parts, and with an equality of integers the two orders.

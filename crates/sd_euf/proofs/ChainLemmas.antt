@@ -9,13 +9,13 @@ use Rattle.sd_term.specs.Sorts.{sort_of, IsWellSorted, AllWellSorted, is_truth_s
 use Rattle.sd_forms.specs.FactRows.{part_at}
 use Rattle.sd_kernel.specs.Known.{Trail, known, is_known, has_fact, first_fact, iff3}
 use Rattle.sd_kernel.specs.Steps.{leads, is_nil, is_chain, all_at}
-use Rattle.sd_cube.specs.Asked.{IsTrueEq, eq_tree}
+use Rattle.sd_cube.specs.Required.{IsTrueEq, eq_tree}
 use Rattle.sd_term.proofs.Numbers.{has-at}
 use Rattle.sd_euf.specs.declared.find.Pair.{Pair}
 use Rattle.sd_euf.specs.Judged.{HasValues, Breaks, IsPair}
 use Rattle.sd_euf.specs.Links.{IsEqAt, IsChain}
 use Rattle.sd_euf.proofs.Shapes.{IsEqForm, eq-form, Place, has-place, well-at, tree-got, value-at}
-use Rattle.sd_euf.proofs.Outcomes.{or-true, plain-eq, shuts, chain-outcome}
+use Rattle.sd_euf.proofs.Outcomes.{or-true, plain-eq, closes_branch, chain-outcome}
 use Rattle.sd_euf.proofs.Joined.{AreSides, sides-of, Begins, begins}
 
 -- ---- equalities of truth values are known by their sides
@@ -120,6 +120,6 @@ module _ (terms : List Tree) (values : List (Option Bool)) where
 
     pub chain-breaks : Breaks terms values (Chain id ns)
     chain-breaks trail v =
-        shuts terms trail whole true (Chain id ns)
+        closes_branch terms trail whole true (Chain id ns)
         (chain-outcome terms trail id ns whole es (tree-got terms id e.below) (all-named ns c.each) chain-is (all-known trail v ns c.each))
         (subst (λ u. has_fact trail u false ≡ true) (sym p.is) (false-fact trail v))

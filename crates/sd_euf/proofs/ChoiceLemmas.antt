@@ -12,12 +12,12 @@ use Rattle.sd_term.specs.Sorts.{sort_of, IsWellSorted, AllWellSorted}
 use Rattle.sd_forms.specs.FactRows.{part_at}
 use Rattle.sd_kernel.specs.Known.{Trail, known, has_fact}
 use Rattle.sd_kernel.specs.Steps.{is_ite_head, chosen_part}
-use Rattle.sd_cube.specs.Asked.{IsChoice, IsThere, IsAsked, choice as asks_choice, eq_tree, choice_eq}
+use Rattle.sd_cube.specs.Required.{IsChoice, IsThere, IsRequired, choice as asks_choice, eq_tree, choice_eq}
 use Rattle.sd_term.proofs.Numbers.{has-at}
 use Rattle.sd_euf.specs.declared.choices.Choice.{Choice}
 use Rattle.sd_euf.specs.Judged.{HasValues, Breaks, Asks, IsChoiceOf, chosen_number, ChoiceHolds}
 use Rattle.sd_euf.proofs.Shapes.{well-at, tree-got, value-at}
-use Rattle.sd_euf.proofs.Outcomes.{plain-eq, shuts, eq-outcome, choice-outcome}
+use Rattle.sd_euf.proofs.Outcomes.{plain-eq, closes_branch, eq-outcome, choice-outcome}
 
 -- a choice by its number, with the value of its condition and the number of the part that it chooses
 pub record AtChoice (terms : List Tree) (values : List (Option Bool)) (id : ℕ) (choice : Choice) (v : Bool) (part : ℕ) : Type 0 where
@@ -61,8 +61,8 @@ module _ (terms : List Tree) (values : List (Option Bool)) (id : ℕ) (choice : 
   condition-known : (trail : Trail) → HasValues terms trail values → known trail (part_at (tree_at terms id) 0) ≡ Some v
   condition-known trail e = ap (λ u. known trail (part_at u 0)) h.parts.is ∙ sym (value-at terms trail values choice.condition e h.parts.condition) ∙ h.condition
 
-  asked : (trail : Trail) → HasValues terms trail values → IsAsked terms trail (choice_eq (tree_at terms id) v)
-  asked trail e = asks_choice (tree_at terms id) v (has-at terms (tree_at terms id) id h.below refl) is-choice (condition-known trail e)
+  required : (trail : Trail) → HasValues terms trail values → IsRequired terms trail (choice_eq (tree_at terms id) v)
+  required trail e = asks_choice (tree_at terms id) v (has-at terms (tree_at terms id) id h.below refl) is-choice (condition-known trail e)
 
   pub choice-absent : has terms (eq_tree (tree_at terms id) (tree_at terms part)) ≡ false → Asks terms values (Term (EqLine id part))
   choice-absent a trail e =
@@ -70,10 +70,10 @@ module _ (terms : List Tree) (values : List (Option Bool)) (id : ℕ) (choice : 
       let y : Tree = tree_at terms part in
       let sorts : sort_of x ≡ sort_of y = sort-chosen x (tree_at terms choice.condition) (tree_at terms choice.first) (tree_at terms choice.second) v h.parts.is (well-at terms id h.sorted h.below) ∙ ap sort_of (sym part-is) in
       let below : part < length terms = subst (λ n. n < length terms) (sym h.chosen) (chosen-below terms x choice v h.parts) in
-      (eq_tree x y, subst (IsAsked terms trail) (sym eq-is) (asked trail e), eq-outcome terms trail id part x y (tree-got terms id h.below) (tree-got terms part below) sorts a)
+      (eq_tree x y, subst (IsRequired terms trail) (sym eq-is) (required trail e), eq-outcome terms trail id part x y (tree-got terms id h.below) (tree-got terms part below) sorts a)
 
   pub choice-unknown : (n : ℕ) → n < length terms → tree_at terms n ≡ eq_tree (tree_at terms id) (tree_at terms part) → get_or values n None ≡ None → Asks terms values (Split n)
-  choice-unknown n b is k trail e = (b, subst (IsAsked terms trail) (sym (is ∙ eq-is)) (asked trail e), sym (value-at terms trail values n e b) ∙ k)
+  choice-unknown n b is k trail e = (b, subst (IsRequired terms trail) (sym (is ∙ eq-is)) (required trail e), sym (value-at terms trail values n e b) ∙ k)
 
   pub choice-true : (n : ℕ) → n < length terms → tree_at terms n ≡ eq_tree (tree_at terms id) (tree_at terms part) → get_or values n None ≡ Some true
       → (trail : Trail) → HasValues terms trail values → ChoiceHolds terms (tree_at terms id) trail
@@ -87,6 +87,6 @@ module _ (terms : List Tree) (values : List (Option Bool)) (id : ℕ) (choice : 
       let x : Tree = tree_at terms id in
       let eq : tree_at terms n ≡ choice_eq x v = is ∙ eq-is in
       let wrong : known trail (choice_eq x v) ≡ Some false = ap (known trail) (sym eq) ∙ sym (value-at terms trail values n e b) ∙ k in
-      shuts terms trail (tree_at terms n) true (ChooseBranch id n)
+      closes_branch terms trail (tree_at terms n) true (ChooseBranch id n)
       (choice-outcome terms trail id n x (tree_at terms n) v (tree-got terms id h.below) (tree-got terms n b) is-choice.0 eq (condition-known trail e))
       (subst (λ u. has_fact trail u false ≡ true) (sym eq) (plain-eq trail x (chosen_part x v) false h.parts.plain wrong))

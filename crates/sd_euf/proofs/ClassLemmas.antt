@@ -8,7 +8,7 @@ use Rattle.sd_term.specs.Bank.{tree_at}
 use Rattle.sd_forms.specs.FactRows.{part_at}
 use Rattle.sd_kernel.specs.Known.{Trail, known}
 use Rattle.sd_kernel.specs.Steps.{is_eq, leads}
-use Rattle.sd_cube.specs.Asked.{IsTrueEq, AreJoined}
+use Rattle.sd_cube.specs.Required.{IsTrueEq, AreJoined}
 use Rattle.sd_term.proofs.Numbers.{has-at}
 use Rattle.sd_euf.specs.declared.find.Pair.{Pair}
 use Rattle.sd_euf.specs.Closed.{AreClasses}

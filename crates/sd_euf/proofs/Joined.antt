@@ -6,7 +6,7 @@ use Rattle.sd_term.specs.Tree.{Tree, same_tree, same_tree-true, same_tree-self}
 use Rattle.sd_forms.specs.FactRows.{part_at}
 use Rattle.sd_kernel.specs.Known.{Trail}
 use Rattle.sd_kernel.specs.Steps.{is_eq, other_side, leads}
-use Rattle.sd_cube.specs.Asked.{IsTrueEq, AreJoined, eq_tree}
+use Rattle.sd_cube.specs.Required.{IsTrueEq, AreJoined, eq_tree}
 
 pub same-tree : (a b : Tree) → a ≡ b → same_tree a b ≡ true
 same-tree a b e = ap (same_tree a) (sym e) ∙ same_tree-self a

@@ -9,7 +9,7 @@ use Rattle.sd_term.specs.Sorts.{IsWellSorted}
 use Rattle.sd_forms.specs.FactRows.{part_at}
 use Rattle.sd_kernel.specs.Known.{Trail, known}
 use Rattle.sd_kernel.specs.Steps.{is_eq, other_side, leads}
-use Rattle.sd_cube.specs.Asked.{IsTrueEq, eq_tree}
+use Rattle.sd_cube.specs.Required.{IsTrueEq, eq_tree}
 use Rattle.sd_euf.specs.declared.links.Link.{Link}
 use Rattle.sd_euf.specs.Judged.{HasValues}
 use Rattle.sd_euf.specs.Links.{IsEqAt, IsChain, link_at, reached_at, IsLink, AreLinks, IsReached, AreReached, AreMore}

@@ -10,14 +10,14 @@ use Rattle.sd_term.specs.Sorts.{sort_of, IsWellSorted}
 use Rattle.sd_forms.specs.FactRows.{part_at, is_int_sort, is_int_eq}
 use Rattle.sd_kernel.specs.Known.{Trail, known, has_fact}
 use Rattle.sd_kernel.specs.Steps.{is_eq}
-use Rattle.sd_cube.specs.Asked.{IsThere, IsAsked, order as asks_order, back as asks_back, eq_tree, le_tree, order_of, order_back}
+use Rattle.sd_cube.specs.Required.{IsThere, IsRequired, order as asks_order, back as asks_back, eq_tree, le_tree, order_of, order_back}
 use Rattle.sd_term.proofs.Numbers.{has-at}
 use Rattle.sd_euf.specs.declared.find.Pair.{Pair}
 use Rattle.sd_euf.specs.declared.find.Standing.{Standing}
 use Rattle.sd_euf.specs.declared.find.Standing.TheVariants.{Absent, Unknown, Known}
 use Rattle.sd_euf.specs.Judged.{HasValues, Breaks, Asks, Stands, AtEquality, OrderHolds, is_false_standing}
 use Rattle.sd_euf.proofs.Shapes.{IsEqForm, eq-form, well-at, tree-got, value-at}
-use Rattle.sd_euf.proofs.Outcomes.{plain-le, shuts, le-outcome, order-outcome}
+use Rattle.sd_euf.proofs.Outcomes.{plain-le, closes_branch, le-outcome, order-outcome}
 
 -- no pair of sides, no equality
 pub no-int-eq : (t : Tree) → IsWellSorted t → ((x y : Tree) → t ≡ eq_tree x y → ⊥) → is_int_eq t ≡ false
@@ -82,13 +82,13 @@ module _ (terms : List Tree) (values : List (Option Bool)) (id : ℕ) (sides : P
       let f : true ≡ false = o in
       cc
 
-  asked : IsOpen (le_tree right left) → (trail : Trail) → HasValues terms trail values → IsAsked terms trail (le_tree left right)
-  asked o trail e =
-      subst (IsAsked terms trail) (sym order-is) (asks_order whole here is-int (false-here trail e) (not-there (le_tree right left) (order_back whole) back-is o.0 o.1 o.2 trail e))
+  required : IsOpen (le_tree right left) → (trail : Trail) → HasValues terms trail values → IsRequired terms trail (le_tree left right)
+  required o trail e =
+      subst (IsRequired terms trail) (sym order-is) (asks_order whole here is-int (false-here trail e) (not-there (le_tree right left) (order_back whole) back-is o.0 o.1 o.2 trail e))
 
-  asked-back : IsOpen (le_tree left right) → (trail : Trail) → HasValues terms trail values → IsAsked terms trail (le_tree right left)
-  asked-back o trail e =
-      subst (IsAsked terms trail) (sym back-is) (asks_back whole here is-int (false-here trail e) (not-there (le_tree left right) (order_of whole) order-is o.0 o.1 o.2 trail e))
+  required-back : IsOpen (le_tree left right) → (trail : Trail) → HasValues terms trail values → IsRequired terms trail (le_tree right left)
+  required-back o trail e =
+      subst (IsRequired terms trail) (sym back-is) (asks_back whole here is-int (false-here trail e) (not-there (le_tree left right) (order_of whole) order-is o.0 o.1 o.2 trail e))
 
   there : (t u : Tree) (n : ℕ) (b : Bool) → t ≡ u → n < length terms → tree_at terms n ≡ t → get_or values n None ≡ Some b → (trail : Trail) → HasValues terms trail values → IsThere terms trail u b
   there t u n b e lt is k trail v = (has-at terms u n lt (is ∙ e), ap (known trail) (sym (is ∙ e)) ∙ sym (value-at terms trail values n v lt) ∙ k)
@@ -104,18 +104,18 @@ module _ (terms : List Tree) (values : List (Option Bool)) (id : ℕ) (sides : P
   back-false _ s e trail v = let f : false ≡ true = e in cc
 
   pub order-unknown : (n : ℕ) → n < length terms → tree_at terms n ≡ le_tree left right → get_or values n None ≡ None → IsOpen (le_tree right left) → Asks terms values (Split n)
-  order-unknown n lt is k o trail v = (lt, subst (IsAsked terms trail) (sym is) (asked o trail v), sym (value-at terms trail values n v lt) ∙ k)
+  order-unknown n lt is k o trail v = (lt, subst (IsRequired terms trail) (sym is) (required o trail v), sym (value-at terms trail values n v lt) ∙ k)
 
   pub back-unknown : (n : ℕ) → n < length terms → tree_at terms n ≡ le_tree right left → get_or values n None ≡ None → IsOpen (le_tree left right) → Asks terms values (Split n)
-  back-unknown n lt is k o trail v = (lt, subst (IsAsked terms trail) (sym is) (asked-back o trail v), sym (value-at terms trail values n v lt) ∙ k)
+  back-unknown n lt is k o trail v = (lt, subst (IsRequired terms trail) (sym is) (required-back o trail v), sym (value-at terms trail values n v lt) ∙ k)
 
   pub order-absent : has terms (le_tree left right) ≡ false → IsOpen (le_tree right left) → Asks terms values (Term (LeLine sides.left sides.right))
   order-absent a o trail v =
-      (le_tree left right, asked o trail v, le-outcome terms trail sides.left sides.right left right (tree-got terms sides.left h.pair.left) (tree-got terms sides.right h.pair.right) h.int int-right a)
+      (le_tree left right, required o trail v, le-outcome terms trail sides.left sides.right left right (tree-got terms sides.left h.pair.left) (tree-got terms sides.right h.pair.right) h.int int-right a)
 
   pub back-absent : has terms (le_tree right left) ≡ false → IsOpen (le_tree left right) → Asks terms values (Term (LeLine sides.right sides.left))
   back-absent a o trail v =
-      (le_tree right left, asked-back o trail v, le-outcome terms trail sides.right sides.left right left (tree-got terms sides.right h.pair.right) (tree-got terms sides.left h.pair.left) int-right h.int a)
+      (le_tree right left, required-back o trail v, le-outcome terms trail sides.right sides.left right left (tree-got terms sides.right h.pair.right) (tree-got terms sides.left h.pair.left) int-right h.int a)
 
   pub both-true : (l r : ℕ) → l < length terms → tree_at terms l ≡ le_tree left right → get_or values l None ≡ Some true → r < length terms → tree_at terms r ≡ le_tree right left → get_or values r None ≡ Some true
       → Breaks terms values (Order id l r)
@@ -124,6 +124,6 @@ module _ (terms : List Tree) (values : List (Option Bool)) (id : ℕ) (sides : P
       let z : Tree = tree_at terms r in
       let known-left : known trail y ≡ Some true = sym (value-at terms trail values l v bl) ∙ kl in
       let known-right : known trail (le_tree right left) ≡ Some true = ap (known trail) (sym ir) ∙ sym (value-at terms trail values r v br) ∙ kr in
-      shuts terms trail z false (Order id l r)
+      closes_branch terms trail z false (Order id l r)
       (order-outcome terms trail id l r whole y z (tree-got terms id h.below) (tree-got terms l bl) (tree-got terms r br) is-int (il ∙ order-is) (ir ∙ back-is) (false-here trail v) known-left)
       (subst (λ u. has_fact trail u true ≡ true) (sym ir) (plain-le trail right left true known-right))

@@ -13,8 +13,8 @@ use Rattle.sd_term.specs.Truth.{same_bool}
 use Rattle.sd_forms.specs.FactRows.{part_at, is_int_sort, is_int_eq}
 use Rattle.sd_kernel.specs.Known.{Fact, Trail, known, known_by_parts, is_known, has_fact, first_fact, iff3}
 use Rattle.sd_kernel.specs.Steps.{leaves, named, needs, adds, outcome, numbers_next, is_ite_head, is_eq_of, is_le_of, is_choice_of, is_chosen, chosen_part, are_orders_of, is_chain, all_at}
-use Rattle.sd_cube.specs.Asked.{eq_tree, le_tree, choice_eq, order_of, order_back}
-use Rattle.sd_cube.specs.Spent.{Shuts}
+use Rattle.sd_cube.specs.Required.{eq_tree, le_tree, choice_eq, order_of, order_back}
+use Rattle.sd_cube.specs.Spent.{ClosesBranch}
 
 pub or-true : (b : Bool) → b || true ≡ true
 or-true true = refl
@@ -57,8 +57,8 @@ close-last terms trail t b h =
     ∙ ap (λ x. needs x Value (leaves terms [])) (or-true (is_known (known_by_parts more t) (not b)))
 
 -- a new fact against an earlier one closes the branch
-pub shuts : (terms : List Tree) (trail : Trail) (t : Tree) (b : Bool) (step : Step) → outcome terms trail step ≡ adds terms trail t b → has_fact trail t (not b) ≡ true → Shuts terms trail (step ∷ Close (length trail) ∷ [])
-shuts terms trail t b step e h = (trail ++ (t, b) ∷ [], e, close-last terms trail t b h)
+pub closes_branch : (terms : List Tree) (trail : Trail) (t : Tree) (b : Bool) (step : Step) → outcome terms trail step ≡ adds terms trail t b → has_fact trail t (not b) ≡ true → ClosesBranch terms trail (step ∷ Close (length trail) ∷ [])
+closes_branch terms trail t b step e h = (trail ++ (t, b) ∷ [], e, close-last terms trail t b h)
 
 -- ---- new terms
 

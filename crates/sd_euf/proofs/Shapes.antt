@@ -13,7 +13,7 @@ use Rattle.sd_term.specs.Sorts.{sort_of, sorts_of, Takes, IsWellSorted, AllWellS
 use Rattle.sd_forms.specs.FactRows.{part_at, is_eq_head}
 use Rattle.sd_kernel.specs.Known.{Trail, known}
 use Rattle.sd_kernel.specs.Steps.{is_ite_head, is_eq}
-use Rattle.sd_cube.specs.Asked.{eq_tree}
+use Rattle.sd_cube.specs.Required.{eq_tree}
 use Rattle.sd_term.proofs.Folds.{head_of-node}
 use Rattle.sd_term.proofs.Numbers.{node-parts}
 use Rattle.sd_euf.specs.Judged.{HasValues}

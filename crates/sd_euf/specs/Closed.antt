@@ -6,7 +6,7 @@ use Rattle.sd_term.specs.Tree.{Tree}
 use Rattle.sd_term.specs.Bank.{tree_at}
 use Rattle.sd_kernel.specs.Known.{Trail, known}
 use Rattle.sd_kernel.specs.Steps.{leaves, outcome}
-use Rattle.sd_cube.specs.Asked.{ChoicesHold, OrdersHold, NoneJoined, AreJoined, IsAsked}
+use Rattle.sd_cube.specs.Required.{ChoicesHold, OrdersHold, NoneJoined, AreJoined, IsRequired}
 use Rattle.sd_euf.specs.declared.closing.Closed.{Closed}
 use Rattle.sd_euf.specs.declared.closing.Closed.TheVariants.{Conflict, Missing, Classes}
 
@@ -23,10 +23,10 @@ IfClasses (Classes classes) P = P classes
 IfClasses _ P = Unit {0}
 
 -- the step numbers a term that is asked for and isn't there, or splits one that is there without a value
-abbrev pub IsAskedStep : List Tree → Trail → Step → Type 0
-IsAskedStep terms trail (Term line) = (t : Tree) × IsAsked terms trail t × (outcome terms trail (Term line) ≡ leaves (terms ++ t ∷ []) (trail ∷ []))
-IsAskedStep terms trail (Split n) = (n < length terms) × IsAsked terms trail (tree_at terms n) × (known trail (tree_at terms n) ≡ None)
-IsAskedStep terms trail _ = ⊥
+abbrev pub IsRequiredStep : List Tree → Trail → Step → Type 0
+IsRequiredStep terms trail (Term line) = (t : Tree) × IsRequired terms trail t × (outcome terms trail (Term line) ≡ leaves (terms ++ t ∷ []) (trail ∷ []))
+IsRequiredStep terms trail (Split n) = (n < length terms) × IsRequired terms trail (tree_at terms n) × (known trail (tree_at terms n) ≡ None)
+IsRequiredStep terms trail _ = ⊥
 
 -- a number for each term, the same for two terms exactly where a chain of true equalities joins them
 pub record AreClasses (terms : List Tree) (trail : Trail) (classes : List ℕ) : Type 0 where

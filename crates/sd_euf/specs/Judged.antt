@@ -12,15 +12,15 @@ use Rattle.sd_term.specs.Numbering.{has}
 use Rattle.sd_term.specs.Sorts.{is_truth_valued, sort_of, AllWellSorted}
 use Rattle.sd_forms.specs.FactRows.{part_at, is_int_sort, is_int_eq}
 use Rattle.sd_kernel.specs.Known.{Trail, known}
-use Rattle.sd_cube.specs.Asked.{IsChoice, choice_eq, order_of, order_back, IsThere}
-use Rattle.sd_cube.specs.Spent.{Shuts}
+use Rattle.sd_cube.specs.Required.{IsChoice, choice_eq, order_of, order_back, IsThere}
+use Rattle.sd_cube.specs.Spent.{ClosesBranch}
 use Rattle.sd_euf.specs.declared.find.Pair.{Pair}
 use Rattle.sd_euf.specs.declared.find.Standing.{Standing}
 use Rattle.sd_euf.specs.declared.find.Standing.TheVariants.{Absent, Unknown, Known}
 use Rattle.sd_euf.specs.declared.choices.Choice.{Choice}
 use Rattle.sd_euf.specs.declared.judged.Judged.{Judged}
 use Rattle.sd_euf.specs.declared.judged.Judged.TheVariants.{Holds, Broken, Missing}
-use Rattle.sd_euf.specs.Closed.{IsAskedStep}
+use Rattle.sd_euf.specs.Closed.{IsRequiredStep}
 
 -- these are the values of the terms in a branch
 abbrev pub HasValues : List Tree → Trail → List (Option Bool) → Type 0
@@ -28,11 +28,11 @@ HasValues terms trail values = values ≡ map (λ t. known trail t) terms
 
 -- the new fact of the step contradicts an earlier one
 abbrev pub Breaks : List Tree → List (Option Bool) → Step → Type 0
-Breaks terms values step = (trail : Trail) → HasValues terms trail values → Shuts terms trail (step ∷ Close (length trail) ∷ [])
+Breaks terms values step = (trail : Trail) → HasValues terms trail values → ClosesBranch terms trail (step ∷ Close (length trail) ∷ [])
 
 -- the step is asked for
 abbrev pub Asks : List Tree → List (Option Bool) → Step → Type 0
-Asks terms values step = (trail : Trail) → HasValues terms trail values → IsAskedStep terms trail step
+Asks terms values step = (trail : Trail) → HasValues terms trail values → IsRequiredStep terms trail step
 
 -- where the rule holds, it is P
 abbrev pub Judges : List Tree → List (Option Bool) → (Trail → Type 0) → Judged → Type 0

@@ -7,7 +7,7 @@ use Rattle.sd_term.specs.Numbering.{IsFirst}
 use Rattle.sd_forms.specs.FactRows.{part_at}
 use Rattle.sd_kernel.specs.Known.{Trail, known}
 use Rattle.sd_kernel.specs.Steps.{is_eq, other_side, leads}
-use Rattle.sd_cube.specs.Asked.{AreJoined}
+use Rattle.sd_cube.specs.Required.{AreJoined}
 use Rattle.sd_euf.specs.declared.links.Link.{Link}
 use Rattle.sd_euf.specs.Judged.{HasValues}
 

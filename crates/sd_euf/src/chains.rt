@@ -2,7 +2,7 @@ ghost use Rattle.std.specs.Prelude.{◌≡◌, ℕ, ◌<◌, List, IfOk, IfSome,
 ghost use Rattle.sd_term.specs.Bank.{tree_at};
 ghost use Rattle.sd_term.specs.Sorts.{AllWellSorted};
 ghost use Rattle.sd_kernel.specs.Known.{Trail};
-ghost use Rattle.sd_cube.specs.Asked.{NoneJoined};
+ghost use Rattle.sd_cube.specs.Required.{NoneJoined};
 ghost use Rattle.sd_euf.specs.Closed.{AreClasses};
 ghost use Rattle.sd_euf.specs.Judged.{HasValues, Breaks};
 ghost use Rattle.sd_euf.specs.Links.{NotJoined};

@@ -1,7 +1,7 @@
 ghost use Rattle.std.specs.Prelude.{◌≡◌, ℕ, ◌<◌, IfSome, IfNone, length};
 ghost use Rattle.sd_term.specs.Bank.{tree_at};
 ghost use Rattle.sd_term.specs.Sorts.{AllWellSorted};
-ghost use Rattle.sd_cube.specs.Asked.{IsChoice, ChoicesHold};
+ghost use Rattle.sd_cube.specs.Required.{IsChoice, ChoicesHold};
 ghost use Rattle.sd_euf.specs.Table.{IsLeftTable};
 ghost use Rattle.sd_euf.specs.Judged.{IsChoiceOf, chosen_number, Judges, ChoiceHolds};
 

@@ -3,8 +3,8 @@ ghost use Rattle.sd_term.specs.Closed.{IsClosed};
 ghost use Rattle.sd_kernel.specs.Facts.{trail_of};
 ghost use Rattle.sd_kernel.specs.Known.{known};
 ghost use Rattle.sd_term.specs.Sorts.{AllWellSorted};
-ghost use Rattle.sd_cube.specs.Spent.{Shuts};
-ghost use Rattle.sd_euf.specs.Closed.{IfConflict, IfMissing, IfClasses, IsAskedStep, AreSettled};
+ghost use Rattle.sd_cube.specs.Spent.{ClosesBranch};
+ghost use Rattle.sd_euf.specs.Closed.{IfConflict, IfMissing, IfClasses, IsRequiredStep, AreSettled};
 
 use crate::chains::broken_chains;
 use crate::choices::judged_choices;
@@ -42,8 +42,8 @@ pub fn close(
     requires closed { IsClosed terms.now }
     requires values { values.now ≡ map (λ t. known (trail_of terms.now trail.now) t) terms.now }
     requires short { length trail.now < 2 ^ 32 }
-    ensures conflict { IfOk result (λ r. IfConflict r (λ steps. Shuts terms.now (trail_of terms.now trail.now) steps)) }
-    ensures missing { IfOk result (λ r. IfMissing r (λ step. IsAskedStep terms.now (trail_of terms.now trail.now) step)) }
+    ensures conflict { IfOk result (λ r. IfConflict r (λ steps. ClosesBranch terms.now (trail_of terms.now trail.now) steps)) }
+    ensures missing { IfOk result (λ r. IfMissing r (λ step. IsRequiredStep terms.now (trail_of terms.now trail.now) step)) }
     ensures classes { IfOk result (λ r. IfClasses r (λ classes. AreSettled terms.now (trail_of terms.now trail.now) classes)) }
 {
     let table = left_table(alloc, terms)?;

@@ -10,7 +10,5 @@ mod judged;
 mod links;
 mod orders;
 mod table;
-#[cfg(test)]
-mod tests;
 
 pub use closing::{Closed, close};

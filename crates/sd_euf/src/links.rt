@@ -4,7 +4,7 @@ ghost use Rattle.sd_term.specs.Bank.{tree_at};
 ghost use Rattle.sd_term.specs.Sorts.{AllWellSorted};
 ghost use Rattle.sd_kernel.specs.Known.{Trail};
 ghost use Rattle.sd_kernel.specs.Steps.{other_side};
-ghost use Rattle.sd_cube.specs.Asked.{AreJoined};
+ghost use Rattle.sd_cube.specs.Required.{AreJoined};
 ghost use Rattle.sd_euf.specs.Judged.{IsPair, HasValues};
 ghost use Rattle.sd_euf.specs.Links.{IsEqAt, IsChain, link_at, reached_at, GoDown, AreLinks, IsReached, AreReached, AreMore};
 

@@ -2,7 +2,7 @@ ghost use Rattle.std.specs.Prelude.{◌≡◌, ◌<◌, IfSome, IfNone, length, 
 ghost use Rattle.sd_term.specs.Bank.{tree_at};
 ghost use Rattle.sd_term.specs.Sorts.{sort_of, AllWellSorted};
 ghost use Rattle.sd_forms.specs.FactRows.{is_int_sort, is_int_eq};
-ghost use Rattle.sd_cube.specs.Asked.{OrdersHold};
+ghost use Rattle.sd_cube.specs.Required.{OrdersHold};
 ghost use Rattle.sd_euf.specs.Table.{IsLeftTable};
 ghost use Rattle.sd_euf.specs.Judged.{IsPair, AtEquality, is_false_standing, Judges, OrderHolds};
 

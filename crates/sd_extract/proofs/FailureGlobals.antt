@@ -16,7 +16,7 @@ use Rattle.sd_core.specs.Run.{nothing}
 use Rattle.sd_core.specs.Formed.{sorts_of, same_sort}
 use Rattle.sd_core.specs.Meanings.{HaveSorts}
 use Rattle.sd_core.specs.Failure.{place_from, shared_at, shared_from, shared_of}
-use Rattle.sd_extract.proofs.StraightLemmas.{all_append}
+use Rattle.sd_extract.proofs.PropositionalLemmas.{all_append}
 use Rattle.sd_extract.proofs.FailureMeanings.{all_left, all_right}
 
 -- ---- stores

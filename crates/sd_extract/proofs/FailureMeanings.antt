@@ -17,7 +17,7 @@ use Rattle.sd_core.specs.Run.{is_true}
 use Rattle.sd_core.specs.Meanings.{HaveSorts, FitsTable, Fits, Differ, IsMeaningOf}
 use Rattle.sd_extract.specs.Programs.{constants_named, functions_in, axioms_in, core_axiom, core_program}
 use Rattle.sd_extract.specs.Laws.{AxiomsAreKept}
-use Rattle.sd_extract.proofs.StraightLemmas.{all_append}
+use Rattle.sd_extract.proofs.PropositionalLemmas.{all_append}
 
 -- ---- lists
 

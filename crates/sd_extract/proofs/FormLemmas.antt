@@ -13,7 +13,7 @@ use Rattle.sd_ast.specs.declared.tree.ExprKind.{Old, Unary, Binary, Select, Stor
 use Rattle.sd_ast.specs.declared.tree.BinOp.{BinOp}
 use Rattle.sd_ast.specs.declared.tree.UnOp.{UnOp}
 use Rattle.sd_ast.proofs.TreeLemmas.{old_is, unary_is, binary_is, select_is, store_is}
-use Rattle.sd_extract.specs.Form.{HasNoNumber, HaveNoNumber, NoneHasNumber, IsStraight, AreStraight}
+use Rattle.sd_extract.specs.Form.{HasNoNumber, HaveNoNumber, NoneHasNumber, IsPropositional, ArePropositional}
 
 -- ---- a test by its parts
 
@@ -46,20 +46,20 @@ number_list es = number_row (hidden-the_row-Expr-0 es) ∙ ap NoneHasNumber (ite
 pub number-Apply : (f : Text) (es : List Expr) → HasNoNumber (Apply f es) ≡ NoneHasNumber es
 number-Apply f es = number_list es
 
-abbrev pub AllStraight : List Stmt → Type 0
-AllStraight = AllByRecursion (λ s. IsStraight s.kind)
+abbrev pub AllPropositional : List Stmt → Type 0
+AllPropositional = AllByRecursion (λ s. IsPropositional s.kind)
 
-straight_row : {m : _} (r : Row_of-Stmt m) → AreStraight r ≡ AllStraight (items-the_row-Stmt m r)
-straight_row end_of-Stmt = refl
-straight_row (more_of-Stmt p s r) = ap (λ (T : Type 0). IsStraight s × T) (straight_row r)
+propositional_row : {m : _} (r : Row_of-Stmt m) → ArePropositional r ≡ AllPropositional (items-the_row-Stmt m r)
+propositional_row end_of-Stmt = refl
+propositional_row (more_of-Stmt p s r) = ap (λ (T : Type 0). IsPropositional s × T) (propositional_row r)
 
-straight_list : (ss : List Stmt) → AreStraight (hidden-the_row-Stmt-0 ss) ≡ AllStraight ss
-straight_list ss = straight_row (hidden-the_row-Stmt-0 ss) ∙ ap AllStraight (items_hidden-the_row-Stmt-0 ss)
+propositional_list : (ss : List Stmt) → ArePropositional (hidden-the_row-Stmt-0 ss) ≡ AllPropositional ss
+propositional_list ss = propositional_row (hidden-the_row-Stmt-0 ss) ∙ ap AllPropositional (items_hidden-the_row-Stmt-0 ss)
 
-pub straight-If : (e : Expr) (a b : List Stmt) → IsStraight (If e a b) ≡ (HasNoNumber e.kind × AllStraight a × AllStraight b)
-straight-If e a b =
-    ap (λ (T : Type 0). HasNoNumber e.kind × T × AreStraight (hidden-the_row-Stmt-0 b)) (straight_list a)
-    ∙ ap (λ (T : Type 0). HasNoNumber e.kind × AllStraight a × T) (straight_list b)
+pub propositional-If : (e : Expr) (a b : List Stmt) → IsPropositional (If e a b) ≡ (HasNoNumber e.kind × AllPropositional a × AllPropositional b)
+propositional-If e a b =
+    ap (λ (T : Type 0). HasNoNumber e.kind × T × ArePropositional (hidden-the_row-Stmt-0 b)) (propositional_list a)
+    ∙ ap (λ (T : Type 0). HasNoNumber e.kind × AllPropositional a × T) (propositional_list b)
 
 -- ---- the test of an expression and of a statement, by its parts
 
@@ -91,5 +91,5 @@ module _ (r : Bool) (k : ExprKind) where
   pub at_Store : (m i v : Expr) → k ≡ Store m i v → (IsTrue r ↔ (HasNoNumber m.kind × HasNoNumber i.kind × HasNoNumber v.kind)) → IsTrue r ↔ HasNoNumber k
   at_Store m i v is h = at _ (is ∙ store_is m i v) h
 
-pub at_If : (r : Bool) (s : StmtKind) (e : Expr) (a b : List Stmt) → s ≡ If e a b → (IsTrue r ↔ (HasNoNumber e.kind × AllStraight a × AllStraight b)) → IsTrue r ↔ IsStraight s
-at_If r s e a b is h = subst (λ (T : Type 0). IsTrue r ↔ T) (sym (ap IsStraight is ∙ straight-If e a b)) h
+pub at_If : (r : Bool) (s : StmtKind) (e : Expr) (a b : List Stmt) → s ≡ If e a b → (IsTrue r ↔ (HasNoNumber e.kind × AllPropositional a × AllPropositional b)) → IsTrue r ↔ IsPropositional s
+at_If r s e a b is h = subst (λ (T : Type 0). IsTrue r ↔ T) (sym (ap IsPropositional is ∙ propositional-If e a b)) h

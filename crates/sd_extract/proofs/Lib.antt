@@ -22,8 +22,8 @@ pub mod Roots
 mod Examples
 mod Compared
 pub mod FormLemmas
-pub mod StraightLemmas
-pub mod Straight
+pub mod PropositionalLemmas
+pub mod Propositional
 pub mod FailureMeanings
 pub mod FailureHeads
 pub mod FailureGlobals

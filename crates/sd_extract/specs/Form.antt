@@ -39,40 +39,40 @@ NoneHasNumber = AllByRecursion (λ e. HasNoNumber e.kind)
 
 -- no call, no loop and no number stands in the statement
 abbrev mutual
-  pub IsStraight : StmtKind → Type 0
-  IsStraight (Assert e) = HasNoNumber e.kind
-  IsStraight (Assume e) = HasNoNumber e.kind
-  IsStraight (Assign ls es) = AllByRecursion (λ l. NoneHasNumber l.indices) ls × NoneHasNumber es
-  IsStraight (If' e shape a shape' b) = HasNoNumber e.kind × AreStraight a × AreStraight b
-  IsStraight Break = Unit {0}
-  IsStraight Return = Unit {0}
-  IsStraight _ = ⊥
+  pub IsPropositional : StmtKind → Type 0
+  IsPropositional (Assert e) = HasNoNumber e.kind
+  IsPropositional (Assume e) = HasNoNumber e.kind
+  IsPropositional (Assign ls es) = AllByRecursion (λ l. NoneHasNumber l.indices) ls × NoneHasNumber es
+  IsPropositional (If' e shape a shape' b) = HasNoNumber e.kind × ArePropositional a × ArePropositional b
+  IsPropositional Break = Unit {0}
+  IsPropositional Return = Unit {0}
+  IsPropositional _ = ⊥
 
-  pub AreStraight : {m : _} → Row_of-Stmt m → Type 0
-  AreStraight end_of-Stmt = Unit {0}
-  AreStraight (more_of-Stmt p k ks) = IsStraight k × AreStraight ks
+  pub ArePropositional : {m : _} → Row_of-Stmt m → Type 0
+  ArePropositional end_of-Stmt = Unit {0}
+  ArePropositional (more_of-Stmt p k ks) = IsPropositional k × ArePropositional ks
 
-abbrev pub IsStraightSpec : Spec → Type 0
-IsStraightSpec (Modifies names) = Unit {0}
-IsStraightSpec (Requires free e) = HasNoNumber e.kind
-IsStraightSpec (Ensures free e) = HasNoNumber e.kind
+abbrev pub IsPropositionalSpec : Spec → Type 0
+IsPropositionalSpec (Modifies names) = Unit {0}
+IsPropositionalSpec (Requires free e) = HasNoNumber e.kind
+IsPropositionalSpec (Ensures free e) = HasNoNumber e.kind
 
-abbrev pub IsStraightHead : Head → Type 0
-IsStraightHead h = AreTruths h.ins × AreTruths h.outs
+abbrev pub IsPropositionalHead : Head → Type 0
+IsPropositionalHead h = AreTruths h.ins × AreTruths h.outs
 
-abbrev pub IsStraightBody : Body → Type 0
-IsStraightBody b = AreTruths b.locals × AllByRecursion (λ s. IsStraight s.kind) b.stmts
+abbrev pub IsPropositionalBody : Body → Type 0
+IsPropositionalBody b = AreTruths b.locals × AllByRecursion (λ s. IsPropositional s.kind) b.stmts
 
-abbrev pub MaybeStraightBody : Option Body → Type 0
-MaybeStraightBody None = Unit {0}
-MaybeStraightBody (Some b) = IsStraightBody b
+abbrev pub MaybePropositionalBody : Option Body → Type 0
+MaybePropositionalBody None = Unit {0}
+MaybePropositionalBody (Some b) = IsPropositionalBody b
 
 -- globals, procedures and implementations alone
-abbrev pub IsStraightDecl : Decl → Type 0
-IsStraightDecl (Globals vars) = AreTruths vars
-IsStraightDecl (Procedure p) = IsStraightHead p.head × AllByRecursion IsStraightSpec p.specs × MaybeStraightBody p.body
-IsStraightDecl (Implementation i) = IsStraightHead i.head × IsStraightBody i.body
-IsStraightDecl _ = ⊥
+abbrev pub IsPropositionalDecl : Decl → Type 0
+IsPropositionalDecl (Globals vars) = AreTruths vars
+IsPropositionalDecl (Procedure p) = IsPropositionalHead p.head × AllByRecursion IsPropositionalSpec p.specs × MaybePropositionalBody p.body
+IsPropositionalDecl (Implementation i) = IsPropositionalHead i.head × IsPropositionalBody i.body
+IsPropositionalDecl _ = ⊥
 
-abbrev pub IsStraightProgram : Program → Type 0
-IsStraightProgram P = AllByRecursion IsStraightDecl P.decls
+abbrev pub IsPropositionalProgram : Program → Type 0
+IsPropositionalProgram P = AllByRecursion IsPropositionalDecl P.decls

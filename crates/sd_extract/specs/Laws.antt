@@ -15,8 +15,8 @@ use Rattle.sd_core.specs.Run.{flag_run, is_true}
 use Rattle.sd_core.specs.Formed.{WellFormed}
 use Rattle.sd_meaning.specs.NewFailure.{NewFailure}
 use Rattle.sd_core.specs.Failure.{NewFailureOf}
-use Rattle.sd_core.specs.Straight.{IsStraightCore}
-use Rattle.sd_extract.specs.Form.{IsStraightProgram}
+use Rattle.sd_core.specs.Propositional.{IsPropositionalCore}
+use Rattle.sd_extract.specs.Form.{IsPropositionalProgram}
 use Rattle.sd_extract.specs.Extract.{number_from}
 use Rattle.sd_extract.specs.Programs.{core_program, core_axiom, axioms_in}
 use Rattle.sd_extract.specs.Law.{Exact}
@@ -54,8 +54,8 @@ FailuresAreKept =
     NewFailure P Q f g ↔ NewFailureOf (core_program P) (core_program Q) (number_of P f) (number_of Q g)
 
 -- The core program of a program over truth values, without calls and loops, is one too.
-abbrev pub StraightIsKept : Type 0
-StraightIsKept = (P : Program) → WellTyped P → IsStraightProgram P → IsStraightCore (core_program P)
+abbrev pub PropositionalIsKept : Type 0
+PropositionalIsKept = (P : Program) → WellTyped P → IsPropositionalProgram P → IsPropositionalCore (core_program P)
 
 -- Each procedure of the core that belongs to no loop is that of the text's procedure of its name, at that one's place.
 abbrev pub RootsAreProcedures : Type 0

@@ -1,75 +1,76 @@
 //! The test for programs over truth values, without calls and loops.
 ghost use Rattle.std.specs.Prelude.{◌↔◌, IsTrue};
 ghost use Rattle.std.specs.List.{AllByRecursion};
-ghost use Rattle.sd_extract.specs.Form.{AreTruths, HasNoNumber, NoneHasNumber, IsStraight, IsStraightSpec, IsStraightHead, IsStraightBody, MaybeStraightBody, IsStraightDecl, IsStraightProgram};
+ghost use Rattle.sd_extract.specs.Form.{AreTruths, HasNoNumber, NoneHasNumber, IsPropositional, IsPropositionalSpec, IsPropositionalHead, IsPropositionalBody, MaybePropositionalBody, IsPropositionalDecl, IsPropositionalProgram};
 
 use sd_ast::{Body, Decl, Expr, ExprKind, Head, Left, Program, Spec, Stmt, StmtKind};
 use sd_base::{Sort, Var, is_same_sort};
 use sqlite_items::{Boxed, Items};
 
 /// Whether a program is over truth values, without calls, loops and numbers, and without functions, constants and axioms.
-pub fn is_straight_program(program: &Program) -> bool
-    ensures { IsTrue result ↔ IsStraightProgram program.now }
+pub fn is_propositional_program(program: &Program) -> bool
+    ensures { IsTrue result ↔ IsPropositionalProgram program.now }
 {
     for decl in program.decls.as_slice() {
-        if !is_straight_decl(decl) {
+        if !is_propositional_decl(decl) {
             return false;
         }
     }
     true
 }
 
-fn is_straight_decl(decl: &Decl) -> bool
-    ensures { IsTrue result ↔ IsStraightDecl decl.now }
+fn is_propositional_decl(decl: &Decl) -> bool
+    ensures { IsTrue result ↔ IsPropositionalDecl decl.now }
 {
     match decl {
         Decl::Globals(vars) => are_truths(vars.as_slice()),
         Decl::Procedure(procedure) => {
-            is_straight_head(&procedure.head)
-                && are_straight_specs(procedure.specs.as_slice())
-                && maybe_straight_body(&procedure.body)
+            is_propositional_head(&procedure.head)
+                && are_propositional_specs(procedure.specs.as_slice())
+                && maybe_propositional_body(&procedure.body)
         }
         Decl::Implementation(implementation) => {
-            is_straight_head(&implementation.head) && is_straight_body(&implementation.body)
+            is_propositional_head(&implementation.head)
+                && is_propositional_body(&implementation.body)
         }
         _ => false,
     }
 }
 
-fn is_straight_head(head: &Head) -> bool
-    ensures { IsTrue result ↔ IsStraightHead head.now }
+fn is_propositional_head(head: &Head) -> bool
+    ensures { IsTrue result ↔ IsPropositionalHead head.now }
 {
     are_truths(head.ins.as_slice()) && are_truths(head.outs.as_slice())
 }
 
-fn maybe_straight_body(body: &Option<Body>) -> bool
-    ensures { IsTrue result ↔ MaybeStraightBody body.now }
+fn maybe_propositional_body(body: &Option<Body>) -> bool
+    ensures { IsTrue result ↔ MaybePropositionalBody body.now }
 {
     match body {
         None => true,
-        Some(body) => is_straight_body(body),
+        Some(body) => is_propositional_body(body),
     }
 }
 
-fn is_straight_body(body: &Body) -> bool
-    ensures { IsTrue result ↔ IsStraightBody body.now }
+fn is_propositional_body(body: &Body) -> bool
+    ensures { IsTrue result ↔ IsPropositionalBody body.now }
 {
-    are_truths(body.locals.as_slice()) && are_straight(&body.stmts)
+    are_truths(body.locals.as_slice()) && are_propositional(&body.stmts)
 }
 
-fn are_straight_specs(specs: &[Spec]) -> bool
-    ensures { IsTrue result ↔ AllByRecursion IsStraightSpec specs.now }
+fn are_propositional_specs(specs: &[Spec]) -> bool
+    ensures { IsTrue result ↔ AllByRecursion IsPropositionalSpec specs.now }
 {
     for spec in specs {
-        if !is_straight_spec(spec) {
+        if !is_propositional_spec(spec) {
             return false;
         }
     }
     true
 }
 
-fn is_straight_spec(spec: &Spec) -> bool
-    ensures { IsTrue result ↔ IsStraightSpec spec.now }
+fn is_propositional_spec(spec: &Spec) -> bool
+    ensures { IsTrue result ↔ IsPropositionalSpec spec.now }
 {
     match spec {
         Spec::Modifies(_) => true,
@@ -90,11 +91,11 @@ fn are_truths(vars: &[Var]) -> bool
 }
 
 #[cycle(stmt)]
-fn are_straight(stmts: &Items<Stmt>) -> bool
-    ensures { IsTrue result ↔ AllByRecursion (λ s. IsStraight s.kind) stmts.now }
+fn are_propositional(stmts: &Items<Stmt>) -> bool
+    ensures { IsTrue result ↔ AllByRecursion (λ s. IsPropositional s.kind) stmts.now }
 {
     for stmt in stmts.as_slice() {
-        if !is_straight(stmt) {
+        if !is_propositional(stmt) {
             return false;
         }
     }
@@ -102,8 +103,8 @@ fn are_straight(stmts: &Items<Stmt>) -> bool
 }
 
 #[cycle(stmt)]
-fn is_straight(stmt: &Stmt) -> bool
-    ensures { IsTrue result ↔ IsStraight stmt.now.kind }
+fn is_propositional(stmt: &Stmt) -> bool
+    ensures { IsTrue result ↔ IsPropositional stmt.now.kind }
 {
     match &stmt.kind {
         StmtKind::Assert(expr) => has_no_number(expr),
@@ -112,7 +113,7 @@ fn is_straight(stmt: &Stmt) -> bool
             no_index_has_number(lefts.as_slice()) && none_has_number(exprs)
         }
         StmtKind::If(guard, then, other) => {
-            has_no_number(guard) && are_straight(then) && are_straight(other)
+            has_no_number(guard) && are_propositional(then) && are_propositional(other)
         }
         StmtKind::Break => true,
         StmtKind::Return => true,

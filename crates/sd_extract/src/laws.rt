@@ -1,5 +1,5 @@
 //! What extraction keeps.
-ghost use Rattle.sd_extract.specs.Laws.{RunsAreKept, ProceduresAreKept, AxiomsAreKept, ExtractedIsFormed, FailuresAreKept, StraightIsKept, RootsAreProcedures};
+ghost use Rattle.sd_extract.specs.Laws.{RunsAreKept, ProceduresAreKept, AxiomsAreKept, ExtractedIsFormed, FailuresAreKept, PropositionalIsKept, RootsAreProcedures};
 
 /// With every number of steps, a run of a procedure and the flagged run of its core procedure have the same end: they fail, are
 /// blocked and lack steps together, and give the same values.
@@ -34,6 +34,6 @@ pub fn failures_are_kept()
 {}
 
 /// The core program of a program over truth values, without calls and loops, is over truth values too, without calls.
-pub fn straight_is_kept()
-    ensures { StraightIsKept }
+pub fn propositional_is_kept()
+    ensures { PropositionalIsKept }
 {}

@@ -31,7 +31,4 @@ mod statement;
 mod table;
 
 pub use extraction::extract;
-pub use form::is_straight_program;
-
-#[cfg(test)]
-mod tests;
+pub use form::is_propositional_program;

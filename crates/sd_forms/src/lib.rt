@@ -4,8 +4,6 @@
 mod forms;
 mod laws;
 mod rows;
-#[cfg(test)]
-mod tests;
 
 pub use forms::{forms_of, linear_form};
 pub use laws::{forms_keep_values, rows_hold};

@@ -18,6 +18,3 @@ pub use known::{Fact, known_values};
 pub use proved::{How, Proved};
 pub use step::{BadLine, NodeLine, Proof, RowLine, Step, StepCause, Verdict};
 pub use walk::{Walk, proves};
-
-#[cfg(test)]
-mod tests;

@@ -3,8 +3,6 @@
 
 pub mod laws;
 mod lex;
-#[cfg(test)]
-mod tests;
 mod token;
 
 pub use lex::tokens;

@@ -63,7 +63,7 @@ impl From<AllocError> for Stop {
 /// Eliminates the columns in ascending order, and then chooses a value for each, from the last to the first, as near to 0 as the rows
 /// let it be (Fourier-Motzkin elimination; Dantzig and Eaves 1973).
 ///
-/// Want of memory is the only error. More than 2^32 - 1 rows or steps count as such.
+/// Out of memory is the only error. More than 2^32 - 1 rows or steps count as such.
 pub fn eliminate(alloc: Global, rows: &[Row]) -> Result<Eliminated, NoMemory>
     requires { AllComputable rows.now }
     ensures answer { IfOk result (λ answer. answer_of answer ≡ elimination rows.now) }

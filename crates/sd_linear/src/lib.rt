@@ -14,8 +14,6 @@ pub mod laws;
 mod list;
 mod refutation;
 mod step;
-#[cfg(test)]
-mod tests;
 mod value;
 
 pub use elimination::{Eliminated, eliminate};

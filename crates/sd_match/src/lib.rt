@@ -11,8 +11,6 @@ mod shared;
 mod spots;
 mod state;
 mod tables;
-#[cfg(test)]
-mod tests;
 mod unmatched;
 
 pub use pair::{Pair, PairState, SpotPair};

@@ -3,4 +3,4 @@ pub mod Routine
 pub mod Run
 pub mod Inputs
 pub mod NewFailure
-pub mod Straight
+pub mod Propositional

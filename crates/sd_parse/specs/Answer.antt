@@ -45,7 +45,7 @@ pub record IsParsed (bytes : Bytes) (r : Result Program ReadError) : Type 0 wher
   pub cut : lex.Tokens 0 bytes tokens
   pub answer : IsAnswer tokens (end_of bytes) r
 
--- How a text is answered. Want of memory says nothing of it.
+-- How a text is answered. Out of memory says nothing of it.
 abbrev pub IsReading : Bytes → Result Program ReadError → Type 0
 IsReading bytes (Err NoMemory) = Unit {0}
 IsReading bytes (Err TooLong) = 16777216 < length bytes
@@ -73,7 +73,7 @@ unfoldable pub star_at : Tokens → ℕ → Bool
 star_at ts (suc (suc n)) = guarded (drop n ts)
 star_at ts _ = false
 
--- the answer, or want of memory
+-- the answer, or out of memory
 abbrev pub IsParsing : Tokens → Place → Result Program ReadError → Type 0
 IsParsing ts end (Err NoMemory) = Unit {0}
 IsParsing ts end r = IsAnswer ts end r

@@ -303,7 +303,7 @@ read zero l = look (λ t. if begins (sign_of t) then bad Deep else bad Syntax)
 read (suc d) l = layer d (read d) l
 
 -- What a function of the code returned, and the tokens before which it stands, are what a reader gives. At a fault it stands at
--- the fault's place. Want of memory says nothing.
+-- the fault's place. Out of memory says nothing.
 abbrev pub Gives : {A : Type 0} → Step A → Result A CodeFault → Tokens → Type 0
 Gives step (Ok x) new = step ≡ Got x new
 Gives step (Err NoMemory) new = Unit {0}

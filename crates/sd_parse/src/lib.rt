@@ -17,8 +17,6 @@ mod procedure;
 mod program;
 mod sign;
 mod statement;
-#[cfg(test)]
-mod tests;
 mod types;
 mod values;
 mod variables;

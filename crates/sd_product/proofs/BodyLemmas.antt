@@ -5,13 +5,13 @@ use Rattle.sd_core.specs.declared.CoreProc.{CoreProc}
 use Rattle.sd_match.specs.declared.pair.Pair.{Pair}
 use Rattle.sd_term.specs.Tree.{Tree}
 use Rattle.sd_vcgen.specs.Body.{Context}
-use Rattle.sd_product.specs.Query.{Claimed, Work, Quiets, old_context, new_context, facts_of, query_by}
+use Rattle.sd_product.specs.Query.{Claimed, Work, Infallibles, old_context, new_context, facts_of, query_by}
 use Rattle.sd_product.specs.Work.{Held, work_of}
 use Rattle.sd_product.specs.Work as held
 use Rattle.sd_product.specs.declared.facts.Question.{Question}
 use Rattle.sd_product.specs.declared.sides.Sides.{Sides}
 use Rattle.sd_product.specs.Sides.{AreSides, side_at, IsSideWithin}
-use Rattle.sd_product.specs.Questions.{work_in, quiets_in, AreSidesFor}
+use Rattle.sd_product.specs.Questions.{work_in, infallibles_in, AreSidesFor}
 use Rattle.sd_product.proofs.SideLemmas.{side_within, facts_same}
 
 pub sides_within : (C D : Context) (bank : List Tree) (p q : Option CoreProc) (n : Sides) → AreSides C D bank p q (Some n) → IsSideWithin bank n.old × IsSideWithin bank n.new
@@ -19,7 +19,7 @@ sides_within C D bank (Some p) (Some q) n h = (side_within bank n.old _ h.0, sid
 sides_within C D bank (Some p) None n h = absurd h
 sides_within C D bank None q n h = absurd h
 
-module _ (w : Work) (z : Quiets) (table : List Bool) (x : Claimed) (bank : List Tree) where
+module _ (w : Work) (z : Infallibles) (table : List Bool) (x : Claimed) (bank : List Tree) where
   -- where both bodies are there
   pub query_over : (p q : Option CoreProc) (n : Sides) → AreSides (old_context w z) (new_context w z) bank p q (Some n) → facts_of w table x (side_at bank n.old) (side_at bank n.new) ≡ query_by w z table x p q
   query_over (Some p) (Some q) n h = facts_same w table x bank n.old n.new _ _ h.0 h.1
@@ -38,7 +38,7 @@ pub some_is : {A : Type 0} (a b : A) → ◌≡◌ {A = Option A} (Some a) (Some
 some_is a b e = cc
 
 -- the bodies of a pair are those of a question about it
-pub sides_for : (h : Held) (q : Question) (bank : List Tree) (o : Option Sides) (own : Pair) → work_in q ≡ work_of h.old h.new → quiets_in q ≡ held.quiets_in h → own ≡ q.pair.now
-    → AreSides (old_context (work_of h.old h.new) (held.quiets_in h)) (new_context (work_of h.old h.new) (held.quiets_in h)) bank (slice_get h.old.procs own.old) (slice_get h.new.procs own.new) o → AreSidesFor q bank o
-sides_for h q bank o own work quiets here s =
-    subst (λ (k : Work × Quiets × Pair). AreSides (old_context k.0 k.1) (new_context k.0 k.1) bank (slice_get k.0.old.procs k.2.old) (slice_get k.0.new.procs k.2.new) o) (λ i. (sym work i, sym quiets i, here i)) s
+pub sides_for : (h : Held) (q : Question) (bank : List Tree) (o : Option Sides) (own : Pair) → work_in q ≡ work_of h.old h.new → infallibles_in q ≡ held.infallibles_in h → own ≡ q.pair.now
+    → AreSides (old_context (work_of h.old h.new) (held.infallibles_in h)) (new_context (work_of h.old h.new) (held.infallibles_in h)) bank (slice_get h.old.procs own.old) (slice_get h.new.procs own.new) o → AreSidesFor q bank o
+sides_for h q bank o own work infallibles here s =
+    subst (λ (k : Work × Infallibles × Pair). AreSides (old_context k.0 k.1) (new_context k.0 k.1) bank (slice_get k.0.old.procs k.2.old) (slice_get k.0.new.procs k.2.new) o) (λ i. (sym work i, sym infallibles i, here i)) s

@@ -17,7 +17,7 @@ use Rattle.sd_core.specs.declared.CoreProgram.{CoreProgram}
 use Rattle.sd_core.specs.declared.Function.{Function}
 use Rattle.sd_core.specs.Store.{Store, read, write, set_all}
 use Rattle.sd_core.specs.Formed.{sorts_of, state_sorts, sort_at, declared_as, Takes, HasType, HaveTypes, AllHaveTypes, IsFormed, AreFormed, AllFormed}
-use Rattle.sd_core.specs.Straight.{AreTruths, HasNoNumber, HaveNoNumber}
+use Rattle.sd_core.specs.Propositional.{AreTruths, HasNoNumber, HaveNoNumber}
 use Rattle.sd_core.specs.Boolean as core
 use Rattle.sd_core.specs.Boolean.{IsBooleanProc, IsBooleanCore}
 use Rattle.sd_term.specs.declared.node.Head.TheVariants as head
@@ -114,7 +114,7 @@ pub symbols-boolean : (k : ℕ) (ss : List Sort) → AllByRecursion IsTruth ss �
 symbols-boolean k [] h = tt
 symbols-boolean k (s ∷ ss) h = (subst (λ (r : Sort). IsBoolean (leaf (head.Sym k r))) (sym h.0) (tt, tt), symbols-boolean (suc k) ss h.1)
 
-flag-boolean : (quiet : Bool) (k : ℕ) → IsBoolean (site_flag quiet k)
+flag-boolean : (infallible : Bool) (k : ℕ) → IsBoolean (site_flag infallible k)
 flag-boolean true k = (tt, tt)
 flag-boolean false k = (tt, tt)
 
@@ -241,7 +241,7 @@ module _ (C : Context) (truths : IsBooleanCore C.program) (p : CoreProc) (own : 
   call-boolean q callee ps es there m ins k path s c h =
       let site = site_of C k path callee q es s in
       let guard : IsBoolean site.guard = guard-boolean path s c h in
-      let flag : IsBoolean site.flag = flag-boolean (C.quiet q) (k + (length callee.outs + length callee.modifies)) in
+      let flag : IsBoolean site.flag = flag-boolean (C.infallible q) (k + (length callee.outs + length callee.modifies)) in
       let up : IsBoolean (and_of site.guard site.flag) = and-boolean site.guard site.flag guard flag in
       let outs : AllBoolean site.outs = symbols-boolean k (sorts_of callee.outs) (truth-sorts callee.outs there.outs) in
       let news : AllBoolean (changed P k callee) = changed-boolean k callee in

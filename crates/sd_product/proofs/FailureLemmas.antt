@@ -16,7 +16,7 @@ use Rattle.sd_core.specs.Run.{Calls, Ended, run_number, calls_within, flag_run, 
 use Rattle.sd_core.specs.Formed.{WellFormed, sorts_of}
 use Rattle.sd_core.specs.Meanings.{HaveSorts, Fits, Differ, IsMeaningOf}
 use Rattle.sd_core.specs.Failure.{IsInputOf, AreEqualInputs, NewFailureOf}
-use Rattle.sd_core.specs.Straight.{IsStraightProc, IsStraightCore}
+use Rattle.sd_core.specs.Propositional.{IsPropositionalProc, IsPropositionalCore}
 use Rattle.sd_term.specs.declared.node.Head.TheVariants.{Sym}
 use Rattle.sd_term.specs.Tree.{Tree, leaf}
 use Rattle.sd_term.specs.Truth.{Valuation, value, MakesTrue}
@@ -32,8 +32,8 @@ use Rattle.sd_vcgen.specs.Law.{Reads, truth, all_true, SitesHold, IsRun, AreInpu
 use Rattle.sd_vcgen.proofs.Symbols.{symbols-sort}
 use Rattle.sd_vcgen.proofs.Truths.{not_truth}
 use Rattle.sd_product.specs.Relations.{entry, term_of, claim_holds}
-use Rattle.sd_product.specs.Query.{Claimed, Work, Quiets, old_context, new_context, input_count, first_call, Side, side_from, old_side, new_side, all_related, axioms_of, apart, conditions_of, claim_of, premises_of, facts_of, query_by, query_of}
-use Rattle.sd_product.specs.Failures.{IsStraightClaim, ValuationsAreFailures, OpenCubesAreFailures}
+use Rattle.sd_product.specs.Query.{Claimed, Work, Infallibles, old_context, new_context, input_count, first_call, Side, side_from, old_side, new_side, all_related, axioms_of, apart, conditions_of, claim_of, premises_of, facts_of, query_by, query_of}
+use Rattle.sd_product.specs.Failures.{IsPropositionalClaim, ValuationsAreFailures, OpenCubesAreFailures}
 use Rattle.sd_product.proofs.Truths.{claim-truth}
 use Rattle.sd_product.proofs.Carried.{vars-length}
 use Rattle.sd_product.proofs.EqualInputs.{AreEqual}
@@ -74,7 +74,7 @@ reads-starts F v I none starts = record {
 }
 
 -- Where nothing is declared, starting values of their types are a meaning.
-any-meaning : (P : CoreProgram) (M : Meaning) → IsStraightCore P → ((s : Sort) → HasSort s (M.start s)) → IsMeaningOf P M
+any-meaning : (P : CoreProgram) (M : Meaning) → IsPropositionalCore P → ((s : Sort) → HasSort s (M.start s)) → IsMeaningOf P M
 any-meaning P M h starts = record {
   starts = starts;
   functions = subst (AllByRecursion (Fits M)) (sym h.functions) tt;
@@ -92,7 +92,7 @@ symbols-typed : (v : Valuation) (k : ℕ) (ss : List Sort) → HaveSorts ss (map
 symbols-typed v k [] = refl
 symbols-typed v k (s ∷ ss) = (value-sorted v (leaf (Sym k s)), symbols-typed v (suc k) ss)
 
-module _ (C : Context) (formed : WellFormed C.program) (straight : IsStraightCore C.program) (n : ℕ) (p : CoreProc) (found : slice_get C.program.procs n ≡ Some p) (i k : ℕ) where
+module _ (C : Context) (formed : WellFormed C.program) (propositional : IsPropositionalCore C.program) (n : ℕ) (p : CoreProc) (found : slice_get C.program.procs n ≡ Some p) (i k : ℕ) where
   abbrev P : CoreProgram
   P = C.program
 
@@ -101,7 +101,7 @@ module _ (C : Context) (formed : WellFormed C.program) (straight : IsStraightCor
 
   side-no-sites : ◌≡◌ {A = List Site} a.body.sites []
   side-no-sites =
-      let own = all-found IsStraightProc P.procs n p straight.procs found in
+      let own = all-found IsPropositionalProc P.procs n p propositional.procs found in
       body-no-sites C p k a.inputs.slots a.inputs.globals own.body
 
   module _ (v : Valuation) where
@@ -115,7 +115,7 @@ module _ (C : Context) (formed : WellFormed C.program) (straight : IsStraightCor
     side-input = record { ins_typed = symbols-typed v i (sorts_of p.ins); globals_typed = symbols-typed v (i + length p.ins) (sorts_of P.globals) }
 
     side-meaning : IsMeaningOf P (meaning-by v)
-    side-meaning = any-meaning P (meaning-by v) straight (λ s. cast-sorted s (v.by.start s))
+    side-meaning = any-meaning P (meaning-by v) propositional (λ s. cast-sorted s (v.by.start s))
 
     -- true assumptions are a run that ends with the flag of its terms
     side-ends : ValuationsAreRuns → (flag : Bool) → MakesTrue v a.body.assumes → truth v a.body.flag ≡ flag
@@ -133,11 +133,11 @@ module _ (C : Context) (formed : WellFormed C.program) (straight : IsStraightCor
           sites = subst (SitesHold P calls v) (sym side-no-sites) tt;
         } in
         ap (λ (o : Option CoreProc). run_number I calls o ins globals) found
-        ∙ valuations C M formed side-meaning 0 n p found v (reads-starts P.functions v I straight.functions (λ s. refl)) k a.inputs.slots a.inputs.globals terms outs after flag run
+        ∙ valuations C M formed side-meaning 0 n p found v (reads-starts P.functions v I propositional.functions (λ s. refl)) k a.inputs.slots a.inputs.globals terms outs after flag run
 
 -- ---- both sides
 
-module _ (w : Work) (z : Quiets) (table : List Bool) (x : Claimed) (is : IsStraightClaim w z x) where
+module _ (w : Work) (z : Infallibles) (table : List Bool) (x : Claimed) (is : IsPropositionalClaim w z x) where
   abbrev C : Context
   C = old_context w z
 
@@ -227,10 +227,10 @@ module _ (w : Work) (z : Quiets) (table : List Bool) (x : Claimed) (is : IsStrai
     new-globals = map (value v) new.inputs.globals
 
     old-input : IsInputOf w.old p old-ins old-globals
-    old-input = side-input C is.work.old_formed is.old_straight x.pair.old p is.roots.old_found 0 old-calls v
+    old-input = side-input C is.work.old_formed is.old_propositional x.pair.old p is.roots.old_found 0 old-calls v
 
     new-input : IsInputOf w.new q new-ins new-globals
-    new-input = side-input D is.work.new_formed is.new_straight x.pair.new q is.roots.new_found new-inputs new-calls v
+    new-input = side-input D is.work.new_formed is.new_propositional x.pair.new q is.roots.new_found new-inputs new-calls v
 
     equal : AreEqualInputs w.old w.new old-ins old-globals new-ins new-globals
     equal =
@@ -245,8 +245,8 @@ module _ (w : Work) (z : Quiets) (table : List Bool) (x : Claimed) (is : IsStrai
         let told = opens v makes in
         record {
           M = meaning-by v;
-          old_meaning = side-meaning C is.work.old_formed is.old_straight x.pair.old p is.roots.old_found 0 old-calls v;
-          new_meaning = side-meaning D is.work.new_formed is.new_straight x.pair.new q is.roots.new_found new-inputs new-calls v;
+          old_meaning = side-meaning C is.work.old_formed is.old_propositional x.pair.old p is.roots.old_found 0 old-calls v;
+          new_meaning = side-meaning D is.work.new_formed is.new_propositional x.pair.new q is.roots.new_found new-inputs new-calls v;
           old = p;
           new = q;
           old_found = is.roots.old_found;
@@ -264,8 +264,8 @@ module _ (w : Work) (z : Quiets) (table : List Bool) (x : Claimed) (is : IsStrai
           after = map (value v) old.body.store.globals;
           outs' = map (value v) (outs_of q new.body);
           after' = map (value v) new.body.store.globals;
-          old_ends = side-ends C is.work.old_formed is.old_straight x.pair.old p is.roots.old_found 0 old-calls v valuations false told.old_assumes told.old_flag;
-          new_fails = side-ends D is.work.new_formed is.new_straight x.pair.new q is.roots.new_found new-inputs new-calls v valuations true told.new_assumes told.new_flag;
+          old_ends = side-ends C is.work.old_formed is.old_propositional x.pair.old p is.roots.old_found 0 old-calls v valuations false told.old_assumes told.old_flag;
+          new_fails = side-ends D is.work.new_formed is.new_propositional x.pair.new q is.roots.new_found new-inputs new-calls v valuations true told.new_assumes told.new_flag;
         }
 
   -- ---- such a query is over truth values
@@ -278,11 +278,11 @@ module _ (w : Work) (z : Quiets) (table : List Bool) (x : Claimed) (is : IsStrai
 
   query-boolean : AllBoolean (query_of w z table x)
   query-boolean =
-      let truths = program-boolean w.old is.old_straight in
-      let truths' = program-boolean w.new is.new_straight in
+      let truths = program-boolean w.old is.old_propositional in
+      let truths' = program-boolean w.new is.new_propositional in
       let a : BooleanSide old = side-boolean C x.pair.old p is.work.old_formed truths is.roots.old_found 0 old-calls in
       let b : BooleanSide new = side-boolean D x.pair.new q is.work.new_formed truths' is.roots.new_found new-inputs new-calls in
-      let none = side-no-sites C is.work.old_formed is.old_straight x.pair.old p is.roots.old_found 0 old-calls in
+      let none = side-no-sites C is.work.old_formed is.old_propositional x.pair.old p is.roots.old_found 0 old-calls in
       let calls : AllBoolean related = subst (λ (sites : List Site). AllBoolean (all_related table w.claims sites new.body.sites)) (sym none) tt in
       subst AllBoolean (sym query-is) (facts-boolean w table truths truths' x old new claim-equal a b calls)
 

@@ -14,12 +14,12 @@ use Rattle.sd_kernel.specs.declared.proved.Proved.{Proved}
 use Rattle.sd_kernel.proofs.Walks.{proves-accepted}
 use Rattle.sd_kernel.proofs.Refuted.{accepted-unsatisfiable}
 use Rattle.sd_match.specs.Pairs.{pairs_of}
-use Rattle.sd_product.specs.Query.{Claimed, Work, Quiets, is_live, query_of}
+use Rattle.sd_product.specs.Query.{Claimed, Work, Infallibles, is_live, query_of}
 use Rattle.sd_product.specs.Fits.{FitsPair}
 use Rattle.sd_product.specs.Summaries.{IsWork, IsSupported, IsRootPair, IsFlagClaim, NoNewFailure}
-use Rattle.sd_product.specs.Work.{work_of, Held, quiets_in, IsHeld, claims_in, queries_under}
+use Rattle.sd_product.specs.Work.{work_of, Held, infallibles_in, IsHeld, claims_in, queries_under}
 use Rattle.sd_product.specs.Inductive.{live_from, proved_of, IsHow, IsProved, IsInductive}
-use Rattle.sd_product.specs.Failures.{IsStraightClaim, OpenCubesAreFailures}
+use Rattle.sd_product.specs.Failures.{IsPropositionalClaim, OpenCubesAreFailures}
 use Rattle.sd_product.specs.Judged.{IsFlagAt, LiveFlagsAreSafe, OpenFlagsAreFailures}
 use Rattle.sd_product.proofs.Booleans.{all-found}
 use Rattle.sd_product.proofs.FitLemmas.{claims_fit}
@@ -84,11 +84,11 @@ module _ (h : Held) (held : IsHeld h) where
   abbrev W : Work
   W = work_of h.old h.new
 
-  abbrev Z : Quiets
-  Z = quiets_in h
+  abbrev Z : Infallibles
+  Z = infallibles_in h
 
   is-work : IsWork W Z
-  is-work = record { old_formed = held.old_formed; new_formed = held.new_formed; old_quiet = held.old_quiet.is_set; new_quiet = held.new_quiet.is_set }
+  is-work = record { old_formed = held.old_formed; new_formed = held.new_formed; old_infallible = held.old_infallible.is_set; new_infallible = held.new_infallible.is_set }
 
   query-at : (table : List Bool) (n : ℕ) (x : Claimed) → slice_get (claims_in h) n ≡ Some x → slice_get (queries_under h table) n ≡ Some (query_of W Z table x)
   query-at table n x at = slice_get-map (query_of W Z table) (claims_in h) n ∙ ap (option_map (query_of W Z table)) at
@@ -109,16 +109,16 @@ module _ (h : Held) (held : IsHeld h) where
 
 pub live-flags-safe : NoNewFailure → LiveFlagsAreSafe
 live-flags-safe safe h table proofs n x held inductive f live failure =
-    safe (work_of h.old h.new) (quiets_in h) table (is-work h held) (supported h held table proofs inductive) n x f.at (get_or_from_slice_get table n true false live) (flag-claim h held n x f) (root-pair h held n x f) failure
+    safe (work_of h.old h.new) (infallibles_in h) table (is-work h held) (supported h held table proofs inductive) n x f.at (get_or_from_slice_get table n true false live) (flag-claim h held n x f) (root-pair h held n x f) failure
 
 pub open-flags-fail : OpenCubesAreFailures → OpenFlagsAreFailures
-open-flags-fail fails h seen n x facts cube held old_straight new_straight f when query is_open =
+open-flags-fail fails h seen n x facts cube held old_propositional new_propositional f when query is_open =
     let W = work_of h.old h.new in
-    let Z = quiets_in h in
-    let claim : IsStraightClaim W Z x = record {
+    let Z = infallibles_in h in
+    let claim : IsPropositionalClaim W Z x = record {
       work = is-work h held;
-      old_straight = old_straight;
-      new_straight = new_straight;
+      old_propositional = old_propositional;
+      new_propositional = new_propositional;
       claim = record { claim = f.flag; when = when };
       roots = root-pair h held n x f;
     } in

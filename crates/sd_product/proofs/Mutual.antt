@@ -18,7 +18,7 @@ use Rattle.sd_vcgen.proofs.Logs.{carries_front, carries_back, symbols-value}
 use Rattle.sd_vcgen.proofs.Symbols.{symbols-sort}
 use Rattle.sd_vcgen.proofs.Truths.{not_truth}
 use Rattle.sd_product.specs.Relations.{entry, exit, all_hold, claim_holds}
-use Rattle.sd_product.specs.Query.{Claimed, Work, Quiets, old_context, new_context, input_count, first_call, old_side, new_side, all_related, axioms_of, apart, conditions_of, claim_of, premises_of, facts_of, query_by, query_of}
+use Rattle.sd_product.specs.Query.{Claimed, Work, Infallibles, old_context, new_context, input_count, first_call, old_side, new_side, all_related, axioms_of, apart, conditions_of, claim_of, premises_of, facts_of, query_by, query_of}
 use Rattle.sd_product.specs.Summaries.{HoldsOf, EachLive, IsWork, IsMeaning, IsSupported, MutualSummaries}
 use Rattle.sd_product.proofs.Truths.{split, true-value, claim-truth, exit-values, conditions-true, makes-append, makes-all}
 use Rattle.sd_product.proofs.CallLemmas.{related-true}
@@ -32,7 +32,7 @@ abbrev laid : (ins globals ins' globals' log log' : List Value) → List Value
 laid ins globals ins' globals' log log' = ins ++ (globals ++ (ins' ++ (globals' ++ (log ++ log'))))
 
 -- what the sides of a query are where a valuation is a run of each
-record AreRuns (w : Work) (z : Quiets) (old new : Calls) (v : Valuation) (p q : CoreProc) (ins globals ins' globals' outs after outs' after' : List Value) (flag flag' : Bool) : Type 0 where
+record AreRuns (w : Work) (z : Infallibles) (old new : Calls) (v : Valuation) (p q : CoreProc) (ins globals ins' globals' outs after outs' after' : List Value) (flag flag' : Bool) : Type 0 where
   old_ins : map (value v) (old_side (old_context w z) (new_context w z) p q).inputs.slots ≡ ins
   old_globals : map (value v) (old_side (old_context w z) (new_context w z) p q).inputs.globals ≡ globals
   new_ins : map (value v) (new_side (old_context w z) (new_context w z) p q).inputs.slots ≡ ins'
@@ -40,7 +40,7 @@ record AreRuns (w : Work) (z : Quiets) (old new : Calls) (v : Valuation) (p q : 
   old_run : IsRun w.old old v p (old_side (old_context w z) (new_context w z) p q).body outs after flag
   new_run : IsRun w.new new v q (new_side (old_context w z) (new_context w z) p q).body outs' after' flag'
 
-module _ (w : Work) (z : Quiets) (M : Meaning) (meaning : IsMeaning w M) (old new : Calls) (p q : CoreProc) where
+module _ (w : Work) (z : Infallibles) (M : Meaning) (meaning : IsMeaning w M) (old new : Calls) (p q : CoreProc) where
   -- by the values of the inputs and of both logs
   one-valuation : (ins globals ins' globals' outs after outs' after' : List Value) (flag flag' : Bool) →
       HaveSorts (sorts_of p.ins) ins → HaveSorts (sorts_of w.old.globals) globals → HaveSorts (sorts_of q.ins) ins' → HaveSorts (sorts_of w.new.globals) globals' →
@@ -88,7 +88,7 @@ ends-values v P calls p slots s ins outs after flag e run =
 
 -- ---- one step: what holds of the callees holds of the callers
 
-module _ (adequate : RunsAreValuations) (w : Work) (z : Quiets) (table : List Bool) (M : Meaning) (is : IsWork w z) (meaning : IsMeaning w M) (n m : ℕ) (callees : EachLive w table (HoldsOf w (calls_within (interpretation M) w.old.procs n) (calls_within (interpretation M) w.new.procs m))) where
+module _ (adequate : RunsAreValuations) (w : Work) (z : Infallibles) (table : List Bool) (M : Meaning) (is : IsWork w z) (meaning : IsMeaning w M) (n m : ℕ) (callees : EachLive w table (HoldsOf w (calls_within (interpretation M) w.old.procs n) (calls_within (interpretation M) w.new.procs m))) where
   abbrev old_calls : Calls
   old_calls = calls_within (interpretation M) w.old.procs n
 
@@ -141,8 +141,8 @@ module _ (adequate : RunsAreValuations) (w : Work) (z : Quiets) (table : List Bo
       all_hold x.pair.inputs (entry ins globals) (entry ins' globals') x.candidate.when ≡ true →
       claim_holds x.pair.outputs x.candidate.claim (exit ins outs after) flag (exit ins' outs' after') flag' ≡ true
   step-by x (Some p) (Some q) eo en unsatisfiable ins globals ins' globals' outs after outs' after' flag flag' fo fn ro rn when =
-      let a = adequate (old_context w z) M is.old_formed meaning.old is.old_quiet n x.pair.old p eo ins globals outs after flag fo ro in
-      let b = adequate (new_context w z) M is.new_formed meaning.new is.new_quiet m x.pair.new q en ins' globals' outs' after' flag' fn rn in
+      let a = adequate (old_context w z) M is.old_formed meaning.old is.old_infallible n x.pair.old p eo ins globals outs after flag fo ro in
+      let b = adequate (new_context w z) M is.new_formed meaning.new is.new_infallible m x.pair.new q en ins' globals' outs' after' flag' fn rn in
       let all = laid ins globals ins' globals' a.log b.log in
       claim-holds x p q (λ k. get_or all k (Truth false)) ins globals ins' globals' outs after outs' after' flag flag' unsatisfiable
       (one-valuation w z M meaning old_calls new_calls p q ins globals ins' globals' outs after outs' after' flag flag' (fo.ins_fit p eo) fo.globals_fit (fn.ins_fit q en) fn.globals_fit a b) when
@@ -155,7 +155,7 @@ module _ (adequate : RunsAreValuations) (w : Work) (z : Quiets) (table : List Bo
 
 -- ---- all bounds
 
-within-hold : RunsAreValuations → (w : Work) (z : Quiets) (table : List Bool) (M : Meaning) → IsWork w z → IsMeaning w M → IsSupported w z table → (n m : ℕ) → EachLive w table (HoldsOf w (calls_within (interpretation M) w.old.procs n) (calls_within (interpretation M) w.new.procs m))
+within-hold : RunsAreValuations → (w : Work) (z : Infallibles) (table : List Bool) (M : Meaning) → IsWork w z → IsMeaning w M → IsSupported w z table → (n m : ℕ) → EachLive w table (HoldsOf w (calls_within (interpretation M) w.old.procs n) (calls_within (interpretation M) w.new.procs m))
 within-hold adequate w z table M is meaning supported zero m = λ k x e on ins globals ins' globals' outs after outs' after' flag flag' a b ro rn when. absurd (cc)
 within-hold adequate w z table M is meaning supported (suc n) zero = λ k x e on ins globals ins' globals' outs after outs' after' flag flag' a b ro rn when. absurd (cc)
 within-hold adequate w z table M is meaning supported (suc n) (suc m) =

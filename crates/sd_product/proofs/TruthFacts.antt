@@ -23,8 +23,8 @@ use Rattle.sd_vcgen.proofs.Typed.{term-sort}
 use Rattle.sd_vcgen.proofs.Sorted.{bodies-are-sorted}
 use Rattle.sd_vcgen.proofs.Symbols.{symbols-sort}
 use Rattle.sd_product.specs.Relations.{term_at, term_of, claim_term}
-use Rattle.sd_product.specs.Query.{Claimed, Work, Quiets, old_context, new_context, is_live, input_count, Side, side_from, first_call, old_side, new_side, under, site_inputs, site_ends, implication, is_about, calls_related, with_each, all_related, no_terms, axioms_of, constant_term, occurs, apart_from, apart, conditions_of, claim_of, premises_of, facts_of, query_by, query_of}
-use Rattle.sd_product.specs.Work.{Held, IsHeld, claims_in, work_of, queries_under, quiets_in}
+use Rattle.sd_product.specs.Query.{Claimed, Work, Infallibles, old_context, new_context, is_live, input_count, Side, side_from, first_call, old_side, new_side, under, site_inputs, site_ends, implication, is_about, calls_related, with_each, all_related, no_terms, axioms_of, constant_term, occurs, apart_from, apart, conditions_of, claim_of, premises_of, facts_of, query_by, query_of}
+use Rattle.sd_product.specs.Work.{Held, IsHeld, claims_in, work_of, queries_under, infallibles_in}
 use Rattle.sd_product.specs.TruthQueries.{AreTruths, QueriesAreTruths}
 
 truth-of : (t : Tree) → sort_of t ≡ BoolSort → is_truth_valued t ≡ true
@@ -118,7 +118,7 @@ module _ (w : Work) (table : List Bool) (old_formed : WellFormed w.old) (new_for
       (truths-append (apart (premises ++ claim ∷ []) w.old.uniques) _ (apart-truth (premises ++ claim ∷ []) w.old.uniques)
       (truths-append (apart (premises ++ claim ∷ []) w.new.uniques) (not_of claim ∷ []) (apart-truth (premises ++ claim ∷ []) w.new.uniques) (truth-of (not_of claim) (not-sort claim), tt)))
 
-  module _ (z : Quiets) where
+  module _ (z : Infallibles) where
     by-truth : (x : Claimed) (o r : Option CoreProc) → slice_get w.old.procs x.pair.old ≡ o → slice_get w.new.procs x.pair.new ≡ r → AreTruths (query_by w z table x o r)
     by-truth x None r e f = tt
     by-truth x (Some p) None e f = tt
@@ -137,4 +137,4 @@ module _ (w : Work) (table : List Bool) (old_formed : WellFormed w.old) (new_for
     queries-truth (x ∷ xs) = (query-truth x, queries-truth xs)
 
 pub queries-are-truths : QueriesAreTruths
-queries-are-truths h is table = queries-truth (work_of h.old h.new) table is.old_formed is.new_formed (quiets_in h) (claims_in h)
+queries-are-truths h is table = queries-truth (work_of h.old h.new) table is.old_formed is.new_formed (infallibles_in h) (claims_in h)

@@ -31,7 +31,7 @@ use Rattle.sd_vcgen.proofs.Symbols.{symbols-sort}
 use Rattle.sd_vcgen.proofs.Sorted.{bodies-are-sorted}
 use Rattle.sd_vcgen.proofs.WellSorted.{append-well, front-well, back-well, symbols-well, WellStore, read-well, term-well, WellSite, each-site-well, bodies-are-well-sorted}
 use Rattle.sd_product.specs.Relations.{entry, exit, term_at, term_of, claim_term}
-use Rattle.sd_product.specs.Query.{Claimed, Work, Quiets, Side, is_live, is_about, under, implication, calls_related, with_each, all_related, no_terms, axioms_of, occurs, constant_term, apart_from, apart, conditions_of, claim_of, premises_of, facts_of, side_from, old_side, new_side, first_call, input_count, old_context, new_context, query_by, query_of}
+use Rattle.sd_product.specs.Query.{Claimed, Work, Infallibles, Side, is_live, is_about, under, implication, calls_related, with_each, all_related, no_terms, axioms_of, occurs, constant_term, apart_from, apart, conditions_of, claim_of, premises_of, facts_of, side_from, old_side, new_side, first_call, input_count, old_context, new_context, query_by, query_of}
 use Rattle.sd_product.specs.Fits.{FitsKind, FitsAt, Fits, FitsClaim, entry_sorts, exit_sorts, FitsBoth, FitsPair}
 
 -- ---- relations
@@ -250,7 +250,7 @@ module _ (w : Work) (table : List Bool) where
       let premises_well = append-well (axioms_of w.old) _ (axioms-well w.old.functions w.old.axioms formed.axioms) (append-well (axioms_of w.new) _ (axioms-well w.new.functions w.new.axioms formed'.axioms) (append-well (conditions_of x a b) _ (relations-well _ _ _ _ begins x.pair.inputs x.candidate.when f.when) (append-well a.body.assumes _ wa.assumes (append-well b.body.assumes _ wb.assumes calls)))) in
       append-well premises _ premises_well (append-well (apart (premises ++ claim ∷ []) w.old.uniques) _ (apart-well (premises ++ claim ∷ []) w.old.uniques) (append-well (apart (premises ++ claim ∷ []) w.new.uniques) (not_of claim ∷ []) (apart-well (premises ++ claim ∷ []) w.new.uniques) (not-well claim claimed sort, tt)))
 
-  by-well : (z : Quiets) (x : Claimed) → WellFormed w.old → WellFormed w.new → AllByRecursion (FitsPair w) w.claims → FitsPair w x → (o r : Option CoreProc) → slice_get w.old.procs x.pair.old ≡ o → slice_get w.new.procs x.pair.new ≡ r → AllWellSorted (query_by w z table x o r)
+  by-well : (z : Infallibles) (x : Claimed) → WellFormed w.old → WellFormed w.new → AllByRecursion (FitsPair w) w.claims → FitsPair w x → (o r : Option CoreProc) → slice_get w.old.procs x.pair.old ≡ o → slice_get w.new.procs x.pair.new ≡ r → AllWellSorted (query_by w z table x o r)
   by-well z x formed formed' fs f None r e e' = tt
   by-well z x formed formed' fs f (Some p) None e e' = tt
   by-well z x formed formed' fs f (Some p) (Some q) e e' =
@@ -259,6 +259,6 @@ module _ (w : Work) (table : List Bool) where
       facts-well x p q (old_side C D p q) (new_side C D p q) formed formed' fs (f p q e e') (side-well C formed x.pair.old p e 0 (first_call C D p q)) (side-well D formed' x.pair.new q e' (input_count C.program p) (first_call C D p q + count_all C p.body))
 
   -- the query of a candidate that fits its pair, where all candidates do
-  pub query-well : (z : Quiets) (x : Claimed) → WellFormed w.old → WellFormed w.new → AllByRecursion (FitsPair w) w.claims → FitsPair w x → AllWellSorted (query_of w z table x)
+  pub query-well : (z : Infallibles) (x : Claimed) → WellFormed w.old → WellFormed w.new → AllByRecursion (FitsPair w) w.claims → FitsPair w x → AllWellSorted (query_of w z table x)
   unfolding query_of
   query-well z x formed formed' fs f = by-well z x formed formed' fs f (slice_get w.old.procs x.pair.old) (slice_get w.new.procs x.pair.new) refl refl

@@ -1,7 +1,7 @@
 -- What a judged candidate that claims the flag tells of its two procedures.
 use Rattle.std.specs.Prelude.{◌≡◌, ℕ, Bool, true, List, Some, None, slice_get}
 use Rattle.sd_core.specs.declared.CoreProc.{CoreProc}
-use Rattle.sd_core.specs.Straight.{IsStraightCore}
+use Rattle.sd_core.specs.Propositional.{IsPropositionalCore}
 use Rattle.sd_core.specs.Failure.{NewFailureOf}
 use Rattle.sd_term.specs.Tree.{Tree}
 use Rattle.sd_term.specs.declared.Cube.{Cube}
@@ -31,6 +31,6 @@ LiveFlagsAreSafe =
 -- under some table, it has one.
 abbrev pub OpenFlagsAreFailures : Type 0
 OpenFlagsAreFailures =
-    (h : Held) (seen : List Bool) (n : ℕ) (x : Claimed) (facts : List Tree) (cube : Cube) → IsHeld h → IsStraightCore h.old → IsStraightCore h.new →
+    (h : Held) (seen : List Bool) (n : ℕ) (x : Claimed) (facts : List Tree) (cube : Cube) → IsHeld h → IsPropositionalCore h.old → IsPropositionalCore h.new →
     IsFlagAt h n x → x.candidate.when ≡ equal_inputs x.pair → slice_get (queries_under h seen) n ≡ Some facts → IsOpenCube facts cube →
     NewFailureOf h.old h.new x.pair.old x.pair.new

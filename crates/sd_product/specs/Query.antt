@@ -28,16 +28,16 @@ pub record Work : Type 0 where
   pub new : CoreProgram
   pub claims : List Claimed
 
--- the quiet procedures of both
-pub record Quiets : Type 0 where
+-- the infallible procedures of both
+pub record Infallibles : Type 0 where
   pub old : ℕ → Bool
   pub new : ℕ → Bool
 
-abbrev pub old_context : Work → Quiets → Context
-old_context w z = record { program = w.old; quiet = z.old }
+abbrev pub old_context : Work → Infallibles → Context
+old_context w z = record { program = w.old; infallible = z.old }
 
-abbrev pub new_context : Work → Quiets → Context
-new_context w z = record { program = w.new; quiet = z.new }
+abbrev pub new_context : Work → Infallibles → Context
+new_context w z = record { program = w.new; infallible = z.new }
 
 abbrev pub is_live : List Bool → ℕ → Bool
 is_live table n = get_or table n false
@@ -170,10 +170,10 @@ abbrev pub facts_of : Work → List Bool → Claimed → Side → Side → List 
 facts_of w table x a b =
     premises_of w table x a b ++ (apart (premises_of w table x a b ++ claim_of x a b ∷ []) w.old.uniques ++ (apart (premises_of w table x a b ++ claim_of x a b ∷ []) w.new.uniques ++ not_of (claim_of x a b) ∷ []))
 
-abbrev pub query_by : Work → Quiets → List Bool → Claimed → Option CoreProc → Option CoreProc → List Tree
+abbrev pub query_by : Work → Infallibles → List Bool → Claimed → Option CoreProc → Option CoreProc → List Tree
 query_by w z table x (Some p) (Some q) = facts_of w table x (old_side (old_context w z) (new_context w z) p q) (new_side (old_context w z) (new_context w z) p q)
 query_by w z table x _ _ = []
 
 -- the query of a candidate under a table of live candidates
-unfoldable pub query_of : Work → Quiets → List Bool → Claimed → List Tree
+unfoldable pub query_of : Work → Infallibles → List Bool → Claimed → List Tree
 query_of w z table x = query_by w z table x (slice_get w.old.procs x.pair.old) (slice_get w.new.procs x.pair.new)

@@ -4,7 +4,7 @@ use Rattle.std.specs.List.{AllByRecursion}
 use Rattle.sd_core.specs.Formed.{WellFormed}
 use Rattle.sd_term.specs.Tree.{Tree}
 use Rattle.sd_vcgen.specs.Numbers.{context_of}
-use Rattle.sd_product.specs.Query.{Claimed, Work, Quiets}
+use Rattle.sd_product.specs.Query.{Claimed, Work, Infallibles}
 use Rattle.sd_product.specs.Claims.{claims_of, AreTables}
 use Rattle.sd_product.specs.Fits.{FitsPair}
 use Rattle.sd_product.specs.Sides.{AreSides}
@@ -15,9 +15,9 @@ use Rattle.sd_product.specs.declared.facts.Question.{Question}
 abbrev pub work_in : Question → Work
 work_in q = record { old = q.old.program.now; new = q.new.program.now; claims = claims_of q.claims }
 
--- their quiet procedures
-abbrev pub quiets_in : Question → Quiets
-quiets_in q = record { old = (context_of q.old).quiet; new = (context_of q.new).quiet }
+-- their infallible procedures
+abbrev pub infallibles_in : Question → Infallibles
+infallibles_in q = record { old = (context_of q.old).infallible; new = (context_of q.new).infallible }
 
 -- the candidate, with its pair
 abbrev pub asked : Question → Claimed

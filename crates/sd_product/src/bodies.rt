@@ -39,7 +39,7 @@ impl<'a> Model for PairBodies<'a> {
 }
 
 impl<'a> PairBodies<'a> {
-    /// The bodies of a pair. More than 2^32 - 1 symbols are answered as want of memory.
+    /// The bodies of a pair. More than 2^32 - 1 symbols are answered as out of memory.
     pub fn new(alloc: Global, work: &'a Work, pair: u32) -> Result<PairBodies<'a>, NoMemory>
         requires { pair < length (pairs_in work.now) }
         ensures { IfOk result (λ bodies. bodies ≡ record { work = work.now; pair = pair }) }

@@ -6,7 +6,7 @@ ghost use Rattle.sd_vcgen.specs.Numbers.{Denotes, DenoteAll};
 ghost use Rattle.sd_product.specs.Query.{axioms_of, conditions_of, all_related, premises_of, claim_of, facts_of, query_of};
 ghost use Rattle.sd_product.specs.Numbers.{Adds};
 ghost use Rattle.sd_product.specs.Sides.{side_at, IsSideWithin};
-ghost use Rattle.sd_product.specs.Questions.{work_in, quiets_in, asked, IsQuestion, IsSorted, AreSidesFor};
+ghost use Rattle.sd_product.specs.Questions.{work_in, infallibles_in, asked, IsQuestion, IsSorted, AreSidesFor};
 
 use crate::apart::put_uniques;
 use crate::calls::{Claims, put_all_related};
@@ -205,7 +205,7 @@ fn put_question(
 ) -> Result<Items<TermId>, NoMemory>
     requires question { IsQuestion question.now }
     requires sides { AreSidesFor question.now bank.old sides.now }
-    ensures { IfOk result (λ ids. DenoteAll bank.new ids (query_of (work_in question.now) (quiets_in question.now) question.now.table.now (asked question.now))) }
+    ensures { IfOk result (λ ids. DenoteAll bank.new ids (query_of (work_in question.now) (infallibles_in question.now) question.now.table.now (asked question.now))) }
 {
     match sides {
         Some(sides) => put_facts(bank, question, &sides.old, &sides.new),
@@ -223,7 +223,7 @@ pub(crate) fn put_query(
     requires question { IsQuestion question.now }
     requires sorts { IsSorted question.now }
     requires sides { AreSidesFor question.now bodies.now sides.now }
-    ensures { IfOk result (λ q. q ≡ query_of (work_in question.now) (quiets_in question.now) question.now.table.now (asked question.now)) }
+    ensures { IfOk result (λ q. q ≡ query_of (work_in question.now) (infallibles_in question.now) question.now.table.now (asked question.now)) }
 {
     let mut bank = bodies.clone_of(alloc)?;
     let facts = put_question(alloc, &mut bank, question, sides)?;

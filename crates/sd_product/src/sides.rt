@@ -25,7 +25,7 @@ pub(crate) struct Side {
     pub(crate) body: BodyTerms,
 }
 
-/// How many symbols the inputs of a procedure take. More than a `u32` counts are answered as want of memory.
+/// How many symbols the inputs of a procedure take. More than a `u32` counts are answered as out of memory.
 fn input_count(context: &Context<'_>, procedure: &CoreProc) -> Result<u32, NoMemory>
     ensures { IfOk result (λ n. n ≡ query.input_count context.now.program.now procedure.now) }
 {

@@ -10,7 +10,7 @@ ghost use Rattle.sd_product.specs.Work as held;
 ghost use Rattle.sd_product.specs.Work.{IsHeld, IsAt, pairs_in, claims_in, work_of};
 ghost use Rattle.sd_product.specs.Claims.{claims_of, AreTables};
 ghost use Rattle.sd_product.specs.Bodies.{IsAbout, count_before};
-ghost use Rattle.sd_product.specs.Questions.{work_in, quiets_in, asked, IsQuestion, IsSorted};
+ghost use Rattle.sd_product.specs.Questions.{work_in, infallibles_in, asked, IsQuestion, IsSorted};
 ghost use Rattle.sd_product.specs.WorkErrors.{Tells};
 
 use crate::calls::Claims;
@@ -21,7 +21,7 @@ use sd_cand::{Candidate, LiveTable, candidates};
 use sd_config::Settings;
 use sd_core::CoreProgram;
 use sd_match::{MatchError, Pairs, pair_up};
-use sd_runs::quiet_procedures;
+use sd_runs::infallible_procedures;
 use sd_vcgen::Context;
 use sqlite_items::Items;
 use std::alloc::Global;
@@ -71,8 +71,8 @@ impl From<MatchError> for WorkError {
 pub struct Work {
     old: CoreProgram,
     new: CoreProgram,
-    old_quiet: Vec<bool>,
-    new_quiet: Vec<bool>,
+    old_infallible: Vec<bool>,
+    new_infallible: Vec<bool>,
     pairs: Pairs,
     candidates: Vec<Items<Candidate>>,
     /// By the place of an old procedure: its pair.
@@ -133,8 +133,8 @@ impl Work {
         requires pairs { pairs ≡ pairs_of old new }
         ensures { IfOk result (λ work. (work.old ≡ old) × (work.new ≡ new)) }
     {
-        let old_quiet = quiet_procedures(alloc, old.procs.as_slice())?;
-        let new_quiet = quiet_procedures(alloc, new.procs.as_slice())?;
+        let old_infallible = infallible_procedures(alloc, old.procs.as_slice())?;
+        let new_infallible = infallible_procedures(alloc, new.procs.as_slice())?;
         let candidates = candidates(alloc, &pairs)?;
         let pair_of_old = pairs_by_old(alloc, &pairs, old.procs.len())?;
         let first = first_numbers(alloc, candidates.as_slice())?;
@@ -142,8 +142,8 @@ impl Work {
         Ok(Work {
             old,
             new,
-            old_quiet,
-            new_quiet,
+            old_infallible,
+            new_infallible,
             pairs,
             candidates,
             pair_of_old,
@@ -181,7 +181,7 @@ impl Work {
         self.candidates[pair as usize].as_slice()
     }
 
-    /// The programs can be compared, and the quiet procedures are theirs.
+    /// The programs can be compared, and the infallible procedures are theirs.
     pub fn is_held(&self)
         ensures { IsHeld self.now }
     {
@@ -231,23 +231,23 @@ impl Work {
         }
     }
 
-    /// The old program, with its quiet procedures.
+    /// The old program, with its infallible procedures.
     pub(crate) fn old_context(&self) -> Context<'_>
-        ensures { context_of result ≡ old_context (work_of self.now.old self.now.new) (held.quiets_in self.now) }
+        ensures { context_of result ≡ old_context (work_of self.now.old self.now.new) (held.infallibles_in self.now) }
     {
         Context {
             program: &self.old,
-            quiet: self.old_quiet.as_slice(),
+            infallible: self.old_infallible.as_slice(),
         }
     }
 
-    /// The new program, with its quiet procedures.
+    /// The new program, with its infallible procedures.
     pub(crate) fn new_context(&self) -> Context<'_>
-        ensures { context_of result ≡ new_context (work_of self.now.old self.now.new) (held.quiets_in self.now) }
+        ensures { context_of result ≡ new_context (work_of self.now.old self.now.new) (held.infallibles_in self.now) }
     {
         Context {
             program: &self.new,
-            quiet: self.new_quiet.as_slice(),
+            infallible: self.new_infallible.as_slice(),
         }
     }
 
@@ -256,7 +256,7 @@ impl Work {
         requires within { candidate < length (claims_in self.now) }
         requires size { length table.now ≡ length (claims_in self.now) }
         ensures work { work_in result ≡ work_of self.now.old self.now.new }
-        ensures quiets { quiets_in result ≡ held.quiets_in self.now }
+        ensures infallibles { infallibles_in result ≡ held.infallibles_in self.now }
         ensures asked { slice_get (claims_in self.now) candidate ≡ Some (asked result) }
         ensures table { result.table.now ≡ table.now }
         ensures question { IsQuestion result }

@@ -4,8 +4,6 @@
 mod divisor;
 mod form;
 mod row;
-#[cfg(test)]
-mod tests;
 
 pub use divisor::{divisor_of, gcd, multipliers, quotient, quotient_down};
 pub use form::Form;

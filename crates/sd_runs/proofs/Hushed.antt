@@ -1,4 +1,4 @@
--- A quiet procedure ends with its flag down.
+-- A infallible procedure ends with its flag down.
 use Rattle.std.proofs.Common.{◌≡◌, ℕ, zero, suc, List, [], ◌∷◌, ◌++◌, Option, Some, None, refl, sym, ◌∙◌}
 use Rattle.std.specs.Prelude.{Bool, true, false, ◌||◌, map, slice_get, if◌then◌else◌}
 use Rattle.std.specs.List.{AllByRecursion}
@@ -10,7 +10,7 @@ use Rattle.sd_core.specs.declared.CoreProc.{CoreProc}
 use Rattle.sd_core.specs.Store.{Store}
 use Rattle.sd_core.specs.Run.{value_in, End, Ended, Blocked, Unfinished, Step, Goes, Stops, Blocks, Lacks, Calls, receive, then_run, run, run_row, run_all, enter, end_of, run_number, calls_within}
 use Rattle.sd_runs.specs.Calls.{callees, row_callees, callees_of, has_fail, row_has_fail, any_fail}
-use Rattle.sd_runs.specs.Quiet.{IsQuietBody, QuietRuns}
+use Rattle.sd_runs.specs.Infallible.{IsInfallibleBody, InfallibleRuns}
 
 -- ---- lists
 
@@ -28,75 +28,75 @@ neither false q h = (refl, h)
 
 -- ---- runs
 
-abbrev StepQuiet : Step → Type 0
-StepQuiet (Goes st) = Unit {0}
-StepQuiet (Stops st flag) = flag ≡ false
-StepQuiet Blocks = Unit {0}
-StepQuiet Lacks = Unit {0}
+abbrev StepInfallible : Step → Type 0
+StepInfallible (Goes st) = Unit {0}
+StepInfallible (Stops st flag) = flag ≡ false
+StepInfallible Blocks = Unit {0}
+StepInfallible Lacks = Unit {0}
 
-then_quiet : (x : Step) (go : Store Value → Step) → StepQuiet x → ((st : Store Value) → StepQuiet (go st)) → StepQuiet (then_run x go)
-then_quiet (Goes st) go a h = h st
-then_quiet (Stops st flag) go a h = a
-then_quiet Blocks go a h = tt
-then_quiet Lacks go a h = tt
+then_infallible : (x : Step) (go : Store Value → Step) → StepInfallible x → ((st : Store Value) → StepInfallible (go st)) → StepInfallible (then_run x go)
+then_infallible (Goes st) go a h = h st
+then_infallible (Stops st flag) go a h = a
+then_infallible Blocks go a h = tt
+then_infallible Lacks go a h = tt
 
-if_quiet : (b : Bool) (x y : Step) → StepQuiet x → StepQuiet y → StepQuiet (if b then x else y)
-if_quiet true x y a c = a
-if_quiet false x y a c = c
+if_infallible : (b : Bool) (x y : Step) → StepInfallible x → StepInfallible y → StepInfallible (if b then x else y)
+if_infallible true x y a c = a
+if_infallible false x y a c = c
 
 -- calls of these procedures end with the flag down
 abbrev Hush : Calls → (ℕ → Bool) → Type 0
-Hush calls quiet = (q : ℕ) (ins globals outs after : List Value) (flag : Bool) → quiet q ≡ true → calls q ins globals ≡ Ended outs after flag → flag ≡ false
+Hush calls infallible = (q : ℕ) (ins globals outs after : List Value) (flag : Bool) → infallible q ≡ true → calls q ins globals ≡ Ended outs after flag → flag ≡ false
 
-module _ (I : Interpretation) (calls : Calls) (quiet : ℕ → Bool) (hushed : Hush calls quiet) where
-  received_quiet : (q : ℕ) (ins : List Value) (st : Store Value) (spots : List Spot) → quiet q ≡ true → (end : End) → calls q ins st.globals ≡ end → StepQuiet (receive st spots end)
-  received_quiet q ins st spots h (Ended outs after true) e = hushed q ins st.globals outs after true h e
-  received_quiet q ins st spots h (Ended outs after false) e = tt
-  received_quiet q ins st spots h Blocked e = tt
-  received_quiet q ins st spots h Unfinished e = tt
+module _ (I : Interpretation) (calls : Calls) (infallible : ℕ → Bool) (hushed : Hush calls infallible) where
+  received_infallible : (q : ℕ) (ins : List Value) (st : Store Value) (spots : List Spot) → infallible q ≡ true → (end : End) → calls q ins st.globals ≡ end → StepInfallible (receive st spots end)
+  received_infallible q ins st spots h (Ended outs after true) e = hushed q ins st.globals outs after true h e
+  received_infallible q ins st spots h (Ended outs after false) e = tt
+  received_infallible q ins st spots h Blocked e = tt
+  received_infallible q ins st spots h Unfinished e = tt
 
   mutual
-    run_quiet : (s : CoreStmt) → has_fail s ≡ false → AllByRecursion (λ q. quiet q ≡ true) (callees s) → (st : Store Value) → StepQuiet (run I calls s st)
-    run_quiet (Assign spots es) f h st = tt
-    run_quiet (If' c n a m b) f h st =
+    run_infallible : (s : CoreStmt) → has_fail s ≡ false → AllByRecursion (λ q. infallible q ≡ true) (callees s) → (st : Store Value) → StepInfallible (run I calls s st)
+    run_infallible (Assign spots es) f h st = tt
+    run_infallible (If' c n a m b) f h st =
         let fs = neither (row_has_fail a) (row_has_fail b) f in
-        if_quiet (truth_of (value_in I st c)) _ _
-        (run_row_quiet a fs.0 (all_front (λ q. quiet q ≡ true) (row_callees a) (row_callees b) h) st)
-        (run_row_quiet b fs.1 (all_back (λ q. quiet q ≡ true) (row_callees a) (row_callees b) h) st)
-    run_quiet (Call spots q args) f h st = received_quiet q (map (value_in I st) args) st spots h.0 _ refl
-    run_quiet (Assume c) f h st = if_quiet (truth_of (value_in I st c)) (Goes st) Blocks tt tt
-    run_quiet Fail f h st = absurd (cc)
-    run_quiet Return f h st = refl
+        if_infallible (truth_of (value_in I st c)) _ _
+        (run_row_infallible a fs.0 (all_front (λ q. infallible q ≡ true) (row_callees a) (row_callees b) h) st)
+        (run_row_infallible b fs.1 (all_back (λ q. infallible q ≡ true) (row_callees a) (row_callees b) h) st)
+    run_infallible (Call spots q args) f h st = received_infallible q (map (value_in I st) args) st spots h.0 _ refl
+    run_infallible (Assume c) f h st = if_infallible (truth_of (value_in I st c)) (Goes st) Blocks tt tt
+    run_infallible Fail f h st = absurd (cc)
+    run_infallible Return f h st = refl
 
-    run_row_quiet : {n : _} (ss : Row_of-CoreStmt n) → row_has_fail ss ≡ false → AllByRecursion (λ q. quiet q ≡ true) (row_callees ss) → (st : Store Value) → StepQuiet (run_row I calls ss st)
-    run_row_quiet end_of-CoreStmt f h st = tt
-    run_row_quiet (more_of-CoreStmt s ss) f h st =
+    run_row_infallible : {n : _} (ss : Row_of-CoreStmt n) → row_has_fail ss ≡ false → AllByRecursion (λ q. infallible q ≡ true) (row_callees ss) → (st : Store Value) → StepInfallible (run_row I calls ss st)
+    run_row_infallible end_of-CoreStmt f h st = tt
+    run_row_infallible (more_of-CoreStmt s ss) f h st =
         let fs = neither (has_fail s) (row_has_fail ss) f in
-        let here = all_front (λ q. quiet q ≡ true) (callees s) (row_callees ss) h in
-        let rest = all_back (λ q. quiet q ≡ true) (callees s) (row_callees ss) h in
-        then_quiet (run I calls s st) (run_row I calls ss) (run_quiet s fs.0 here st) (λ st1. run_row_quiet ss fs.1 rest st1)
+        let here = all_front (λ q. infallible q ≡ true) (callees s) (row_callees ss) h in
+        let rest = all_back (λ q. infallible q ≡ true) (callees s) (row_callees ss) h in
+        then_infallible (run I calls s st) (run_row I calls ss) (run_infallible s fs.0 here st) (λ st1. run_row_infallible ss fs.1 rest st1)
 
-  run_all_quiet : (ss : List CoreStmt) → any_fail ss ≡ false → AllByRecursion (λ q. quiet q ≡ true) (callees_of ss) → (st : Store Value) → StepQuiet (run_all I calls ss st)
-  run_all_quiet [] f h st = tt
-  run_all_quiet (s ∷ ss) f h st =
+  run_all_infallible : (ss : List CoreStmt) → any_fail ss ≡ false → AllByRecursion (λ q. infallible q ≡ true) (callees_of ss) → (st : Store Value) → StepInfallible (run_all I calls ss st)
+  run_all_infallible [] f h st = tt
+  run_all_infallible (s ∷ ss) f h st =
       let fs = neither (has_fail s) (any_fail ss) f in
-      let here = all_front (λ q. quiet q ≡ true) (callees s) (callees_of ss) h in
-      let rest = all_back (λ q. quiet q ≡ true) (callees s) (callees_of ss) h in
-      then_quiet (run I calls s st) (run_all I calls ss) (run_quiet s fs.0 here st) (λ st1. run_all_quiet ss fs.1 rest st1)
+      let here = all_front (λ q. infallible q ≡ true) (callees s) (callees_of ss) h in
+      let rest = all_back (λ q. infallible q ≡ true) (callees s) (callees_of ss) h in
+      then_infallible (run I calls s st) (run_all I calls ss) (run_infallible s fs.0 here st) (λ st1. run_all_infallible ss fs.1 rest st1)
 
-quiet_end : (p : CoreProc) (x : Step) (outs after : List Value) (flag : Bool) → StepQuiet x → end_of p x ≡ Ended outs after flag → flag ≡ false
-quiet_end p (Goes st) outs after flag a e = cc
-quiet_end p (Stops st b) outs after flag a e = let f : b ≡ flag = cc in sym f ∙ a
-quiet_end p Blocks outs after flag a e = cc
-quiet_end p Lacks outs after flag a e = cc
+infallible_end : (p : CoreProc) (x : Step) (outs after : List Value) (flag : Bool) → StepInfallible x → end_of p x ≡ Ended outs after flag → flag ≡ false
+infallible_end p (Goes st) outs after flag a e = cc
+infallible_end p (Stops st b) outs after flag a e = let f : b ≡ flag = cc in sym f ∙ a
+infallible_end p Blocks outs after flag a e = cc
+infallible_end p Lacks outs after flag a e = cc
 
-quiet_number : (I : Interpretation) (calls : Calls) (quiet : ℕ → Bool) → Hush calls quiet → (o : Option CoreProc) → ((p : CoreProc) → o ≡ Some p → IsQuietBody quiet p) → (ins globals outs after : List Value) (flag : Bool) → run_number I calls o ins globals ≡ Ended outs after flag → flag ≡ false
-quiet_number I calls quiet hushed None h ins globals outs after flag e = cc
-quiet_number I calls quiet hushed (Some p) h ins globals outs after flag e =
+infallible_number : (I : Interpretation) (calls : Calls) (infallible : ℕ → Bool) → Hush calls infallible → (o : Option CoreProc) → ((p : CoreProc) → o ≡ Some p → IsInfallibleBody infallible p) → (ins globals outs after : List Value) (flag : Bool) → run_number I calls o ins globals ≡ Ended outs after flag → flag ≡ false
+infallible_number I calls infallible hushed None h ins globals outs after flag e = cc
+infallible_number I calls infallible hushed (Some p) h ins globals outs after flag e =
     let b = h p refl in
-    quiet_end p _ outs after flag (run_all_quiet I calls quiet hushed p.body b.no_fail b.callees (enter I.start p ins globals)) e
+    infallible_end p _ outs after flag (run_all_infallible I calls infallible hushed p.body b.no_fail b.callees (enter I.start p ins globals)) e
 
-pub quiet_runs_within : QuietRuns
-quiet_runs_within I procs quiet set zero q ins globals outs after flag h e = cc
-quiet_runs_within I procs quiet set (suc n) q ins globals outs after flag h e =
-    quiet_number I (calls_within I procs n) quiet (λ q' i g o a f hq eq. quiet_runs_within I procs quiet set n q' i g o a f hq eq) (slice_get procs q) (λ p found. set q p h found) ins globals outs after flag e
+pub infallible_runs_within : InfallibleRuns
+infallible_runs_within I procs infallible set zero q ins globals outs after flag h e = cc
+infallible_runs_within I procs infallible set (suc n) q ins globals outs after flag h e =
+    infallible_number I (calls_within I procs n) infallible (λ q' i g o a f hq eq. infallible_runs_within I procs infallible set n q' i g o a f hq eq) (slice_get procs q) (λ p found. set q p h found) ins globals outs after flag e

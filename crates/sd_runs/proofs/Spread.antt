@@ -1,4 +1,4 @@
--- A mark that spreads to callers leaves the quiet procedures unmarked.
+-- A mark that spreads to callers leaves the infallible procedures unmarked.
 use Rattle.std.proofs.Common.{◌≡◌, ℕ, zero, suc, ◌+◌, ◌<◌, ◌⊎◌, inl, inr, List, [], ◌∷◌, ◌++◌, length, replicate, get_or, Option, refl, sym, ap, ◌∙◌, subst, ⊎_elim, arith, length-append}
 use Rattle.std.specs.Prelude.{Bool, true, false, not, ◌&&◌, set, Some, slice_get, Contains, nat_lt, if◌then◌else◌}
 use Rattle.std.specs.List.{AllByRecursion, list_all}
@@ -7,8 +7,8 @@ use Rattle.std.proofs.lemmas.List.Elements.{Contains-append_left, Contains-push,
 use Rattle.std.proofs.lemmas.Bool.{cases_eq, ltb-true, lt-ltb}
 use Rattle.sd_core.specs.declared.CoreProc.{CoreProc}
 use Rattle.sd_runs.specs.Calls.{callees_of, any_fail}
-use Rattle.sd_runs.specs.Quiet.{IsQuietBody, IsQuietSet, AreIn, AreTheQuiet, entry_at}
-use Rattle.sd_runs.specs.Marks.{callees_in, callees_at, Marks, marked, all_marked, may_be_quiet, refuted_from, with_callers}
+use Rattle.sd_runs.specs.Infallible.{IsInfallibleBody, IsInfallibleSet, AreIn, AreTheInfallible, entry_at}
+use Rattle.sd_runs.specs.Marks.{callees_in, callees_at, Marks, marked, all_marked, may_be_infallible, refuted_from, with_callers}
 use Rattle.sd_runs.proofs.Contained.{contains_first, contains_later, contains_none, contains_cases}
 use Rattle.sd_runs.proofs.Callers.{AreCallers, are_callers, at}
 
@@ -177,49 +177,49 @@ each_below n (d ∷ cs) h q c =
     below : (d : ℕ) → nat_lt d n ≡ true → d < n
     below d e = ltb-true d n e
 
-all_below : (n : ℕ) (quiet : ℕ → Bool) → ((q : ℕ) → quiet q ≡ true → q < n) → (cs : List ℕ) → AllByRecursion (λ q. quiet q ≡ true) cs → list_all (λ q. nat_lt q n) cs ≡ true
-all_below n quiet h [] a = refl
-all_below n quiet h (d ∷ cs) a = together (nat_lt d n) (list_all (λ q. nat_lt q n) cs) (below d (h d a.0)) (all_below n quiet h cs a.1)
+all_below : (n : ℕ) (infallible : ℕ → Bool) → ((q : ℕ) → infallible q ≡ true → q < n) → (cs : List ℕ) → AllByRecursion (λ q. infallible q ≡ true) cs → list_all (λ q. nat_lt q n) cs ≡ true
+all_below n infallible h [] a = refl
+all_below n infallible h (d ∷ cs) a = together (nat_lt d n) (list_all (λ q. nat_lt q n) cs) (below d (h d a.0)) (all_below n infallible h cs a.1)
   where
     below : (d : ℕ) → d < n → nat_lt d n ≡ true
     below d e = lt-ltb d n e
 
-pub may-told : (n : ℕ) (p : CoreProc) → may_be_quiet n p ≡ true → (any_fail p.body ≡ false) × ((q : ℕ) → Contains (callees_of p.body) q → q < n)
+pub may-told : (n : ℕ) (p : CoreProc) → may_be_infallible n p ≡ true → (any_fail p.body ≡ false) × ((q : ℕ) → Contains (callees_of p.body) q → q < n)
 may-told n p h =
     let hs = both (not (any_fail p.body)) (list_all (λ q. nat_lt q n) (callees_of p.body)) h in
     (denied (any_fail p.body) hs.0, each_below n (callees_of p.body) hs.1)
 
-pub quiet-may : (procs : List CoreProc) (quiet : ℕ → Bool) → AreIn procs quiet → (p : CoreProc) → IsQuietBody quiet p → may_be_quiet (length procs) p ≡ true
-quiet-may procs quiet h p b =
-    together (not (any_fail p.body)) (list_all (λ q. nat_lt q (length procs)) (callees_of p.body)) (ap not b.no_fail) (all_below (length procs) quiet h (callees_of p.body) b.callees)
+pub infallible-may : (procs : List CoreProc) (infallible : ℕ → Bool) → AreIn procs infallible → (p : CoreProc) → IsInfallibleBody infallible p → may_be_infallible (length procs) p ≡ true
+infallible-may procs infallible h p b =
+    together (not (any_fail p.body)) (list_all (λ q. nat_lt q (length procs)) (callees_of p.body)) (ap not b.no_fail) (all_below (length procs) infallible h (callees_of p.body) b.callees)
 
 -- ---- the first marks
 
-refuted-each : (n r : ℕ) (procs : List CoreProc) (k x : ℕ) (p : CoreProc) → x ≡ r + k → slice_get procs k ≡ Some p → may_be_quiet n p ≡ false → Contains (refuted_from n r procs) x
+refuted-each : (n r : ℕ) (procs : List CoreProc) (k x : ℕ) (p : CoreProc) → x ≡ r + k → slice_get procs k ≡ Some p → may_be_infallible n p ≡ false → Contains (refuted_from n r procs) x
 refuted-each n r [] k x p e f m = absurd (cc)
 refuted-each n r (o ∷ procs) zero x p e f m =
     let same : o ≡ p = cc in
     let here : r ≡ x = omega arith in
-    let off : may_be_quiet n o ≡ false = ap (may_be_quiet n) same ∙ m in
+    let off : may_be_infallible n o ≡ false = ap (may_be_infallible n) same ∙ m in
     subst (λ (b : Bool). Contains (if b then refuted_from n (suc r) procs else r ∷ refuted_from n (suc r) procs) x) (sym off) (subst (λ (y : ℕ). Contains (r ∷ refuted_from n (suc r) procs) y) here (contains_first r (refuted_from n (suc r) procs)))
-refuted-each n r (o ∷ procs) (suc k) x p e f m = go (may_be_quiet n o) (refuted-each n (suc r) procs k x p (omega arith) f m)
+refuted-each n r (o ∷ procs) (suc k) x p e f m = go (may_be_infallible n o) (refuted-each n (suc r) procs k x p (omega arith) f m)
   where
     go : (b : Bool) → Contains (refuted_from n (suc r) procs) x → Contains (if b then refuted_from n (suc r) procs else r ∷ refuted_from n (suc r) procs) x
     go true h = h
     go false h = contains_later r x (refuted_from n (suc r) procs) h
 
--- the procedure at a place can't be quiet by its body
+-- the procedure at a place can't be infallible by its body
 abbrev Refuted : ℕ → List CoreProc → ℕ → Type 0
-Refuted n procs k = (p : CoreProc) × (slice_get procs k ≡ Some p) × (may_be_quiet n p ≡ false)
+Refuted n procs k = (p : CoreProc) × (slice_get procs k ≡ Some p) × (may_be_infallible n p ≡ false)
 
 refuted-only : (n r : ℕ) (procs : List CoreProc) (x : ℕ) → Contains (refuted_from n r procs) x → (k : ℕ) × (x ≡ r + k) × Refuted n procs k
 refuted-only n r [] x h = contains_none x h
-refuted-only n r (o ∷ procs) x h = go (may_be_quiet n o) refl (λ i. refuted-only n (suc r) procs x i) h
+refuted-only n r (o ∷ procs) x h = go (may_be_infallible n o) refl (λ i. refuted-only n (suc r) procs x i) h
   where
     later : (k : ℕ) × (x ≡ suc r + k) × Refuted n procs k → (k : ℕ) × (x ≡ r + k) × Refuted n (o ∷ procs) k
     later i = (suc i.0, (omega (arith, i.1)), i.2)
 
-    go : (b : Bool) → may_be_quiet n o ≡ b → (Contains (refuted_from n (suc r) procs) x → (k : ℕ) × (x ≡ suc r + k) × Refuted n procs k) → Contains (if b then refuted_from n (suc r) procs else r ∷ refuted_from n (suc r) procs) x → (k : ℕ) × (x ≡ r + k) × Refuted n (o ∷ procs) k
+    go : (b : Bool) → may_be_infallible n o ≡ b → (Contains (refuted_from n (suc r) procs) x → (k : ℕ) × (x ≡ suc r + k) × Refuted n procs k) → Contains (if b then refuted_from n (suc r) procs else r ∷ refuted_from n (suc r) procs) x → (k : ℕ) × (x ≡ r + k) × Refuted n (o ∷ procs) k
     go true e f i = later (f i)
     go false e f i = ⊎_elim
         (λ (s : r ≡ x). (zero, (omega (arith, s)), (o, refl, e)))
@@ -234,7 +234,7 @@ pub record Spreads (procs : List CoreProc) (marks : Marks) : Type 0 where
   pub own : (r : ℕ) (p : CoreProc) → slice_get procs r ≡ Some p → entry_at marks.0 r ≡ true → any_fail p.body ≡ false
   pub closed : (r q : ℕ) → entry_at marks.0 r ≡ true → Contains (callees_at procs r) q → entry_at marks.0 q ≡ false → Contains marks.1 q
   pub waits : (q : ℕ) → Contains marks.1 q → (q < length procs) × (entry_at marks.0 q ≡ false)
-  pub above : (other : ℕ → Bool) → IsQuietSet procs other → AreIn procs other → (q : ℕ) → other q ≡ true → entry_at marks.0 q ≡ true
+  pub above : (other : ℕ → Bool) → IsInfallibleSet procs other → AreIn procs other → (q : ℕ) → other q ≡ true → entry_at marks.0 q ≡ true
 
 -- there is a procedure at a place
 found_at : (procs : List CoreProc) (q : ℕ) → q < length procs → (p : CoreProc) × (slice_get procs q ≡ Some p)
@@ -248,16 +248,16 @@ caller_found [] r q c = contains_none q c
 caller_found (p ∷ procs) zero q c = (p, refl, c)
 caller_found (p ∷ procs) (suc r) q c = caller_found procs r q c
 
-all_at : (quiet : ℕ → Bool) (cs : List ℕ) (q : ℕ) → AllByRecursion (λ c. quiet c ≡ true) cs → Contains cs q → quiet q ≡ true
-all_at quiet [] q a c = contains_none q c
-all_at quiet (d ∷ cs) q a c = ⊎_elim
-    (λ (s : d ≡ q). subst (λ (j : ℕ). quiet j ≡ true) s a.0)
-    (λ (k : Contains cs q). all_at quiet cs q a.1 k)
+all_at : (infallible : ℕ → Bool) (cs : List ℕ) (q : ℕ) → AllByRecursion (λ c. infallible c ≡ true) cs → Contains cs q → infallible q ≡ true
+all_at infallible [] q a c = contains_none q c
+all_at infallible (d ∷ cs) q a c = ⊎_elim
+    (λ (s : d ≡ q). subst (λ (j : ℕ). infallible j ≡ true) s a.0)
+    (λ (k : Contains cs q). all_at infallible cs q a.1 k)
     (contains_cases q d cs c)
 
-all_by : (quiet : ℕ → Bool) (cs : List ℕ) → ((q : ℕ) → Contains cs q → quiet q ≡ true) → AllByRecursion (λ c. quiet c ≡ true) cs
-all_by quiet [] h = tt
-all_by quiet (d ∷ cs) h = (h d (contains_first d cs), all_by quiet cs (λ q c. h q (contains_later d q cs c)))
+all_by : (infallible : ℕ → Bool) (cs : List ℕ) → ((q : ℕ) → Contains cs q → infallible q ≡ true) → AllByRecursion (λ c. infallible c ≡ true) cs
+all_by infallible [] h = tt
+all_by infallible (d ∷ cs) h = (h d (contains_first d cs), all_by infallible cs (λ q c. h q (contains_later d q cs c)))
 
 pub spread_begins : (procs : List CoreProc) → Spreads procs (all_marked (refuted_from (length procs) 0 procs) (replicate (length procs) true, []))
 spread_begins procs =
@@ -269,9 +269,9 @@ spread_begins procs =
     let long : length (replicate n true) ≡ n = length-replicate n true in
     let start = λ (q : ℕ) (l : q < n). get_or-replicate n q true false l in
     let may = λ (r : ℕ) (p : CoreProc) (f : slice_get procs r ≡ Some p) (t : entry_at to.0 r ≡ true). ⊎_elim
-    (λ (u : may_be_quiet n p ≡ true). may-told n p u)
-    (λ (u : may_be_quiet n p ≡ false). clash (entry_at to.0 r) t (m.off r (refuted-each n 0 procs r r p (omega arith) f u)))
-    (true_or_false (may_be_quiet n p)) in
+    (λ (u : may_be_infallible n p ≡ true). may-told n p u)
+    (λ (u : may_be_infallible n p ≡ false). clash (entry_at to.0 r) t (m.off r (refuted-each n 0 procs r r p (omega arith) f u)))
+    (true_or_false (may_be_infallible n p)) in
     record {
       size = m.size ∙ long;
       own = λ r p f t. (may r p f t).0;
@@ -286,7 +286,7 @@ spread_begins procs =
           let i = refuted-only n 0 procs q (m.only q (start q (inside q o)) t).0 in
           let here : q ≡ i.0 = omega (arith, i.1) in
           let found : slice_get procs q ≡ Some i.2.0 = subst (λ (j : ℕ). slice_get procs j ≡ Some i.2.0) (sym here) i.2.1 in
-          clash (may_be_quiet n i.2.0) (quiet-may procs other inside i.2.0 (set q i.2.0 o found)) i.2.2)
+          clash (may_be_infallible n i.2.0) (infallible-may procs other inside i.2.0 (set q i.2.0 o found)) i.2.2)
           (true_or_false (entry_at to.0 q));
     }
 
@@ -323,8 +323,8 @@ spread_more procs callers are qs ws c s =
           (λ (t : entry_at to.0 q ≡ false).
           let calls = are.only c q last.0 (m.only q (s.above other set inside q o) t).0 in
           let p = caller_found procs q c calls in
-          let quiet = all_at other (callees_of p.0.body) c (set q p.0 o p.1).callees p.2 in
-          clash (entry_at qs c) (s.above other set inside c quiet) last.1)
+          let infallible = all_at other (callees_of p.0.body) c (set q p.0 o p.1).callees p.2 in
+          clash (entry_at qs c) (s.above other set inside c infallible) last.1)
           (true_or_false (entry_at to.0 q));
     }
 
@@ -332,7 +332,7 @@ spread_more procs callers are qs ws c s =
 pub spread_less : (rs : List ℕ) (qs : List Bool) (ws : List ℕ) → length (all_marked rs (qs, ws)).1 + unmarked (all_marked rs (qs, ws)).0 ≡ length ws + unmarked qs
 spread_less rs qs ws = (moves_all rs (qs, ws)).less
 
-pub spread_done : (procs : List CoreProc) (qs : List Bool) (ws : List ℕ) → length ws ≡ 0 → Spreads procs (qs, ws) → AreTheQuiet procs (entry_at qs)
+pub spread_done : (procs : List CoreProc) (qs : List Bool) (ws : List ℕ) → length ws ≡ 0 → Spreads procs (qs, ws) → AreTheInfallible procs (entry_at qs)
 spread_done procs qs ws long s = record {
   is_set = λ q p t f. record {
     no_fail = s.own q p f t;

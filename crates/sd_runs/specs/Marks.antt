@@ -1,4 +1,4 @@
--- How the quiet procedures are found: from those whose bodies show that they aren't, a mark spreads to callers.
+-- How the infallible procedures are found: from those whose bodies show that they aren't, a mark spreads to callers.
 use Rattle.std.specs.Prelude.{ℕ, suc, Bool, false, not, ◌&&◌, List, [], ◌∷◌, ◌++◌, Option, Some, None, get_or, set, slice_get, nat_lt, if◌then◌else◌}
 use Rattle.std.specs.List.{list_all}
 use Rattle.sd_core.specs.declared.CoreProc.{CoreProc}
@@ -41,10 +41,10 @@ all_marked [] marks = marks
 all_marked (r ∷ rs) marks = all_marked rs (marked r marks)
 
 -- whether the body has no failure, and calls only what is there, of this many procedures
-abbrev pub may_be_quiet : ℕ → CoreProc → Bool
-may_be_quiet count p = not (any_fail p.body) && list_all (λ q. nat_lt q count) (callees_of p.body)
+abbrev pub may_be_infallible : ℕ → CoreProc → Bool
+may_be_infallible count p = not (any_fail p.body) && list_all (λ q. nat_lt q count) (callees_of p.body)
 
 -- the places of the others, from place r on
 abbrev pub refuted_from : (count r : ℕ) → List CoreProc → List ℕ
 refuted_from count r [] = []
-refuted_from count r (p ∷ procs) = if may_be_quiet count p then refuted_from count (suc r) procs else r ∷ refuted_from count (suc r) procs
+refuted_from count r (p ∷ procs) = if may_be_infallible count p then refuted_from count (suc r) procs else r ∷ refuted_from count (suc r) procs

@@ -1,6 +1,6 @@
 //! What runs keep.
 ghost use Rattle.sd_runs.specs.Kept.{RunsKeep};
-ghost use Rattle.sd_runs.specs.Quiet.{QuietRuns};
+ghost use Rattle.sd_runs.specs.Infallible.{InfallibleRuns};
 ghost use Rattle.sd_runs.specs.Bounds.{MoreCalls};
 
 /// A run gives outs and globals of the declared types, and leaves the globals that its procedure doesn't modify as they were.
@@ -13,7 +13,7 @@ pub fn more_calls()
     ensures { MoreCalls }
 {}
 
-/// A quiet procedure ends with its flag down.
-pub fn quiet_runs()
-    ensures { QuietRuns }
+/// A infallible procedure ends with its flag down.
+pub fn infallible_runs()
+    ensures { InfallibleRuns }
 {}

@@ -2,11 +2,8 @@
 #![tactic(auto)]
 
 mod calls;
+mod infallible;
 pub mod laws;
-mod quiet;
 
 pub use calls::{any_fail, callees_of};
-pub use quiet::quiet_procedures;
-
-#[cfg(test)]
-mod tests;
+pub use infallible::infallible_procedures;

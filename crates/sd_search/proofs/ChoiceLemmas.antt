@@ -14,11 +14,11 @@ use Rattle.sd_kernel.specs.Known.{Fact, Trail, first_fact, has_fact, by_parts, k
 use Rattle.sd_kernel.specs.Steps.{leaves, named, needs, outcome, chosen_part}
 use Rattle.sd_kernel.specs.Proof.{start}
 use Rattle.sd_cube.specs.Atoms.{is_atom}
-use Rattle.sd_cube.specs.Asked.{IsAsked, choice, order, back, eq_tree}
+use Rattle.sd_cube.specs.Required.{IsRequired, choice, order, back, eq_tree}
 use Rattle.sd_cube.specs.CubeRows.{eliminated_branch}
 use Rattle.sd_cube.specs.OpenCube.{AllKnown}
-use Rattle.sd_cube.specs.Spent.{IsReached, IsDue, Shuts}
-use Rattle.sd_euf.specs.Closed.{IsAskedStep, AreSettled}
+use Rattle.sd_cube.specs.Spent.{IsReached, IsDue, ClosesBranch}
+use Rattle.sd_euf.specs.Closed.{IsRequiredStep, AreSettled}
 use Rattle.sd_search.specs.declared.choice.Choice.{Choice}
 use Rattle.sd_search.specs.declared.choice.Choice.TheVariants as made
 use Rattle.sd_search.specs.Terms.{AreTerms, AllTruthValued, AreValuesUnder, IsOpenAtom, IsReachedAtom}
@@ -91,13 +91,13 @@ eq-atom a b n =
     let f : Bool → Option (Option Bool) = λ q. cond q (Some None) None in
     ap (λ q. not (is_some (f q))) n
 
-pub asked-atom : (terms : List Tree) (b : Trail) (t : Tree) → IsAsked terms b t → is_atom t ≡ true
-asked-atom terms b _ (choice t v h c k) = eq-atom t (chosen_part t v) c.1
-asked-atom terms b _ (order e h i k n) = refl
-asked-atom terms b _ (back e h i k n) = refl
+pub required-atom : (terms : List Tree) (b : Trail) (t : Tree) → IsRequired terms b t → is_atom t ≡ true
+required-atom terms b _ (choice t v h c k) = eq-atom t (chosen_part t v) c.1
+required-atom terms b _ (order e h i k n) = refl
+required-atom terms b _ (back e h i k n) = refl
 
 module _ (facts terms : List Tree) (b : Trail) (ids : List ℕ) (values : List (Option Bool)) (are : map (λ f. tree_at terms f) ids ≡ facts) (within : All (λ f. f < length terms) ids) (is : AreValuesUnder b terms values) where
-  pub closes-by : (k : ℕ) → Begins facts b → k < length ids → known_at values (get_or ids k 0) ≡ Some false → Shuts terms b (Close k ∷ [])
+  pub closes-by : (k : ℕ) → Begins facts b → k < length ids → known_at values (get_or ids k 0) ≡ Some false → ClosesBranch terms b (Close k ∷ [])
   closes-by k h lt e =
       close-outcome terms facts b k (tree_at terms (get_or ids k 0)) h (ap (λ l. slice_get l k) (sym are) ∙ fact-at terms ids k lt) (sym (value-at b terms values (get_or ids k 0) is (within k 0 lt)) ∙ e)
 
@@ -150,10 +150,10 @@ module _ (facts terms : List Tree) (b : Trail) (ids : List ℕ) (values : List (
       due = inr (all-true none some, not_refuted, t.needed (tree_at terms n) (has-at terms (tree_at terms n) n lt refl));
     }
 
-    pub asked-choice : (step : Step) → IsAskedStep terms b step → IsChoice facts terms b (choice_of step)
-    asked-choice (Term line) h = h
-    asked-choice (SplitStep n) h = (h.0, left-due n h.0 (asked-atom terms b (tree_at terms n) h.1) h.2)
-    asked-choice _ h = absurd h
+    pub required-choice : (step : Step) → IsRequiredStep terms b step → IsChoice facts terms b (choice_of step)
+    required-choice (Term line) h = h
+    required-choice (SplitStep n) h = (h.0, left-due n h.0 (required-atom terms b (tree_at terms n) h.1) h.2)
+    required-choice _ h = absurd h
 
     pub left-choice : (classes : List ℕ) (c : Choice) → AreSettled terms b classes → IsLeftAtom terms values c → IsChoice facts terms b c
     left-choice classes (made.Split n) s a = (a.below, left-due n a.below a.atom (open-unknown n a))
@@ -167,7 +167,7 @@ module _ (facts terms : List Tree) (b : Trail) (ids : List ℕ) (values : List (
     }
     left-choice classes _ s a = absurd a
 
-pub asks : (terms : List Tree) (b : Trail) (step : Step) → IsAskedStep terms b step → Asks step
+pub asks : (terms : List Tree) (b : Trail) (step : Step) → IsRequiredStep terms b step → Asks step
 asks terms b (Term line) h = tt
 asks terms b (SplitStep n) h = tt
 asks terms b _ h = absurd h

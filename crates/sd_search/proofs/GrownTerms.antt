@@ -18,7 +18,7 @@ use Rattle.sd_kernel.specs.declared.step.StepCause.{StepCause}
 use Rattle.sd_kernel.specs.declared.step.StepCause.TheVariants.{Shape, Known}
 use Rattle.sd_kernel.specs.Known.{Trail}
 use Rattle.sd_kernel.specs.Steps.{Outcome, leaves, named, needs, outcome, is_read_by, is_map, fits, line_head, first_part, second_part, numbers_next}
-use Rattle.sd_cube.specs.Asked.{IsAsked, choice, order, back}
+use Rattle.sd_cube.specs.Required.{IsRequired, choice, order, back}
 use Rattle.sd_cube.specs.Needed.{IsNeeded, term as is_term, choice as is_choice, order as is_order, back as is_back}
 use Rattle.sd_cube.specs.OpenCube.{AreExtra}
 use Rattle.sd_search.specs.Terms.{AreTerms}
@@ -145,10 +145,10 @@ new-term terms trail line t w c e =
     })
 
 -- what is asked for is needed
-pub asked-needed : (facts terms : List Tree) (b : Trail) (t : Tree) → AreTerms facts terms → IsAsked terms b t → IsNeeded facts t
-asked-needed facts terms b _ w (choice t v h c k) = is_choice t v (w.needed t h) c
-asked-needed facts terms b _ w (order e h i k n) = is_order e (w.needed e h) i
-asked-needed facts terms b _ w (back e h i k n) = is_back e (w.needed e h) i
+pub required-needed : (facts terms : List Tree) (b : Trail) (t : Tree) → AreTerms facts terms → IsRequired terms b t → IsNeeded facts t
+required-needed facts terms b _ w (choice t v h c k) = is_choice t v (w.needed t h) c
+required-needed facts terms b _ w (order e h i k n) = is_order e (w.needed e h) i
+required-needed facts terms b _ w (back e h i k n) = is_back e (w.needed e h) i
 
 pub grown-terms : (facts terms : List Tree) (t : Tree) → AreTerms facts terms → IsNew terms t → IsNeeded facts t → AreTerms facts (terms ++ t ∷ [])
 grown-terms facts terms t w n h = record {

@@ -16,7 +16,7 @@ use Rattle.sd_term.specs.Closed.{IsClosed}
 use Rattle.sd_forms.specs.FactRows.{part_at}
 use Rattle.sd_kernel.specs.Known.{Trail, known, known_by_parts}
 use Rattle.sd_cube.specs.Atoms.{is_atom}
-use Rattle.sd_cube.specs.Asked.{ChoicesHold, OrdersHold, NoneJoined, IsThere, IsTrueEq, choice_eq, order_of, order_back}
+use Rattle.sd_cube.specs.Required.{ChoicesHold, OrdersHold, NoneJoined, IsThere, IsTrueEq, choice_eq, order_of, order_back}
 use Rattle.sd_cube.specs.CubeTerms.{cube_terms, literals_of}
 use Rattle.sd_cube.specs.CubeRows.{rows_if, eliminated_branch}
 use Rattle.sd_cube.specs.OpenCube.{AreExtra, AllKnown, AllValued, NoneTwice, NoneOpposite, IsOpenCube}

@@ -20,11 +20,11 @@ use Rattle.sd_kernel.specs.Known.{Fact, Trail}
 use Rattle.sd_kernel.specs.Steps.{leaves, named, needs, outcome}
 use Rattle.sd_kernel.specs.Proof.{State, IsOpen, front, start, next, goes, after}
 use Rattle.sd_cube.specs.Atoms.{is_atom}
-use Rattle.sd_cube.specs.Asked.{IsAsked}
+use Rattle.sd_cube.specs.Required.{IsRequired}
 use Rattle.sd_cube.specs.Needed.{IsNeeded}
 use Rattle.sd_cube.specs.CubeTerms.{cube_terms, literals_of}
 use Rattle.sd_cube.specs.OpenCube.{AreExtra, IsOpenCube}
-use Rattle.sd_cube.specs.Spent.{IsDue, AreDue, IsClosedCube, Shuts, cube_literals, IsSpent}
+use Rattle.sd_cube.specs.Spent.{IsDue, AreDue, IsClosedCube, ClosesBranch, cube_literals, IsSpent}
 use Rattle.sd_search.specs.Path.{waiting, IsBehind, IsPast, IsTurned, AllSecond}
 use Rattle.sd_search.specs.Reading.{Reads, Goes, others}
 use Rattle.sd_search.specs.Outcome.{closings}
@@ -37,8 +37,8 @@ use Rattle.sd_search.proofs.OpenCubes.{open-cube}
 use Rattle.sd_search.proofs.AtomFacts.{atom-truth}
 use Rattle.sd_search.proofs.Behind.{past-self, past-fronts, past-turn, behind-past, behind-more, waiting-true, waiting-false, waiting-seconds}
 use Rattle.sd_search.proofs.Due.{Among, due-more, due-last, due-front, due-turn, all-apart, value_on, all-outside}
-use Rattle.sd_search.proofs.GrownTerms.{IsNew, new-term, asked-needed, grown-terms, extra-last, first-terms}
-use Rattle.sd_search.proofs.ChoiceLemmas.{asked-atom}
+use Rattle.sd_search.proofs.GrownTerms.{IsNew, new-term, required-needed, grown-terms, extra-last, first-terms}
+use Rattle.sd_search.proofs.ChoiceLemmas.{required-atom}
 use Rattle.sd_search.proofs.Steps.{next-first, front-first, others-first, reads-none}
 
 abbrev pub literal : ℕ → Bool → Literal
@@ -161,7 +161,7 @@ module _ (facts : List Tree) (s : State) (ids : List ℕ) (path : List Literal) 
 
   -- ---- a new term
 
-  module _ (line : NodeLine) (t : Tree) (asked : IsAsked s.0 (front s) t) (made : outcome s.0 (front s) (Term line) ≡ leaves (s.0 ++ t ∷ []) (front s ∷ [])) where
+  module _ (line : NodeLine) (t : Tree) (required : IsRequired s.0 (front s) t) (made : outcome s.0 (front s) (Term line) ≡ leaves (s.0 ++ t ∷ []) (front s ∷ [])) where
     abbrev more : List Tree
     more = s.0 ++ t ∷ []
 
@@ -181,7 +181,7 @@ module _ (facts : List Tree) (s : State) (ids : List ℕ) (path : List Literal) 
 
     pub term-running : (s' : State) (node : TermNode) → next s (Term line) ≡ goes s' → PartsBelow (length s.0) node → tree_of s.0 node ≡ t → IsRunning facts s' ids path (extra ++ node ∷ []) cubes
     term-running s' node e below is =
-        let need : IsNeeded facts t = asked-needed facts s.0 (front s) t r.terms asked in
+        let need : IsNeeded facts t = required-needed facts s.0 (front s) t r.terms required in
         let same : literals_of more path ≡ lits = literals-more s.0 (t ∷ []) path r.path_below in
         let up : (k : ℕ) → k < length s.0 → k < length more = λ k lt. omega (arith, lt, length-append s.0 (t ∷ [])) in
         let here : tree_of (grown (numbered facts) extra) node ≡ t = ap (λ ts. tree_of ts node) (sym r.grown_by) ∙ is in
@@ -196,7 +196,7 @@ module _ (facts : List Tree) (s : State) (ids : List ℕ) (path : List Literal) 
           facts_are = facts-more s.0 (t ∷ []) ids r.below ∙ r.facts_are;
           below = λ k d lt. up (get_or ids k d) (r.below k d lt);
           path_below = λ k d lt. up (get_or path k d).term (r.path_below k d lt);
-          due = subst (AreDue facts more []) (sym same) (due-more facts s.0 t r.terms term-new.lacks (asked-atom s.0 (front s) t asked) [] lits tt (among-literals s.0 path r.path_below) r.due);
+          due = subst (AreDue facts more []) (sym same) (due-more facts s.0 t r.terms term-new.lacks (required-atom s.0 (front s) t required) [] lits tt (among-literals s.0 path r.path_below) r.due);
           closed = r.closed;
           apart = r.apart;
           behind = subst (λ fs. AllByRecursion (λ c. IsBehind fs (cube_literals facts c)) cubes) (sym same) r.behind;
@@ -204,7 +204,7 @@ module _ (facts : List Tree) (s : State) (ids : List ℕ) (path : List Literal) 
 
   -- ---- a closed branch
 
-  module _ (s' : State) (steps : List Step) (c : Cube) (terms_same : s'.0 ≡ s.0) (branches_left : s'.1 ≡ others s) (shuts : Shuts s.0 (front s) steps) (extra_is : c.extra ≡ extra) (literals_is : c.literals ≡ path) where
+  module _ (s' : State) (steps : List Step) (c : Cube) (terms_same : s'.0 ≡ s.0) (branches_left : s'.1 ≡ others s) (closes_branch : ClosesBranch s.0 (front s) steps) (extra_is : c.extra ≡ extra) (literals_is : c.literals ≡ path) where
     cube_terms_are : cube_terms facts c ≡ s.0
     cube_terms_are = ap (grown (numbered facts)) extra_is ∙ sym r.grown_by
 
@@ -219,8 +219,8 @@ module _ (facts : List Tree) (s : State) (ids : List ℕ) (path : List Literal) 
       extra = subst (AreExtra facts (numbered facts)) (sym extra_is) r.are_extra;
       due = subst (λ ts. AreDue facts ts [] (literals_of ts c.literals)) (sym cube_terms_are) (subst (λ ls. AreDue facts s.0 [] (literals_of s.0 ls)) (sym literals_is) r.due);
       steps = steps;
-      shuts = subst (λ ts. Shuts ts (start facts ++ literals_of ts c.literals) steps) (sym cube_terms_are)
-          (subst (λ ls. Shuts s.0 (start facts ++ literals_of s.0 ls) steps) (sym literals_is) (subst (λ b. Shuts s.0 b steps) front-is shuts));
+      closes_branch = subst (λ ts. ClosesBranch ts (start facts ++ literals_of ts c.literals) steps) (sym cube_terms_are)
+          (subst (λ ls. ClosesBranch s.0 (start facts ++ literals_of s.0 ls) steps) (sym literals_is) (subst (λ b. ClosesBranch s.0 b steps) front-is closes_branch));
     }
 
     seconds : (ls : List Literal) → AllSecond ls → AllByRecursion (λ (f : Fact). f.1 ≡ false) (literals_of s.0 ls)

@@ -19,7 +19,7 @@ use Rattle.sd_term.specs.Numbering.{has}
 use Rattle.sd_term.specs.Sorts.{is_truth_sort, sort_of}
 use Rattle.sd_kernel.specs.Steps.{Outcome, bad, leaves, outcome, named, needs, adds, fits, line_head, first_part, second_part, numbers_next, are_orders_of, is_choice_of, is_chosen, all_at, is_chain, Made, made, wrong, row_of_line, refuted_by}
 use Rattle.sd_kernel.specs.Proof.{after, State, IsOpen, front, fails, goes, next, at_end, lines_of, judged}
-use Rattle.sd_cube.specs.Spent.{Shuts}
+use Rattle.sd_cube.specs.Spent.{ClosesBranch}
 use Rattle.sd_search.specs.Outcome.{closing, closings}
 use Rattle.sd_search.specs.Reading.{Reads, Goes, others, IsClosing}
 
@@ -72,7 +72,7 @@ open-first s o = go s.1 o
 
 -- ---- steps that close it
 
-pub closing-start : (s : State) (xs : List Step) → IsOpen s → Shuts s.0 (front s) xs → IsClosing s.0 (others s) s xs
+pub closing-start : (s : State) (xs : List Step) → IsOpen s → ClosesBranch s.0 (front s) xs → IsClosing s.0 (others s) s xs
 closing-start s [] o h = absurd h
 closing-start s (x ∷ xs) o h = (front s, refl, open-first s o, h)
 
@@ -83,7 +83,7 @@ module _ (terms : List Tree) (rest : List Trail) where
       at : (o : Outcome) → outcome terms h.0 x ≡ o → next s x ≡ after rest o
       at o e = next-first s h.0 rest x h.2 ∙ ap (λ ts. after rest (outcome ts h.0 x)) h.1 ∙ ap (after rest) e
 
-      go : (ys : List Step) → Shuts terms h.0 (x ∷ ys) → Goes s x
+      go : (ys : List Step) → ClosesBranch terms h.0 (x ∷ ys) → Goes s x
       go [] k = ((terms, rest), at (leaves terms []) k)
       go (y ∷ ys) k = ((terms, k.0 ∷ rest), at (leaves terms (k.0 ∷ [])) k.1)
 
@@ -96,7 +96,7 @@ module _ (terms : List Tree) (rest : List Trail) where
       state : (t : State) → goes s' ≡ goes t → s' ≡ t
       state t k = cc
 
-      go : (ys : List Step) → Shuts terms h.0 (x ∷ ys) → IsClosing terms rest s' ys
+      go : (ys : List Step) → ClosesBranch terms h.0 (x ∷ ys) → IsClosing terms rest s' ys
       go [] k = let f : s' ≡ (terms, rest) = state (terms, rest) (at (leaves terms []) k) in (ap (λ (t : State). t.0) f, ap (λ (t : State). t.1) f)
       go (y ∷ ys) k =
           let f : s' ≡ (terms, k.0 ∷ rest) = state (terms, k.0 ∷ rest) (at (leaves terms (k.0 ∷ [])) k.1) in
@@ -197,12 +197,12 @@ closing-one (ChooseBranch t a) e = refl
 closing-one (Chain a fs) e = refl
 
 -- steps that close a branch have one closing step
-pub shuts-closings : (terms : List Tree) (trail : Trail) (steps : List Step) → Shuts terms trail steps → closings steps ≡ 1
-shuts-closings terms trail [] h = absurd h
-shuts-closings terms trail (s ∷ []) h = let c : closing s ≡ 1 = closing-none s (leaves-count terms terms trail [] s h) in omega (arith, c)
-shuts-closings terms trail (s ∷ r ∷ ss) h =
+pub closes_branch-closings : (terms : List Tree) (trail : Trail) (steps : List Step) → ClosesBranch terms trail steps → closings steps ≡ 1
+closes_branch-closings terms trail [] h = absurd h
+closes_branch-closings terms trail (s ∷ []) h = let c : closing s ≡ 1 = closing-none s (leaves-count terms terms trail [] s h) in omega (arith, c)
+closes_branch-closings terms trail (s ∷ r ∷ ss) h =
     let c : closing s ≡ 0 = closing-one s (leaves-count terms terms trail (h.0 ∷ []) s h.1) in
-    let more : closings (r ∷ ss) ≡ 1 = shuts-closings terms h.0 (r ∷ ss) h.2 in
+    let more : closings (r ∷ ss) ≡ 1 = closes_branch-closings terms h.0 (r ∷ ss) h.2 in
     ap (λ n. n + closings (r ∷ ss)) c ∙ omega (arith, more)
 
 pub closings-append : (a b : List Step) → closings (a ++ b) ≡ closings a + closings b
@@ -214,9 +214,9 @@ pub closings-same : (old new : List Step) (x : Step) (n : ℕ) → new ≡ old +
 closings-same old new x n e z h = ap closings e ∙ closings-append old (x ∷ []) ∙ omega (arith, z, h)
 
 -- steps that close a branch
-pub closings-closed : {A : Type 0} (old new closed : List Step) (terms : List Tree) (trail : Trail) (cubes more : List A) (c : A) → new ≡ old ++ closed → Shuts terms trail closed → closings old ≡ length cubes → more ≡ cubes ++ c ∷ []
+pub closings-closed : {A : Type 0} (old new closed : List Step) (terms : List Tree) (trail : Trail) (cubes more : List A) (c : A) → new ≡ old ++ closed → ClosesBranch terms trail closed → closings old ≡ length cubes → more ≡ cubes ++ c ∷ []
     → closings new ≡ length more
 closings-closed old new closed terms trail cubes more c e h n m =
-    let one : closings closed ≡ 1 = shuts-closings terms trail closed h in
+    let one : closings closed ≡ 1 = closes_branch-closings terms trail closed h in
     let long : length more ≡ length cubes + 1 = ap length m ∙ length-append cubes (c ∷ []) in
     ap closings e ∙ closings-append old closed ∙ omega (arith, one, n, long)

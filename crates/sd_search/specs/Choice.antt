@@ -8,8 +8,8 @@ use Rattle.sd_kernel.specs.Known.{Trail, known_at}
 use Rattle.sd_kernel.specs.Steps.{leaves, outcome}
 use Rattle.sd_kernel.specs.Proof.{start}
 use Rattle.sd_cube.specs.Atoms.{is_atom}
-use Rattle.sd_cube.specs.Asked.{IsAsked}
-use Rattle.sd_cube.specs.Spent.{IsDue, Shuts}
+use Rattle.sd_cube.specs.Required.{IsRequired}
+use Rattle.sd_cube.specs.Spent.{IsDue, ClosesBranch}
 use Rattle.sd_search.specs.declared.choice.Choice.{Choice}
 use Rattle.sd_search.specs.declared.choice.Choice.TheVariants.{Close, Number, Split, Settled}
 use Rattle.sd_search.specs.Terms.{IsOpenAtom}
@@ -17,8 +17,8 @@ use Rattle.sd_search.specs.Settled.{IsSettled}
 
 -- steps that close the branch, a new term that is asked for, an atom that is due to be split, or nothing
 abbrev pub IsChoice : List Tree → List Tree → Trail → Choice → Type 0
-IsChoice facts terms trail (Close steps) = Shuts terms trail steps
-IsChoice facts terms trail (Number line) = (t : Tree) × IsAsked terms trail t × (outcome terms trail (Term line) ≡ leaves (terms ++ t ∷ []) (trail ∷ []))
+IsChoice facts terms trail (Close steps) = ClosesBranch terms trail steps
+IsChoice facts terms trail (Number line) = (t : Tree) × IsRequired terms trail t × (outcome terms trail (Term line) ≡ leaves (terms ++ t ∷ []) (trail ∷ []))
 IsChoice facts terms trail (Split n) = (n < length terms) × IsDue facts terms trail (tree_at terms n)
 IsChoice facts terms trail Settled = IsSettled facts terms trail
 

@@ -4,7 +4,7 @@ use Rattle.sd_term.specs.Tree.{Tree}
 use Rattle.sd_kernel.specs.declared.step.Step.{Step}
 use Rattle.sd_kernel.specs.Known.{Trail}
 use Rattle.sd_kernel.specs.Proof.{State, judged, next, goes}
-use Rattle.sd_cube.specs.Spent.{Shuts}
+use Rattle.sd_cube.specs.Spent.{ClosesBranch}
 
 -- from one state on the steps lead to another, so that any more steps are judged as from there
 abbrev pub Reads : State → List Step → State → Type 0
@@ -21,4 +21,4 @@ others s = elim s.1 [ [] ↦ [] | b ∷ bs ↦ bs ]
 -- the steps close the first branch, or all are done and it is closed
 abbrev pub IsClosing : List Tree → List Trail → State → List Step → Type 0
 IsClosing terms rest s [] = (s.0 ≡ terms) × (s.1 ≡ rest)
-IsClosing terms rest s (x ∷ xs) = (trail : Trail) × (s.0 ≡ terms) × (s.1 ≡ trail ∷ rest) × Shuts terms trail (x ∷ xs)
+IsClosing terms rest s (x ∷ xs) = (trail : Trail) × (s.0 ≡ terms) × (s.1 ≡ trail ∷ rest) × ClosesBranch terms trail (x ∷ xs)

@@ -5,7 +5,7 @@ use Rattle.sd_term.specs.Bank.{tree_at}
 use Rattle.sd_linear.specs.Elimination.{refuted}
 use Rattle.sd_kernel.specs.Known.{Trail, known}
 use Rattle.sd_cube.specs.Atoms.{is_atom}
-use Rattle.sd_cube.specs.Asked.{ChoicesHold, OrdersHold, NoneJoined}
+use Rattle.sd_cube.specs.Required.{ChoicesHold, OrdersHold, NoneJoined}
 use Rattle.sd_cube.specs.CubeRows.{eliminated_branch}
 use Rattle.sd_cube.specs.OpenCube.{AllKnown}
 

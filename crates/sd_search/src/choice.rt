@@ -81,7 +81,7 @@ fn branch_choice(
     }
     let left = match close(alloc, terms, trail, values)? {
         Closed::Conflict(steps) => return Ok(Choice::Close(steps)),
-        Closed::Missing(step) => asked(step),
+        Closed::Missing(step) => required(step),
         Closed::Classes(_) => left_atom(terms, values),
     };
     match reached_atom(terms, facts, values) {
@@ -91,7 +91,7 @@ fn branch_choice(
 }
 
 /// The choice of a step that numbers a term or splits one.
-fn asked(step: Step) -> Choice
+fn required(step: Step) -> Choice
     requires { Asks step }
     ensures { result ≡ choice_of step }
 {

@@ -1,6 +1,6 @@
 ghost use Rattle.std.specs.Prelude.{◌≡◌, ◌⊎◌, ℕ, ◌<◌, [], ◌∷◌, ◌++◌, List, IfOk, OnOk};
 ghost use Rattle.sd_kernel.specs.Proof.{State, IsOpen, front, next, goes};
-ghost use Rattle.sd_cube.specs.Spent.{Shuts};
+ghost use Rattle.sd_cube.specs.Spent.{ClosesBranch};
 ghost use Rattle.sd_search.specs.Path.{IsTurned, AllSecond};
 ghost use Rattle.sd_search.specs.Reading.{Reads, Goes, others};
 
@@ -29,7 +29,7 @@ pub fn do_all(
     mut closing: Items<Step>,
 ) -> Result<(), NoMemory>
     requires open { IsOpen walk.old }
-    requires shuts { Shuts walk.old.0 (front walk.old) closing }
+    requires closes_branch { ClosesBranch walk.old.0 (front walk.old) closing }
     ensures terms { OnOk result (walk.new.0 ≡ walk.old.0) }
     ensures branches { OnOk result (walk.new.1 ≡ others walk.old) }
     ensures steps { OnOk result (steps.new ≡ steps.old ++ closing) }

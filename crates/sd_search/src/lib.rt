@@ -7,7 +7,5 @@ mod descent;
 mod leaf;
 mod progress;
 mod search;
-#[cfg(test)]
-mod tests;
 
 pub use search::{Outcome, refute};

@@ -4,7 +4,7 @@ ghost use Rattle.sd_term.specs.Bank.{tree_at, tree_of, PartsBelow};
 ghost use Rattle.sd_term.specs.Sorts.{is_truth_valued};
 ghost use Rattle.sd_kernel.specs.Proof.{IsOpen, front};
 ghost use Rattle.sd_cube.specs.OpenCube.{IsOpenCube};
-ghost use Rattle.sd_cube.specs.Spent.{Shuts};
+ghost use Rattle.sd_cube.specs.Spent.{ClosesBranch};
 
 use crate::atoms::atom_literals;
 use crate::choice::{Choice, next_choice};
@@ -97,7 +97,7 @@ impl Search {
     fn number(&mut self, query: &Query, line: NodeLine) -> Result<(), NoMemory>
         requires open { IsOpen self.old.walk }
         requires search { IsSearch query.now self.old }
-        requires asked { IsChoice query.now self.old.walk.0 (front self.old.walk) (NumberChoice line) }
+        requires required { IsChoice query.now self.old.walk.0 (front self.old.walk) (NumberChoice line) }
         ensures search { OnOk result (IsSearch query.now self.new) }
         ensures cubes { OnOk result (self.new.cubes ≡ self.old.cubes) }
         ensures more { OnOk result (length self.old.steps < length self.new.steps) }
@@ -113,7 +113,7 @@ impl Search {
     fn close(&mut self, query: &Query, steps: Items<Step>) -> Result<(), NoMemory>
         requires open { IsOpen self.old.walk }
         requires search { IsSearch query.now self.old }
-        requires shuts { Shuts self.old.walk.0 (front self.old.walk) steps }
+        requires closes_branch { ClosesBranch self.old.walk.0 (front self.old.walk) steps }
         ensures search { OnOk result (IsSearch query.now self.new) }
         ensures cubes { OnOk result (length self.new.cubes ≡ length self.old.cubes + 1) }
         ensures more { OnOk result (length self.old.steps < length self.new.steps) }

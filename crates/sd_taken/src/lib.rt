@@ -4,6 +4,3 @@
 mod form;
 
 pub use form::is_compared_program;
-
-#[cfg(test)]
-mod tests;

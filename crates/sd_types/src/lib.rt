@@ -14,6 +14,3 @@ mod typed;
 
 pub use refusal::TypeError;
 pub use typed::{Typed, check};
-
-#[cfg(test)]
-mod tests;

@@ -64,7 +64,7 @@ symbols_split k next i ss s lt e more =
 pub site_made : (a b d e : List Tree) (C : Context) (F : List Function) (k : ℕ) (n : BodyState) (p : CoreProc) (q path : ℕ) (es : List CoreExpr) (site : Site) (news : List ℕ) → IsWithin a n → path < length a
     → Extends a b → Denotes b site.guard (and_of (tree_at a path) (not_of (tree_at a n.gone)))
     → F ≡ C.program.functions → Extends b d → DenoteAll d site.args (map (term_in F (store_of b n.spots)) es)
-    → site.before ≡ n.spots.globals → Extends d e → DenoteAll e site.outs (symbols k (sorts_of p.outs)) → DenoteAll e news (changed C.program k p) → Denotes e site.flag (site_flag (C.quiet q) (k + (length p.outs + length p.modifies)))
+    → site.before ≡ n.spots.globals → Extends d e → DenoteAll e site.outs (symbols k (sorts_of p.outs)) → DenoteAll e news (changed C.program k p) → Denotes e site.flag (site_flag (C.infallible q) (k + (length p.outs + length p.modifies)))
     → site.after ≡ set_all n.spots.globals p.modifies news → site.callee ≡ q
     → DenotesSite e site (site_of C k (tree_at a path) p q es (state_of a n))
 site_made a b d e C F k n p q path es site news w lt ab dg ef bd da eb de douts dnews df eafter eq =

@@ -80,12 +80,12 @@ pub flag_log : Bool → Bool → List Value
 flag_log true flag = []
 flag_log false flag = Truth flag ∷ []
 
-pub length-flag : (quiet flag : Bool) → length (flag_log quiet flag) ≡ flag_symbols quiet
+pub length-flag : (infallible flag : Bool) → length (flag_log infallible flag) ≡ flag_symbols infallible
 unfolding flag_log
 length-flag true flag = refl
 length-flag false flag = refl
 
-pub flag-value : (v : Valuation) (k : ℕ) (quiet flag : Bool) → (quiet ≡ true → flag ≡ false) → Carries v k (flag_log quiet flag) → truth v (site_flag quiet k) ≡ flag
+pub flag-value : (v : Valuation) (k : ℕ) (infallible flag : Bool) → (infallible ≡ true → flag ≡ false) → Carries v k (flag_log infallible flag) → truth v (site_flag infallible k) ≡ flag
 unfolding flag_log
 flag-value v k true flag h c = sym (h refl)
 flag-value v k false flag h c = ap (λ (x : Value). truth_of (cast BoolSort x)) c.0

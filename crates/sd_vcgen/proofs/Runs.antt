@@ -17,7 +17,7 @@ use Rattle.sd_core.specs.Run as core
 use Rattle.sd_core.specs.Formed.{WellFormed, sorts_of, state_sorts, HasType, AllHaveTypes, AreSpotsOf, IsFormed, AreFormed, AllFormed}
 use Rattle.sd_core.specs.Meanings.{HaveSorts}
 use Rattle.sd_runs.specs.Kept.{at_all, EndFits, KeepsCalls, RunsKeep}
-use Rattle.sd_runs.specs.Quiet.{QuietRuns}
+use Rattle.sd_runs.specs.Infallible.{InfallibleRuns}
 use Rattle.sd_term.specs.Tree.{Tree}
 use Rattle.sd_term.specs.Build.{not_of, and_of, or_of}
 use Rattle.sd_term.specs.Truth.{Valuation, value}
@@ -36,9 +36,9 @@ record Tracks (C : Context) (p : CoreProc) (I : Interpretation) (calls : Calls) 
   size : length log ≡ need
   by : (v : Valuation) (k : ℕ) (path : Tree) (s : State) → Reads C.program.functions v I → Carries v k log → truth v path ≡ true → Agrees C.program calls v (state_sorts C.program p) s st false false → After C.program calls v (state_sorts C.program p) (go k path s) out
 
--- what is known of quiet callees
+-- what is known of infallible callees
 abbrev Hushed : Context → Calls → Type 0
-Hushed C calls = (q : ℕ) (ins globals outs after : List Value) (flag : Bool) → C.quiet q ≡ true → calls q ins globals ≡ Ended outs after flag → flag ≡ false
+Hushed C calls = (q : ℕ) (ins globals outs after : List Value) (flag : Bool) → C.infallible q ≡ true → calls q ins globals ≡ Ended outs after flag → flag ≡ false
 
 module _ (C : Context) (formed : WellFormed C.program) (I : Interpretation) (calls : Calls) (keeps : KeepsCalls C.program calls) (hushed : Hushed C calls) (p : CoreProc) where
   abbrev P : CoreProgram
@@ -141,12 +141,12 @@ module _ (C : Context) (formed : WellFormed C.program) (I : Interpretation) (cal
   -- ---- calls
 
   abbrev call_log : ℕ → CoreProc → (outs globals : List Value) → Bool → List Value
-  call_log q callee outs globals flag = resized (length callee.outs) outs ++ (at_all globals callee.modifies ++ flag_log (C.quiet q) flag)
+  call_log q callee outs globals flag = resized (length callee.outs) outs ++ (at_all globals callee.modifies ++ flag_log (C.infallible q) flag)
 
-  length-call : (q : ℕ) (callee : CoreProc) (outs globals : List Value) (flag : Bool) → length (call_log q callee outs globals flag) ≡ call_symbols (C.quiet q) (Some callee)
+  length-call : (q : ℕ) (callee : CoreProc) (outs globals : List Value) (flag : Bool) → length (call_log q callee outs globals flag) ≡ call_symbols (C.infallible q) (Some callee)
   length-call q callee outs globals flag =
-      two_sizes (resized (length callee.outs) outs) (at_all globals callee.modifies ++ flag_log (C.quiet q) flag) (length callee.outs) (length callee.modifies + flag_symbols (C.quiet q)) (length-resized (length callee.outs) outs)
-      (two_sizes (at_all globals callee.modifies) (flag_log (C.quiet q) flag) (length callee.modifies) (flag_symbols (C.quiet q)) (length-map callee.modifies _) (length-flag (C.quiet q) flag))
+      two_sizes (resized (length callee.outs) outs) (at_all globals callee.modifies ++ flag_log (C.infallible q) flag) (length callee.outs) (length callee.modifies + flag_symbols (C.infallible q)) (length-resized (length callee.outs) outs)
+      (two_sizes (at_all globals callee.modifies) (flag_log (C.infallible q) flag) (length callee.modifies) (flag_symbols (C.infallible q)) (length-map callee.modifies _) (length-flag (C.infallible q) flag))
 
   -- a call that ended
   ended_call : (q : ℕ) (callee : CoreProc) (ps : List Spot) (es : List CoreExpr) → slice_get P.procs q ≡ Some callee → AllHaveTypes F S es (sorts_of callee.ins) → AreSpotsOf S ps (sorts_of callee.outs)
@@ -164,14 +164,14 @@ module _ (C : Context) (formed : WellFormed C.program) (I : Interpretation) (cal
       let ends : calls q (map (value v) site.args) (map (value v) site.before) ≡ Ended outs globals flag = (λ i. calls q (args_are i) (before_are i)) ∙ e in
       let fits : EndFits P callee (map (value v) site.before) outs globals = keeps.by q callee (map (value v) site.args) (map (value v) site.before) outs globals flag found args_fit before_fit ends in
       let long : length outs ≡ length callee.outs = sorted-length (sorts_of callee.outs) outs fits.outs_fit ∙ length-map callee.outs _ in
-      let log : Carries v k (outs ++ (at_all globals ms ++ flag_log (C.quiet q) flag)) =
-      subst (λ (xs : List Value). Carries v k (xs ++ (at_all globals ms ++ flag_log (C.quiet q) flag))) (resized-same (length callee.outs) outs long) h in
-      let log2 = carries_back v k outs (at_all globals ms ++ flag_log (C.quiet q) flag) (length callee.outs) long log in
-      let log3 = carries_back v (k + length callee.outs) (at_all globals ms) (flag_log (C.quiet q) flag) (length ms) (length-map ms _) log2 in
+      let log : Carries v k (outs ++ (at_all globals ms ++ flag_log (C.infallible q) flag)) =
+      subst (λ (xs : List Value). Carries v k (xs ++ (at_all globals ms ++ flag_log (C.infallible q) flag))) (resized-same (length callee.outs) outs long) h in
+      let log2 = carries_back v k outs (at_all globals ms ++ flag_log (C.infallible q) flag) (length callee.outs) long log in
+      let log3 = carries_back v (k + length callee.outs) (at_all globals ms) (flag_log (C.infallible q) flag) (length ms) (length-map ms _) log2 in
       let place : k + length callee.outs + length ms ≡ k + (length callee.outs + length ms) = omega arith in
-      let outs_are : map (value v) site.outs ≡ outs = symbols-value v k (sorts_of callee.outs) outs fits.outs_fit (carries_front v k outs (at_all globals ms ++ flag_log (C.quiet q) flag) log) in
-      let news_are : map (value v) news ≡ at_all globals ms = symbols-value v (k + length callee.outs) (modified_sorts P callee) (at_all globals ms) (at_all-sorted (sorts_of P.globals) globals ms fits.globals_fit) (carries_front v (k + length callee.outs) (at_all globals ms) (flag_log (C.quiet q) flag) log2) in
-      let flag_is : truth v site.flag ≡ flag = flag-value v (k + (length callee.outs + length ms)) (C.quiet q) flag (λ hush. hushed q (map (value_in I st) es) st.globals outs globals flag hush e) (subst (λ (j : ℕ). Carries v j (flag_log (C.quiet q) flag)) place log3) in
+      let outs_are : map (value v) site.outs ≡ outs = symbols-value v k (sorts_of callee.outs) outs fits.outs_fit (carries_front v k outs (at_all globals ms ++ flag_log (C.infallible q) flag) log) in
+      let news_are : map (value v) news ≡ at_all globals ms = symbols-value v (k + length callee.outs) (modified_sorts P callee) (at_all globals ms) (at_all-sorted (sorts_of P.globals) globals ms fits.globals_fit) (carries_front v (k + length callee.outs) (at_all globals ms) (flag_log (C.infallible q) flag) log2) in
+      let flag_is : truth v site.flag ≡ flag = flag-value v (k + (length callee.outs + length ms)) (C.infallible q) flag (λ hush. hushed q (map (value_in I st) es) st.globals outs globals flag hush e) (subst (λ (j : ℕ). Carries v j (flag_log (C.infallible q) flag)) place log3) in
       let after_are : map (value v) site.after ≡ globals = set_all-map (value v) s.store.globals ms news ∙ ap (set_all (map (value v) s.store.globals) ms) news_are ∙ fits.others in
       let globals_are : set_all st.globals ms (map (value v) news) ≡ globals = (λ i. set_all (sym before_are i) ms (news_are i)) ∙ fits.others in
       land C formed p calls v q callee ps es found spots k path s st on outs globals flag outs_are globals_are flag_is
@@ -184,7 +184,7 @@ module _ (C : Context) (formed : WellFormed C.program) (I : Interpretation) (cal
       }) a
 
   live_call : (q : ℕ) (callee : CoreProc) (ps : List Spot) (es : List CoreExpr) → slice_get P.procs q ≡ Some callee → AllHaveTypes F S es (sorts_of callee.ins) → AreSpotsOf S ps (sorts_of callee.outs)
-      → (st : Store Value) (end : End) → calls q (map (value_in I st) es) st.globals ≡ end → Follows (call_symbols (C.quiet q) (Some callee)) (λ k path s. call C k path (Some callee) ps q es s) st (receive st ps end)
+      → (st : Store Value) (end : End) → calls q (map (value_in I st) es) st.globals ≡ end → Follows (call_symbols (C.infallible q) (Some callee)) (λ k path s. call C k path (Some callee) ps q es s) st (receive st ps end)
   live_call q callee ps es found ins spots st (Ended outs globals true) e = record {
     log = call_log q callee outs globals true;
     size = length-call q callee outs globals true;
@@ -196,13 +196,13 @@ module _ (C : Context) (formed : WellFormed C.program) (I : Interpretation) (cal
     by = λ v k path s r h on a. ended_call q callee ps es found ins spots st outs globals false e v k path s r h on a;
   }
   live_call q callee ps es found ins spots st Blocked e = record {
-    log = filler (call_symbols (C.quiet q) (Some callee));
-    size = length-resized (call_symbols (C.quiet q) (Some callee)) [];
+    log = filler (call_symbols (C.infallible q) (Some callee));
+    size = length-resized (call_symbols (C.infallible q) (Some callee)) [];
     by = λ v k path s r h on a. tt;
   }
   live_call q callee ps es found ins spots st Unfinished e = record {
-    log = filler (call_symbols (C.quiet q) (Some callee));
-    size = length-resized (call_symbols (C.quiet q) (Some callee)) [];
+    log = filler (call_symbols (C.infallible q) (Some callee));
+    size = length-resized (call_symbols (C.infallible q) (Some callee)) [];
     by = λ v k path s r h on a. tt;
   }
 
@@ -228,7 +228,7 @@ module _ (C : Context) (formed : WellFormed C.program) (I : Interpretation) (cal
     }
     live (If' c n x m y) is st = live_if c x y is.0 is.1 is.2 st (truth_of (value_in I st c)) refl (live_row x is.1 st) (live_row y is.2 st)
     live (Call ps q es) is st =
-        subst (λ (o : Option CoreProc). Follows (call_symbols (C.quiet q) o) (λ k path s. call C k path o ps q es s) st (receive st ps (calls q (map (value_in I st) es) st.globals))) (sym is.found)
+        subst (λ (o : Option CoreProc). Follows (call_symbols (C.infallible q) o) (λ k path s. call C k path o ps q es s) st (receive st ps (calls q (map (value_in I st) es) st.globals))) (sym is.found)
         (live_call q is.callee ps es is.found is.ins is.outs.sorts st (calls q (map (value_in I st) es) st.globals) refl)
     live (Assume c) is st = live_assume c is st (truth_of (value_in I st c)) refl
     live Fail is st = record {
@@ -309,8 +309,8 @@ module _ (C : Context) (formed : WellFormed C.program) (I : Interpretation) (cal
             (t.by v k (constant true) (begun p in_terms global_terms) r h refl (begins C formed p calls v I r in_terms global_terms ins globals fit a b));
       }
 
-pub runs-are-valuations : RunsKeep → QuietRuns → RunsAreValuations
+pub runs-are-valuations : RunsKeep → InfallibleRuns → RunsAreValuations
 runs-are-valuations keep hush C M formed meaning set n q p found ins globals outs after flag fit e =
     let I = interpretation M in
     let calls = calls_within I C.program.procs n in
-    body_log C formed I calls (keep C.program M formed meaning n) (λ r xs gs os as' f quiet ends. hush I C.program.procs C.quiet set n r xs gs os as' f quiet ends) p (formed.procs q p found).body ins globals outs after flag e
+    body_log C formed I calls (keep C.program M formed meaning n) (λ r xs gs os as' f infallible ends. hush I C.program.procs C.infallible set n r xs gs os as' f infallible ends) p (formed.procs q p found).body ins globals outs after flag e

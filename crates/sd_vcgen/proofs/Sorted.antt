@@ -70,7 +70,7 @@ module _ (C : Context) (formed : WellFormed C.program) (p : CoreProc) where
           before = before;
           outs = symbols-sort k (sorts_of callee.outs);
           after = after-sort P k callee s.store.globals before;
-          flag = flag-sort (C.quiet q) (k + (length callee.outs + length callee.modifies));
+          flag = flag-sort (C.infallible q) (k + (length callee.outs + length callee.modifies));
         });
       }
 

@@ -18,7 +18,7 @@ pub symbols-sort : (k : ℕ) (ss : List Sort) → map sort_of (symbols k ss) ≡
 symbols-sort k [] = refl
 symbols-sort k (s ∷ ss) = ap (λ (xs : List Sort). s ∷ xs) (symbols-sort (suc k) ss)
 
-pub flag-sort : (quiet : Bool) (k : ℕ) → sort_of (site_flag quiet k) ≡ BoolSort
+pub flag-sort : (infallible : Bool) (k : ℕ) → sort_of (site_flag infallible k) ≡ BoolSort
 flag-sort true k = refl
 flag-sort false k = refl
 

@@ -115,7 +115,7 @@ or-condition t u h k = record { well = or-well t u h.well k.well h.sort k.sort; 
 pub implies-condition : (t u : Tree) → IsCondition t → IsCondition u → IsCondition (or_of (not_of t) u)
 implies-condition t u h k = or-condition (not_of t) u (not-condition t h) k
 
-pub flag-condition : (quiet : Bool) (k : ℕ) → IsCondition (site_flag quiet k)
+pub flag-condition : (infallible : Bool) (k : ℕ) → IsCondition (site_flag infallible k)
 flag-condition true k = constant-condition false
 flag-condition false k = record { well = (tt, refl); sort = refl }
 
@@ -253,7 +253,7 @@ module _ (C : Context) (formed : WellFormed C.program) (p : CoreProc) where
       let args : AllWellSorted site.args = all-well F S s.store es (sorts_of callee.ins) h.sorts ins h.store in
       let outs : AllWellSorted site.outs = symbols-well k (sorts_of callee.outs) in
       let after : AllWellSorted site.after = set_all-well s.store.globals callee.modifies (changed P k callee) h.store.globals (symbols-well (k + length callee.outs) (modified_sorts P callee)) in
-      let flag = flag-condition (C.quiet q) (k + (length callee.outs + length callee.modifies)) in (
+      let flag = flag-condition (C.infallible q) (k + (length callee.outs + length callee.modifies)) in (
         (guard-condition P p path s c h).well,
         (
           flag.well,
@@ -267,7 +267,7 @@ module _ (C : Context) (formed : WellFormed C.program) (p : CoreProc) where
   call-well q callee ps es found ins spots k path s c h =
       let site = site_of C k path callee q es s in
       let guard : IsCondition site.guard = guard-condition P p path s c h in
-      let flag : IsCondition site.flag = flag-condition (C.quiet q) (k + (length callee.outs + length callee.modifies)) in
+      let flag : IsCondition site.flag = flag-condition (C.infallible q) (k + (length callee.outs + length callee.modifies)) in
       let up : IsCondition (and_of site.guard site.flag) = and-condition site.guard site.flag guard flag in
       record {
         sorts = call-sorts C formed p k site.guard q callee ps s.store found spots h.sorts;

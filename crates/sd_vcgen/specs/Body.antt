@@ -109,17 +109,17 @@ assume guard c s = record { store = s.store; flag = s.flag; gone = s.gone; assum
 
 -- ---- calls
 
--- what a body is run in: its program, and which procedures are quiet
+-- what a body is run in: its program, and which procedures are infallible
 pub record Context : Type 0 where
   pub program : CoreProgram
-  pub quiet : ℕ → Bool
+  pub infallible : ℕ → Bool
 
 -- symbols of these types, by ascending number from k on
 abbrev pub symbols : ℕ → List Sort → List Tree
 symbols k [] = []
 symbols k (s ∷ ss) = leaf (head.Sym k s) ∷ symbols (suc k) ss
 
--- the flag of a call: false where the callee is quiet, and else a symbol
+-- the flag of a call: false where the callee is infallible, and else a symbol
 abbrev pub site_flag : Bool → ℕ → Tree
 site_flag true k = constant false
 site_flag false k = leaf (head.Sym k BoolSort)
@@ -130,8 +130,8 @@ flag_symbols false = 1
 
 -- how many symbols a call takes: for the outs, for the globals that the callee modifies, and for the flag
 abbrev pub call_symbols : Bool → Option CoreProc → ℕ
-call_symbols quiet (Some p) = length p.outs + (length p.modifies + flag_symbols quiet)
-call_symbols quiet None = 0
+call_symbols infallible (Some p) = length p.outs + (length p.modifies + flag_symbols infallible)
+call_symbols infallible None = 0
 
 -- the types of the globals that a procedure modifies
 abbrev pub modified_sorts : CoreProgram → CoreProc → List Sort
@@ -149,7 +149,7 @@ site_of C k path p q args s = record {
   before = s.store.globals;
   outs = symbols k (sorts_of p.outs);
   after = set_all s.store.globals p.modifies (changed C.program k p);
-  flag = site_flag (C.quiet q) (k + (length p.outs + length p.modifies));
+  flag = site_flag (C.infallible q) (k + (length p.outs + length p.modifies));
 }
 
 -- The modified globals and then the receivers get what the call leaves, and its flag ends the caller too.
@@ -170,7 +170,7 @@ call C k path (Some p) spots q args s = receive (changed C.program k p) p spots 
 abbrev mutual
   pub count : Context → CoreStmt → ℕ
   count C (If' c n a m b) = row_count C a + row_count C b
-  count C (Call ps q es) = call_symbols (C.quiet q) (slice_get C.program.procs q)
+  count C (Call ps q es) = call_symbols (C.infallible q) (slice_get C.program.procs q)
   count C _ = 0
 
   pub row_count : Context → {n : _} → Row_of-CoreStmt n → ℕ

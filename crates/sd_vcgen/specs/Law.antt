@@ -11,7 +11,7 @@ use Rattle.sd_core.specs.declared.CoreProgram.{CoreProgram}
 use Rattle.sd_core.specs.Run.{Calls, Ended, run_proc, calls_within}
 use Rattle.sd_core.specs.Formed.{WellFormed, declared_as, sorts_of}
 use Rattle.sd_core.specs.Meanings.{HaveSorts, IsMeaningOf}
-use Rattle.sd_runs.specs.Quiet.{IsQuietSet}
+use Rattle.sd_runs.specs.Infallible.{IsInfallibleSet}
 use Rattle.sd_term.specs.Tree.{Tree}
 use Rattle.sd_term.specs.Sorts.{sort_of, AllWellSorted}
 use Rattle.sd_term.specs.Truth.{Valuation, value}
@@ -81,7 +81,7 @@ pub record HasLog (C : Context) (I : Interpretation) (calls : Calls) (p : CorePr
 -- Every ended run of a body is a valuation of its terms.
 abbrev pub RunsAreValuations : Type 0
 RunsAreValuations =
-    (C : Context) (M : Meaning) → WellFormed C.program → IsMeaningOf C.program M → IsQuietSet C.program.procs C.quiet →
+    (C : Context) (M : Meaning) → WellFormed C.program → IsMeaningOf C.program M → IsInfallibleSet C.program.procs C.infallible →
     (n q : ℕ) (p : CoreProc) → slice_get C.program.procs q ≡ Some p → (ins globals outs after : List Value) (flag : Bool) → InputsFit C.program q ins globals →
     run_proc (interpretation M) (calls_within (interpretation M) C.program.procs n) p ins globals ≡ Ended outs after flag →
     HasLog C (interpretation M) (calls_within (interpretation M) C.program.procs n) p ins globals outs after flag

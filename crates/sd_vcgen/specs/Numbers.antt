@@ -51,7 +51,7 @@ pub record AreTermsOf (bank : List Tree) (terms : BodyTerms) (p : CoreProc) (s :
 
 -- what a body is run in
 abbrev pub context_of : Context → spec.Context
-context_of c = record { program = c.program.now; quiet = λ q. get_or c.quiet.now q false }
+context_of c = record { program = c.program.now; infallible = λ q. get_or c.infallible.now q false }
 
 -- ---- while it runs
 

@@ -45,11 +45,11 @@ pub(crate) struct BodyState {
 }
 
 /// The terms of a procedure's body, from these terms of its in-parameters and of the globals, with symbols by ascending number from
-/// `first` on. Where no `u32` holds the next number, it is answered as want of memory.
+/// `first` on. Where no `u32` holds the next number, it is answered as out of memory.
 ///
 /// A statement counts where its path is taken, which joins the conditions of the choices around it, and where the body
 /// hasn't ended before it. An assignment keeps the old term elsewhere (Lahiri and others 2012). What a call leaves in the outs of its
-/// callee and in the globals that the callee modifies are symbols, and so is its flag where the callee isn't quiet (Hawblitzel and
+/// callee and in the globals that the callee modifies are symbols, and so is its flag where the callee isn't infallible (Hawblitzel and
 /// others 2013).
 pub fn body_of(
     alloc: Global,

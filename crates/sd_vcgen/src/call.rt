@@ -21,11 +21,11 @@ use sd_term::{Bank, Head, TermId};
 use sqlite_items::Items;
 use std::alloc::Global;
 
-/// What bodies are run in: their program, and which of its procedures are quiet, by their places.
+/// What bodies are run in: their program, and which of its procedures are infallible, by their places.
 #[derive(Clone, Copy)]
 pub struct Context<'a> {
     pub program: &'a CoreProgram,
-    pub quiet: &'a [bool],
+    pub infallible: &'a [bool],
 }
 
 /// A call that a body makes: where it counts, its arguments and the globals before it, and the outs, the globals after it and the
@@ -56,7 +56,7 @@ pub(crate) fn run_call(
     requires state { IsWithin bank.old state.old }
     requires path { path < length bank.old }
     ensures state { OnOk result (Stands bank.new state.new (spec.call (context_of context.now) state.old.next (tree_at bank.old path) (slice_get context.now.program.now.procs callee) receivers.now callee args.now (state_of bank.old state.old))) }
-    ensures next { OnOk result (state.new.next ≡ state.old.next + call_symbols ((context_of context.now).quiet callee) (slice_get context.now.program.now.procs callee)) }
+    ensures next { OnOk result (state.new.next ≡ state.old.next + call_symbols ((context_of context.now).infallible callee) (slice_get context.now.program.now.procs callee)) }
     ensures kept { OnOk result (Extends bank.old bank.new) }
 {
     match context.program.procs.get(callee as usize) {
@@ -82,7 +82,7 @@ fn call_procedure(
     requires state { IsWithin bank.old state.old }
     requires path { path < length bank.old }
     ensures state { OnOk result (Stands bank.new state.new (spec.call (context_of context.now) state.old.next (tree_at bank.old path) (Some procedure.now) receivers.now callee args.now (state_of bank.old state.old))) }
-    ensures next { OnOk result (state.new.next ≡ state.old.next + call_symbols ((context_of context.now).quiet callee) (Some procedure.now)) }
+    ensures next { OnOk result (state.new.next ≡ state.old.next + call_symbols ((context_of context.now).infallible callee) (Some procedure.now)) }
     ensures kept { OnOk result (Extends bank.old bank.new) }
 {
     let made = put_site(bank, context, state, path, procedure, callee, args)?;
@@ -113,7 +113,7 @@ fn put_site(
     ensures site { IfOk result (λ made. DenotesSite bank.new made.site (site_of (context_of context.now) state.old.next (tree_at bank.old path) procedure.now callee args.now (state_of bank.old state.old))) }
     ensures changed { IfOk result (λ made. DenoteAll bank.new made.changed (changed context.now.program.now state.old.next procedure.now)) }
     ensures state { OnOk result (Stands bank.new state.new (state_of bank.old state.old)) }
-    ensures next { OnOk result (state.new.next ≡ state.old.next + call_symbols ((context_of context.now).quiet callee) (Some procedure.now)) }
+    ensures next { OnOk result (state.new.next ≡ state.old.next + call_symbols ((context_of context.now).infallible callee) (Some procedure.now)) }
     ensures kept { OnOk result (Extends bank.old bank.new) }
 {
     let alloc = bank.allocator();
@@ -182,8 +182,8 @@ fn put_results(
 ) -> Result<Results, NoMemory>
     ensures outs { IfOk result (λ r. DenoteAll bank.new r.outs (symbols next.old (sorts_of procedure.now.outs))) }
     ensures changed { IfOk result (λ r. DenoteAll bank.new r.changed (changed context.now.program.now next.old procedure.now)) }
-    ensures flag { IfOk result (λ r. Denotes bank.new r.flag (site_flag ((context_of context.now).quiet callee) (next.old + (length procedure.now.outs + length procedure.now.modifies)))) }
-    ensures next { OnOk result (next.new ≡ next.old + call_symbols ((context_of context.now).quiet callee) (Some procedure.now)) }
+    ensures flag { IfOk result (λ r. Denotes bank.new r.flag (site_flag ((context_of context.now).infallible callee) (next.old + (length procedure.now.outs + length procedure.now.modifies)))) }
+    ensures next { OnOk result (next.new ≡ next.old + call_symbols ((context_of context.now).infallible callee) (Some procedure.now)) }
     ensures kept { OnOk result (Extends bank.old bank.new) }
 {
     let alloc = bank.allocator();
@@ -196,7 +196,7 @@ fn put_results(
     )?;
     let outs = put_symbols(bank, next, out_sorts.as_slice())?;
     let changed = put_symbols(bank, next, changed_sorts.as_slice())?;
-    let flag = put_flag(bank, next, is_quiet(context, callee))?;
+    let flag = put_flag(bank, next, is_infallible(context, callee))?;
     Ok(Results {
         outs,
         changed,
@@ -219,19 +219,19 @@ fn put_symbols(bank: &mut Bank, next: &mut u32, sorts: &[Sort]) -> Result<Items<
     Ok(terms)
 }
 
-/// The flag of a call, which is down where the callee is quiet.
-fn put_flag(bank: &mut Bank, next: &mut u32, quiet: bool) -> Result<TermId, NoMemory>
-    ensures flag { IfOk result (λ id. Denotes bank.new id (site_flag quiet next.old)) }
-    ensures next { OnOk result (next.new ≡ next.old + flag_symbols quiet) }
+/// The flag of a call, which is down where the callee is infallible.
+fn put_flag(bank: &mut Bank, next: &mut u32, infallible: bool) -> Result<TermId, NoMemory>
+    ensures flag { IfOk result (λ id. Denotes bank.new id (site_flag infallible next.old)) }
+    ensures next { OnOk result (next.new ≡ next.old + flag_symbols infallible) }
     ensures kept { OnOk result (Extends bank.old bank.new) }
 {
-    if quiet {
+    if infallible {
         return put_truth(bank, false);
     }
     put_symbol(bank, next, Sort::Bool)
 }
 
-/// The next symbol. A next number that no `u32` holds is answered as want of memory.
+/// The next symbol. A next number that no `u32` holds is answered as out of memory.
 fn put_symbol(bank: &mut Bank, next: &mut u32, sort: Sort) -> Result<TermId, NoMemory>
     ensures symbol { IfOk result (λ id. Denotes bank.new id (leaf (head.Sym next.old sort))) }
     ensures next { OnOk result (next.new ≡ next.old + 1) }
@@ -251,10 +251,14 @@ fn sum(a: u32, b: u32) -> Result<u32, NoMemory>
     }
 }
 
-fn is_quiet(context: &Context<'_>, callee: u32) -> bool
-    ensures { result ≡ (context_of context.now).quiet callee }
+fn is_infallible(context: &Context<'_>, callee: u32) -> bool
+    ensures { result ≡ (context_of context.now).infallible callee }
 {
-    context.quiet.get(callee as usize).copied().unwrap_or(false)
+    context
+        .infallible
+        .get(callee as usize)
+        .copied()
+        .unwrap_or(false)
 }
 
 /// The types of variables.

@@ -8,7 +8,7 @@ pub fn runs_are_valuations()
     ensures { RunsAreValuations }
 {
     sd_runs::laws::runs_keep();
-    sd_runs::laws::quiet_runs();
+    sd_runs::laws::infallible_runs();
 }
 
 /// A valuation with true assumptions, whose calls end as their terms say, is an ended run.

@@ -7,8 +7,6 @@ mod call;
 mod expression;
 pub mod laws;
 mod spots;
-#[cfg(test)]
-mod tests;
 
 pub use axioms::put_axioms;
 pub use body::{BodyTerms, body_of};

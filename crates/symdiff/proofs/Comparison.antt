@@ -9,10 +9,10 @@ use Rattle.sd_parse.specs.declared.answer.ReadError.{ReadError}
 use Rattle.sd_parse.proofs.AnswerLaws.{one_answer}
 use Rattle.sd_core.specs.declared.CoreProgram.{CoreProgram}
 use Rattle.sd_core.specs.Failure.{NewFailureOf}
-use Rattle.sd_core.specs.Straight.{IsStraightCore}
-use Rattle.sd_extract.specs.Form.{IsStraightProgram}
+use Rattle.sd_core.specs.Propositional.{IsPropositionalCore}
+use Rattle.sd_extract.specs.Form.{IsPropositionalProgram}
 use Rattle.sd_extract.specs.Programs.{core_program}
-use Rattle.sd_extract.proofs.Straight.{straight_kept}
+use Rattle.sd_extract.proofs.Propositional.{propositional_kept}
 use Rattle.sd_kernel.specs.declared.proved.Proved.{Proved}
 use Rattle.sd_cand.specs.Candidates.{equal_inputs}
 use Rattle.sd_product.specs.Query.{Claimed}
@@ -25,7 +25,7 @@ use Rattle.sd_product.proofs.EqualInputs.{no_new_failure_lem}
 use Rattle.sd_product.proofs.Mutual.{mutual_summaries_lem}
 use Rattle.sd_product.proofs.FailureLemmas.{open-cubes-fail, valuations-fail}
 use Rattle.sd_runs.proofs.Keeps.{runs_keep_within}
-use Rattle.sd_runs.proofs.Hushed.{quiet_runs_within}
+use Rattle.sd_runs.proofs.Hushed.{infallible_runs_within}
 use Rattle.sd_vcgen.proofs.Runs.{runs-are-valuations}
 use Rattle.sd_vcgen.proofs.Valuations.{valuations-are-runs}
 use Rattle.symdiff.specs.declared.verdict.PairVerdict.{PairVerdict}
@@ -46,7 +46,7 @@ one_taken bytes P Q p q =
     let same : ◌≡◌ {A = Result Program ReadError} (Ok P) (Ok Q) = one_answer bytes (Ok P) (Ok Q) p.read q.read (λ e. cc) (λ e. cc) in cc
 
 live_safe : LiveFlagsAreSafe
-live_safe = live-flags-safe (no_new_failure_lem (mutual_summaries_lem (runs-are-valuations runs_keep_within quiet_runs_within)))
+live_safe = live-flags-safe (no_new_failure_lem (mutual_summaries_lem (runs-are-valuations runs_keep_within infallible_runs_within)))
 
 open_fails : OpenFlagsAreFailures
 open_fails = open-flags-fail (open-cubes-fail (valuations-fail valuations-are-runs))
@@ -59,14 +59,14 @@ module _ (t : Texts) (old_read : IsTaken t.old_bytes t.old) (new_read : IsTaken 
   abbrev AreRight : List Death → List PairVerdict → Type 0
   AreRight deaths vs = AllByRecursion (IsRight t.old t.new deaths) vs
 
-  straight-core : (C : CoreProgram) → C ≡ core_program t.old → IsStraightProgram t.old → IsStraightCore C
-  straight-core C is straight = subst IsStraightCore (sym is) (straight_kept t.old old_read.typed straight)
+  propositional-core : (C : CoreProgram) → C ≡ core_program t.old → IsPropositionalProgram t.old → IsPropositionalCore C
+  propositional-core C is propositional = subst IsPropositionalCore (sym is) (propositional_kept t.old old_read.typed propositional)
 
-  straight-new : (D : CoreProgram) → D ≡ core_program t.new → IsStraightProgram t.new → IsStraightCore D
-  straight-new D is straight = subst IsStraightCore (sym is) (straight_kept t.new new_read.typed straight)
+  propositional-new : (D : CoreProgram) → D ≡ core_program t.new → IsPropositionalProgram t.new → IsPropositionalCore D
+  propositional-new D is propositional = subst IsPropositionalCore (sym is) (propositional_kept t.new new_read.typed propositional)
 
-  failed : (h : Held) → IsWorkOf t h → IsStraightProgram t.old → IsStraightProgram t.new → (n : ℕ) (x : Claimed) → IsFlagAt h n x → x.candidate.when ≡ equal_inputs x.pair → IsOpenAt h n → NewFailureOf h.old h.new x.pair.old x.pair.new
-  failed h w old new n x at when o = open_fails h o.seen n x o.facts o.cube w.held (straight-core h.old w.old old) (straight-new h.new w.new new) at when o.query o.«open»
+  failed : (h : Held) → IsWorkOf t h → IsPropositionalProgram t.old → IsPropositionalProgram t.new → (n : ℕ) (x : Claimed) → IsFlagAt h n x → x.candidate.when ≡ equal_inputs x.pair → IsOpenAt h n → NewFailureOf h.old h.new x.pair.old x.pair.new
+  failed h w old new n x at when o = open_fails h o.seen n x o.facts o.cube w.held (propositional-core h.old w.old old) (propositional-new h.new w.new new) at when o.query o.«open»
 
   pub compared_right : (name : Option (List ℕ)) (o : Outcome) → IsComparison name t o → AreRight o.deaths o.pairs
   compared_right name o c =
@@ -93,5 +93,5 @@ module _ (t : Texts) (old_read : IsTaken t.old_bytes t.old) (new_read : IsTaken 
   right_safe deaths pairs a = all-map (IsRight t.old t.new deaths) (λ v. _) (λ v r. r.0) pairs a
 
   -- an unknown pair has one, without calls and loops
-  pub right_unknown : (deaths : List Death) (pairs : List PairVerdict) → AreRight deaths pairs → IsStraightProgram t.old → IsStraightProgram t.new → AreNewFailures t.old t.new deaths pairs
+  pub right_unknown : (deaths : List Death) (pairs : List PairVerdict) → AreRight deaths pairs → IsPropositionalProgram t.old → IsPropositionalProgram t.new → AreNewFailures t.old t.new deaths pairs
   right_unknown deaths pairs a old new = all-map (IsRight t.old t.new deaths) (λ v. _) (λ v r is none. r.1 is old new none) pairs a

@@ -15,7 +15,7 @@ use Rattle.symdiff.specs.declared.text.Text.{Text}
 use Rattle.symdiff.specs.declared.text.TextFault.{TextFault}
 use Rattle.symdiff.specs.declared.text.TextFault.TheVariants.{Memory, Failed, Refused}
 use Rattle.symdiff.specs.TextRefusals.{IsTaken, IsTextRefusal, refusal_status}
-use Rattle.sd_extract.specs.Form.{IsStraightProgram}
+use Rattle.sd_extract.specs.Form.{IsPropositionalProgram}
 use Rattle.sd_match.specs.Refusals.{Refusal, Answers, global_types, function_signatures}
 use Rattle.sd_match.specs.declared.refusal.MatchError.{MatchError}
 use Rattle.sd_match.specs.declared.refusal.MatchError.TheVariants as matching
@@ -111,7 +111,7 @@ module _ (words : List (List ℕ)) (held : List ℕ → Option (List ℕ)) (o : 
 
   -- and an unknown pair has a failure, without calls and loops
   abbrev Unknowns : Program → Program → List PairVerdict → Type 0
-  Unknowns P Q pairs = IsStraightProgram P → IsStraightProgram Q → AreNewFailures P Q o.deaths pairs
+  Unknowns P Q pairs = IsPropositionalProgram P → IsPropositionalProgram Q → AreNewFailures P Q o.deaths pairs
 
   pub row_unknown : Answer words held o → UnknownIsFailure words held o.deaths o.pairs
   row_unknown (no_job a is) = silent_for Unknowns (λ P Q p q. tt) 2 _ is

@@ -9,7 +9,7 @@ use Rattle.sd_types.specs.Declarations.{WellTyped}
 use Rattle.sd_core.specs.declared.CoreProc.{CoreProc}
 use Rattle.sd_core.specs.declared.CoreProgram.{CoreProgram}
 use Rattle.sd_core.specs.Failure.{NewFailureOf}
-use Rattle.sd_extract.specs.Form.{IsStraightProgram}
+use Rattle.sd_extract.specs.Form.{IsPropositionalProgram}
 use Rattle.sd_extract.specs.Programs.{core_program}
 use Rattle.sd_extract.specs.Laws.{number_of}
 use Rattle.sd_extract.proofs.LawLemmas.{runs_kept, procedures_kept, axioms_kept}
@@ -165,7 +165,7 @@ equal_flag pair is = go (equal_inputs pair) refl
 abbrev pub IsRight : Program → Program → List Death → PairVerdict → Type 0
 IsRight P Q deaths v =
     (v.state ≡ Safe → NewFailure P Q v.old v.new → ⊥)
-    × (v.state ≡ Unknown → IsStraightProgram P → IsStraightProgram Q → (IsSpentPair P Q deaths v.old v.new → ⊥) → NewFailure P Q v.old v.new)
+    × (v.state ≡ Unknown → IsPropositionalProgram P → IsPropositionalProgram Q → (IsSpentPair P Q deaths v.old v.new → ⊥) → NewFailure P Q v.old v.new)
 
 -- no search for candidate n was spent
 abbrev pub IsUnspent : List Death → ℕ → Type 0
@@ -187,7 +187,7 @@ module _ (P Q : Program) (old_typed : WellTyped P) (new_typed : WellTyped Q) whe
 
   module _ (h : Held) (old_is : h.old ≡ core_program P) (new_is : h.new ≡ core_program Q) (o : Otherwise) (live : List Bool) (deaths : List Death)
       (safe : (n : ℕ) (x : Claimed) → IsFlagAt h n x → slice_get live n ≡ Some true → NewFailureOf h.old h.new x.pair.old x.pair.new → ⊥)
-      (failure : o ≡ otherwise.Unknown → IsStraightProgram P → IsStraightProgram Q → (n : ℕ) (x : Claimed) → IsFlagAt h n x → x.candidate.when ≡ equal_inputs x.pair → slice_get live n ≡ Some false → IsUnspent deaths n → NewFailureOf h.old h.new x.pair.old x.pair.new)
+      (failure : o ≡ otherwise.Unknown → IsPropositionalProgram P → IsPropositionalProgram Q → (n : ℕ) (x : Claimed) → IsFlagAt h n x → x.candidate.when ≡ equal_inputs x.pair → slice_get live n ≡ Some false → IsUnspent deaths n → NewFailureOf h.old h.new x.pair.old x.pair.new)
     where
       kept : AreKept h.old h.new
       kept = subst (λ (C : CoreProgram). AreKept C h.new) (sym old_is) (subst (λ (D : CoreProgram). AreKept (core_program P) D) (sym new_is) failures-kept)

@@ -3,7 +3,7 @@ use Rattle.std.specs.Prelude.{◌≡◌, ◌⊎◌, ◌<◌, ℕ, List, Option, 
 use Rattle.sd_base.specs.Outside.{WhereTold}
 use Rattle.sd_base.specs.Causes.{Rose}
 use Rattle.sd_ast.specs.declared.Program.{Program}
-use Rattle.sd_extract.specs.Form.{IsStraightProgram}
+use Rattle.sd_extract.specs.Form.{IsPropositionalProgram}
 use Rattle.sd_cert.specs.declared.fault.CertError.{CertError}
 use Rattle.symdiff.specs.Words.{Task, verify, replay, JobNames, job_of}
 use Rattle.sd_match.specs.Refusals.{Refusal}
@@ -44,7 +44,7 @@ Headline words held pairs = ForPrograms words held (λ old new. NoNewFailure old
 -- Where the texts are over truth values, without calls and loops, each pair that is said to be unknown, though no search for a
 -- candidate of it was spent, has a new failure.
 abbrev pub UnknownIsFailure : List (List ℕ) → (List ℕ → Option (List ℕ)) → List Death → List PairVerdict → Type 0
-UnknownIsFailure words held deaths pairs = ForPrograms words held (λ old new. IsStraightProgram old → IsStraightProgram new → AreNewFailures old new deaths pairs)
+UnknownIsFailure words held deaths pairs = ForPrograms words held (λ old new. IsPropositionalProgram old → IsPropositionalProgram new → AreNewFailures old new deaths pairs)
 
 -- the count of a certificate that is to be read rose
 abbrev pub CertificateRose : Task → (List ℕ → ℕ) → (List ℕ → ℕ) → Type 0

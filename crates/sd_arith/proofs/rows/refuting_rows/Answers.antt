@@ -4,7 +4,7 @@ use Rattle.sd_linear.specs.declared.step.RowStep.{RowStep}
 use Rattle.sd_linear.specs.Held.{Justified}
 use Rattle.sd_arith.specs.Lines.{HasInput, line_of}
 use Rattle.sd_arith.specs.Gathered.{rows_of_terms}
-use Rattle.sd_arith.proofs.Closing.{takes-inputs, shuts}
+use Rattle.sd_arith.proofs.Closing.{takes-inputs, closes_branch}
 use Rattle.sd_arith.proofs.rows.refuting_rows.Goals as goal
 
 pub lines_of-requires : goal.lines_of-requires
@@ -19,6 +19,6 @@ pub returns-in-Refuted-clause-some : goal.returns-in-Refuted-clause-some
 returns-in-Refuted-clause-some c =
     let terms = c.args.terms.now in
     let trail = trail_of terms c.args.trail.now in
-    shuts terms trail (rows_of_terms terms trail terms) c.in_ok-gathered.gathered c.in_ok-gathered.ensures c.as_slice.result.now c.as_slice-in-Refuted.result.now c.in_ok-lines-in-Refuted.lines
+    closes_branch terms trail (rows_of_terms terms trail terms) c.in_ok-gathered.gathered c.in_ok-gathered.ensures c.as_slice.result.now c.as_slice-in-Refuted.result.now c.in_ok-lines-in-Refuted.lines
     c.in-Refuted.steps c.as_slice.ensures c.as_slice-in-Refuted.ensures (subst (Justified c.as_slice.result.now) c.in-Refuted.is c.in_ok-steps.ensures.justified)
     (c.in_ok-lines-in-Refuted.ensures ∙ ap (λ (ss : List RowStep). map (line_of c.as_slice-in-Refuted.result.now) ss) c.as_slice-in-Refuted-2.ensures)

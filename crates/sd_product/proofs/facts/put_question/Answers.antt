@@ -3,7 +3,7 @@ use Rattle.std.specs.Prelude.{IfOk, slice_get}
 use Rattle.sd_term.specs.Tree.{Tree}
 use Rattle.sd_vcgen.specs.Numbers.{DenoteAll, context_of}
 use Rattle.sd_product.specs.Query.{query_of}
-use Rattle.sd_product.specs.Questions.{work_in, quiets_in, asked, AreSidesFor}
+use Rattle.sd_product.specs.Questions.{work_in, infallibles_in, asked, AreSidesFor}
 use Rattle.sd_product.proofs.BodyLemmas.{sides_within, query_over, query_without}
 use Rattle.sd_product.proofs.facts.put_question.Goals as goal
 
@@ -25,7 +25,7 @@ returns-in-Some c =
     let q = c.args.question.now in
     let sides = subst (AreSidesFor q c.args.bank.now) c.in-Some.is c.requires.sides in
     subst (λ (facts : List Tree). IfOk c.put_facts.result (λ ids. DenoteAll c.put_facts.new.bank ids facts))
-    (query_over (work_in q) (quiets_in q) q.table.now (asked q) c.args.bank.now (slice_get q.old.program.now.procs q.pair.now.old) (slice_get q.new.program.now.procs q.pair.now.new) c.in-Some.sides sides) c.put_facts.ensures
+    (query_over (work_in q) (infallibles_in q) q.table.now (asked q) c.args.bank.now (slice_get q.old.program.now.procs q.pair.now.old) (slice_get q.new.program.now.procs q.pair.now.new) c.in-Some.sides sides) c.put_facts.ensures
 
 pub returns-in-None : goal.returns-in-None
 unfolding query_of
@@ -33,4 +33,4 @@ returns-in-None c =
     let q = c.args.question.now in
     let sides = subst (AreSidesFor q c.args.bank.now) c.in-None.is c.requires.sides in
     subst (DenoteAll c.args.bank.now c.no_facts.result)
-    (query_without (work_in q) (quiets_in q) q.table.now (asked q) c.args.bank.now (context_of q.old) (context_of q.new) (slice_get q.old.program.now.procs q.pair.now.old) (slice_get q.new.program.now.procs q.pair.now.new) sides) c.no_facts.ensures
+    (query_without (work_in q) (infallibles_in q) q.table.now (asked q) c.args.bank.now (context_of q.old) (context_of q.new) (slice_get q.old.program.now.procs q.pair.now.old) (slice_get q.new.program.now.procs q.pair.now.new) sides) c.no_facts.ensures

@@ -18,4 +18,4 @@ put_query-requires-clause-sides c =
     let claim : about.claimed ≡ asked q = some_is about.claimed (asked q) (sym about.claim_is ∙ ap (λ (k : Held). slice_get (claims_in k) c.args.candidate) (sym same) ∙ c.question-question.ensures.asked) in
     let here : i.own ≡ about.claimed.pair = some_is i.own about.claimed.pair (sym i.own_is ∙ (λ j. slice_get (pairs_in (same j)) (place j)) ∙ about.pair_is) in
     let own : i.own ≡ q.pair.now = here ∙ ap (λ (x : Claimed). x.pair) claim in
-    sides_for h q b.bank b.sides i.own c.question-question.ensures.work c.question-question.ensures.quiets own i.sides
+    sides_for h q b.bank b.sides i.own c.question-question.ensures.work c.question-question.ensures.infallibles own i.sides

@@ -1,6 +1,6 @@
 use Rattle.std.proofs.Common.{◌∙◌, ap, subst, List}
 use Rattle.sd_core.specs.declared.CoreProc.{CoreProc}
-use Rattle.sd_runs.specs.Quiet.{AreTheQuiet, entry_at}
+use Rattle.sd_runs.specs.Infallible.{AreTheInfallible, entry_at}
 use Rattle.sd_product.specs.Numbering.{firsts_from, places_from}
 use Rattle.sd_product.proofs.AscendingLemmas.{are_ascending_in}
 use Rattle.sd_product.proofs.work.Work.with_pairs.Goals as goal
@@ -13,8 +13,8 @@ invariant_of-result c = record {
   is_held = record {
     old_formed = c.requires.old;
     new_formed = c.requires.new;
-    old_quiet = subst (λ (ps : List CoreProc). AreTheQuiet ps (entry_at c.in_ok-old_quiet.old_quiet.items)) c.as_slice.ensures c.in_ok-old_quiet.ensures.quiet;
-    new_quiet = subst (λ (ps : List CoreProc). AreTheQuiet ps (entry_at c.in_ok-new_quiet.new_quiet.items)) c.as_slice-2.ensures c.in_ok-new_quiet.ensures.quiet;
+    old_infallible = subst (λ (ps : List CoreProc). AreTheInfallible ps (entry_at c.in_ok-old_infallible.old_infallible.items)) c.as_slice.ensures c.in_ok-old_infallible.ensures.infallible;
+    new_infallible = subst (λ (ps : List CoreProc). AreTheInfallible ps (entry_at c.in_ok-new_infallible.new_infallible.items)) c.as_slice-2.ensures c.in_ok-new_infallible.ensures.infallible;
   };
   are_pairs = c.requires.pairs;
   are_candidates = c.in_ok-candidates.ensures;

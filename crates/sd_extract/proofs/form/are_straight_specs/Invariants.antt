@@ -1,8 +1,0 @@
-use Rattle.std.proofs.Common.{drop}
-use Rattle.std.specs.Prelude.{◌↔◌}
-use Rattle.std.specs.List.{AllByRecursion}
-use Rattle.sd_extract.specs.Form.{IsStraightSpec}
-use Rattle.sd_extract.proofs.form.are_straight_specs.Given as goal
-
-abbrev pub invariant-loop-spec : goal.invariant-loop-spec
-invariant-loop-spec l = AllByRecursion IsStraightSpec l.specs ↔ AllByRecursion IsStraightSpec (drop l.spec-index l.specs)

@@ -1,6 +1,0 @@
-use Rattle.std.proofs.Common.{◌≡◌, length, drop}
-use Rattle.sd_runs.specs.Marks.{all_marked, refuted_from}
-use Rattle.sd_runs.proofs.quiet.mark_first.Given as goal
-
-abbrev pub invariant-loop-at : goal.invariant-loop-at
-invariant-loop-at l = all_marked (refuted_from (length l.procs) l.at (drop l.at l.procs)) (l.quiet.items, l.waiting.items) ≡ all_marked (refuted_from (length l.procs) 0 l.procs) (l.initial.quiet.items, l.initial.waiting.items)

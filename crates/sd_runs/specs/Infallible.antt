@@ -1,0 +1,35 @@
+-- Procedures that never raise their flag.
+use Rattle.std.specs.Prelude.{◌≡◌, ℕ, ◌<◌, Bool, true, false, List, Some, length, slice_get, get_or}
+use Rattle.std.specs.List.{AllByRecursion}
+use Rattle.sd_base.specs.Value.{Value}
+use Rattle.sd_base.specs.Meaning.{Interpretation}
+use Rattle.sd_core.specs.declared.CoreProc.{CoreProc}
+use Rattle.sd_core.specs.Run.{Ended, calls_within}
+use Rattle.sd_runs.specs.Calls.{callees_of, any_fail}
+
+-- a body without a failure, which calls procedures of this set alone
+pub record IsInfallibleBody (infallible : ℕ → Bool) (p : CoreProc) : Type 0 where
+  pub no_fail : any_fail p.body ≡ false
+  pub callees : AllByRecursion (λ q. infallible q ≡ true) (callees_of p.body)
+
+-- a set of procedures with such bodies
+abbrev pub IsInfallibleSet : List CoreProc → (ℕ → Bool) → Type 0
+IsInfallibleSet procs infallible = (q : ℕ) (p : CoreProc) → infallible q ≡ true → slice_get procs q ≡ Some p → IsInfallibleBody infallible p
+
+-- a set of procedures: of places in the list
+abbrev pub AreIn : List CoreProc → (ℕ → Bool) → Type 0
+AreIn procs infallible = (q : ℕ) → infallible q ≡ true → q < length procs
+
+-- the infallible procedures: the greatest set of procedures with such bodies
+pub record AreTheInfallible (procs : List CoreProc) (infallible : ℕ → Bool) : Type 0 where
+  pub is_set : IsInfallibleSet procs infallible
+  pub are_in : AreIn procs infallible
+  pub greatest : (other : ℕ → Bool) → IsInfallibleSet procs other → AreIn procs other → (q : ℕ) → other q ≡ true → infallible q ≡ true
+
+-- whether the entry of a procedure is set
+abbrev pub entry_at : List Bool → ℕ → Bool
+entry_at entries q = get_or entries q false
+
+-- A infallible procedure ends with its flag down.
+abbrev pub InfallibleRuns : Type 0
+InfallibleRuns = (I : Interpretation) (procs : List CoreProc) (infallible : ℕ → Bool) → IsInfallibleSet procs infallible → (n q : ℕ) (ins globals outs after : List Value) (flag : Bool) → infallible q ≡ true → calls_within I procs n q ins globals ≡ Ended outs after flag → flag ≡ false
