@@ -60,13 +60,6 @@ numbers-push : (ns : List ℕ) (n : ℕ) → AreLess ns → n < 2 ^ 64 → AreNu
 numbers-push [] n f h = (h, tt)
 numbers-push (m ∷ ns) n f h = (f.0, less-push ns n f.1 h)
 
-pub spaced-push : (text rest front more : List ℕ) (ns : List ℕ) (n : ℕ) → text ≡ spaced ns ++ rest → rest ≡ front ++ 32 ∷ more → front ≡ decimal n → text ≡ spaced (ns ++ n ∷ []) ++ more
-spaced-push text rest front more ns n e f g =
-    e ∙ ap (λ t. spaced ns ++ t) (f ∙ ap (λ t. t ++ 32 ∷ more) g ∙ sym (append_assoc (decimal n) (32 ∷ []) more))
-    ∙ sym (append_assoc (spaced ns) (decimal n ++ 32 ∷ []) more)
-    ∙ ap (λ t. (spaced ns ++ t) ++ more) (sym (append-nil (decimal n ++ 32 ∷ [])))
-    ∙ ap (λ t. t ++ more) (sym (flat_map-append (λ k. decimal k ++ 32 ∷ []) ns (n ∷ [])))
-
 spaced-last : (ns : List ℕ) (n : ℕ) → numbers_text (ns ++ n ∷ []) ≡ spaced ns ++ decimal n
 spaced-last [] n = refl
 spaced-last (m ∷ []) n =

@@ -30,9 +30,6 @@ link-last xs x = get_or_push xs x (record { term = 0; by = 0; from = 0 }) (lengt
 one-more : (xs : List Link) (x : Link) → length (xs ++ x ∷ []) ≡ suc (length xs)
 one-more xs x = omega (arith, length-append xs (x ∷ []))
 
-pub more-same : (xs ys : List Link) → ys ≡ xs → AreMore xs ys
-more-same xs ys e = record { longer = λ k h. subst (λ zs. k < length zs) (sym e) h; kept = λ k h. ap (λ zs. link_at zs k) e }
-
 pub more-push : (xs ys zs : List Link) (x : Link) → AreMore xs ys → zs ≡ ys ++ x ∷ [] → AreMore xs zs
 more-push xs ys zs x m e =
     subst (AreMore xs) (sym e) (record { longer = λ k h. omega (arith, m.longer k h, one-more ys x); kept = λ k h. link-kept ys x k (m.longer k h) ∙ m.kept k h })

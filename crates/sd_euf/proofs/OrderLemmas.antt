@@ -27,9 +27,6 @@ no-int-eq t w n = go (is_eq t) refl
     go false e = ap (λ x. x && is_int_sort (sort_of (part_at t 0))) e
     go true e = absurd (n (part_at t 0) (part_at t 1) (eq-form t w e).is)
 
-pub other-int : (t x y : Tree) → t ≡ eq_tree x y → false ≡ is_int_sort (sort_of x) → is_int_eq t ≡ false
-other-int t x y e n = ap is_int_eq e ∙ sym n
-
 -- a term that isn't false has another value
 pub known-true : (n : ℕ) (b : Bool) (s : Standing) → s ≡ Known n b → is_false_standing s ≡ false → b ≡ true
 known-true n b s e h = not-false b (ap is_false_standing (sym e) ∙ h)

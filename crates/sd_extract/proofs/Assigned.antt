@@ -42,18 +42,6 @@ found q (x ∷ xs) h = go (same_text q x) refl (found q xs) h
     go true t r h = inl ((bytes_decides q x).0 t)
     go false t r h = inr (r h)
 
-pub among_found : (q : Text) (xs : List Text) → Found q xs → is_among xs q ≡ true
-among_found q [] h = absurd h
-among_found q (x ∷ xs) h = ⊎_elim (λ (e : q ≡ x). here (same_text q x) ((bytes_decides q x).1 e)) (λ (l : Found q xs). there (same_text q x) (among_found q xs l)) h
-  where
-    here : (b : Bool) → b ≡ true → (b || is_among xs q) ≡ true
-    here true t = refl
-    here false t = absurd (cc)
-
-    there : (b : Bool) → is_among xs q ≡ true → (b || is_among xs q) ≡ true
-    there true t = refl
-    there false t = t
-
 has_found : (q : Text) (xs : List Text) → has q xs ≡ true → Found q xs
 has_found q [] h = absurd (cc)
 has_found q (x ∷ xs) h = go (same_text q x) refl (has_found q xs) h

@@ -17,9 +17,6 @@ plus_parts a b c d m n e f g h = λ i. record { calls = e i; args = f i; lefts =
 pub plus_assoc : (a b c : Counts) → plus (plus a b) c ≡ plus a (plus b c)
 plus_assoc a b c = plus_parts _ _ _ _ a (plus b c) (omega arith) (omega arith) (omega arith) (omega arith)
 
-pub plus_none : (a : Counts) → plus a none ≡ a
-plus_none a = sym (plus_parts a.calls a.args a.lefts a.loops a none (omega arith) (omega arith) (omega arith) (omega arith))
-
 -- ---- rows and lists
 
 row_kinds : {m : _} (ks : Row_of-Stmt m) → kinds_in ks ≡ kinds_of (items-the_row-Stmt m ks)
@@ -76,13 +73,6 @@ counts_next ss i s was more now whole lt at with sum so =
 or_assoc : (a b c : Bool) → ((a || b) || c) ≡ (a || (b || c))
 or_assoc true b c = refl
 or_assoc false b c = refl
-
-pub returns_next : (ss : List Stmt) (i : ℕ) (s : Stmt) (was more now whole : Bool) → i < length ss → s ≡ get_or ss i s → more ≡ has_return s.kind → now ≡ (was || more) → (was || has_return_among (kinds_of (drop i ss))) ≡ whole
-    → (now || has_return_among (kinds_of (drop (i + 1) ss))) ≡ whole
-returns_next ss i s was more now whole lt at with sum so =
-    let rest = has_return_among (kinds_of (drop (i + 1) ss)) in
-    ap (λ t. t || rest) (sum ∙ ap (λ t. was || t) with)
-    ∙ (or_assoc was (has_return s.kind) rest ∙ (sym (ap (λ (ks : List StmtKind). was || has_return_among ks) (kinds_next ss i s lt at)) ∙ so))
 
 -- after a choice, whose branches were counted one after the other
 pub plus_next : (at m n t next last : Counts) → next ≡ plus at m → last ≡ plus next n → plus m n ≡ t → last ≡ plus at t

@@ -28,12 +28,6 @@ among_append x (y ∷ ys) zs = ap (λ b. same_text x y || b) (among_append x ys 
 
 -- ---- one name
 
-pub new_skipped : (names : List Text) (name : Text) → is_among name names ≡ true → names ≡ with_new names name
-new_skipped names name is = sym (ap (λ b. if b then names else names ++ name ∷ []) is)
-
-pub new_pushed : (names out : List Text) (name name' : Text) → is_among name names ≡ false → name' ≡ name → out ≡ names ++ name' ∷ [] → out ≡ with_new names name
-new_pushed names out name name' is same pushed = pushed ∙ (ap (λ x. names ++ x ∷ []) same ∙ sym (ap (λ b. if b then names else names ++ name ∷ []) is))
-
 pub seen_pushed : (was now : Text → Option ℕ) (names out : List Text) (name name' name'' : Text) (n : ℕ) → HasSeen was names → name' ≡ name → name'' ≡ name → ((x : Text) → now x ≡ cond (same_text name' x) (Some n) (was x)) → out ≡ names ++ name'' ∷ [] → HasSeen now out
 seen_pushed was now names out name name' name'' n seen same same' updated pushed x =
     ap is_some (updated x)
@@ -110,13 +104,6 @@ specs_first : (ks : List Text) (s : Spec) (specs : List Spec) → specs_new ks (
 specs_first ks (Modifies xs) specs = refl
 specs_first ks (Requires free e) specs = refl
 specs_first ks (Ensures free e) specs = refl
-
-pub specs_next : (specs : List Spec) (i : ℕ) (s : Spec) (ks out whole : List Text) → i < length specs → s ≡ get_or specs i s → out ≡ specs_new ks (s ∷ []) → specs_new ks (drop i specs) ≡ whole → specs_new out (drop (i + 1) specs) ≡ whole
-specs_next specs i s ks out whole lt at made so =
-    ap (λ l. specs_new l (drop (i + 1) specs)) made ∙ (sym (specs_first ks s (drop (i + 1) specs)) ∙ (sym (ap (specs_new ks) (drop_next specs i s lt at)) ∙ so))
-
-pub names_next : (xs : List Text) (i : ℕ) (x : Text) (ks out whole : List Text) → i < length xs → x ≡ get_or xs i x → out ≡ with_new ks x → all_new ks (drop i xs) ≡ whole → all_new out (drop (i + 1) xs) ≡ whole
-names_next xs i x ks out whole lt at made so = ap (λ l. all_new l (drop (i + 1) xs)) made ∙ (sym (ap (all_new ks) (drop_next xs i x lt at)) ∙ so)
 
 pub specs_done : (specs : List Spec) (i : ℕ) (names : List Text) → length specs ≤ i → specs_new names (drop i specs) ≡ specs_new [] specs → names ≡ modified_names specs []
 specs_done specs i names le so = sym (ap (specs_new names) (drop_all specs i le)) ∙ (so ∙ modified_is specs)

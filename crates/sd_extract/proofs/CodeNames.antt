@@ -25,14 +25,6 @@ position_more place ys x y name next was now is within at named old updated =
     ∙ ((λ i. if same_text x y then Some place else position_from (is i) (drop (is i) ys) x)
     ∙ sym (ap (λ (zs : List Text). position_from place zs x) (drop-cons ys place y within ∙ ap (λ (z : Text). z ∷ drop (suc place) ys) (sym at)))))
 
-pub past_end : (ys : List Text) (n : ℕ) (x : Text) → n ≡ length ys → position_from n (drop n ys) x ≡ None
-past_end [] n x e = rw e refl
-past_end (y ∷ ys) n x e = rw e (go ys (suc (length ys)))
-  where
-    go : (zs : List Text) (k : ℕ) → position_from k (drop (length zs) zs) x ≡ None
-    go [] k = refl
-    go (z ∷ zs) k = go zs k
-
 record Stands (n : ℕ) (ys : List Text) (ps : List Spot) (x : Text) (i : ℕ) : Type 0 where
   from : n ≤ i
   is : slice_get ps (i - n) ≡ place_in ys ps x

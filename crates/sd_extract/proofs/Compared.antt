@@ -55,7 +55,3 @@ expected = (record { name = (codes "p"); parent = None; ins = (record { name = (
     record { name = (codes "q"); parent = None; ins = (record { name = (codes "a"); sort = sort.Int } ∷ record { name = (codes "b"); sort = sort.Int } ∷ []); outs = ([]); locals = (record { name = (codes "1@left"); sort = sort.Bool } ∷ []); modifies = ([]); body = ((cst.If (cx.Op cop.Not ((cx.Op cop.Not ((cx.Op cop.Eq ((cx.At (spot.Slot 0)) ∷ (cx.At (spot.Slot 1)) ∷ [])) ∷ [])) ∷ [])) (cst.Fail ∷ []) ([])) ∷ (cst.Call ((spot.Slot 2) ∷ []) 4 ((cx.At (spot.Slot 0)) ∷ (cx.At (spot.Slot 1)) ∷ [])) ∷ (cst.If (cx.At (spot.Slot 2)) (cst.Return ∷ []) ([])) ∷ cst.Return ∷ []) } ∷
     record { name = (codes "q@loop@1"); parent = (Some (3, 1)); ins = (record { name = (codes "a"); sort = sort.Int } ∷ record { name = (codes "b"); sort = sort.Int } ∷ []); outs = (record { name = (codes "left"); sort = sort.Bool } ∷ []); locals = ([]); modifies = ([]); body = ((cst.Assign ((spot.Slot 2) ∷ []) ((cx.Truth false) ∷ [])) ∷ (cst.If (cx.Op cop.Not ((cx.Op cop.Le ((cx.Num 0) ∷ (cx.At (spot.Slot 0)) ∷ [])) ∷ [])) ((cst.Assign ((spot.Slot 2) ∷ []) ((cx.Truth true) ∷ [])) ∷ cst.Return ∷ (cst.Call ((spot.Slot 2) ∷ []) 4 ((cx.At (spot.Slot 0)) ∷ (cx.At (spot.Slot 1)) ∷ [])) ∷ []) ([])) ∷ []) } ∷
     [])
-
-as_expected : core_procs program ≡ expected
-unfolding shape-the_row-Expr-1 hidden-the_row-Expr-1 shape-the_row-Stmt-0 hidden-the_row-Stmt-0 shape-the_row-CoreStmt-0 hidden-the_row-CoreStmt-0 shape-the_row-CoreExpr-0 hidden-the_row-CoreExpr-0 hidden digits
-as_expected = refl

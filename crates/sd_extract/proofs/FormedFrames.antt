@@ -54,9 +54,6 @@ use Rattle.sd_extract.proofs.FormedLists.{some_is, none_is, all_join, all_map}
 pub sorts_length : (vs : List Var) → length vs ≡ length (sorts_of vs)
 sorts_length vs = sym (length-map vs (λ v. v.sort))
 
-pub as_sorts : (vs ws : List Var) → sorts_of vs ≡ sorts_of ws → length vs ≡ length ws
-as_sorts vs ws e = sorts_length vs ∙ ap length e ∙ sym (sorts_length ws)
-
 -- ---- a routine with its declaration
 
 declared_first : (o : Option Proc) (i : Option Impl) (r : SourceRoutine) → with_body o i ≡ Some r → o ≡ Some r.declared

@@ -73,11 +73,6 @@ spots_typed F S [] ss h = h
 spots_typed F S (p ∷ ps) [] h = h
 spots_typed F S (p ∷ ps) (s ∷ ss) h = (h.0, spots_typed F S ps ss h.1)
 
-pub spots_length : (S : Store Sort) (ps : List Spot) (ss : List Sort) → AreSpotsOf S ps ss → length ps ≡ length ss
-spots_length S [] ss h = ap length (sym h)
-spots_length S (p ∷ ps) [] h = absurd h
-spots_length S (p ∷ ps) (s ∷ ss) h = ap (λ (n : ℕ). suc n) (spots_length S ps ss h.1)
-
 -- ---- apart
 
 pub slot_is : (i j : ℕ) → Slot i ≡ Slot j → i ≡ j

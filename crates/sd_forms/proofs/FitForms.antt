@@ -66,13 +66,3 @@ difference-proper d f g h k e = subst (λ (x : Form). IsProper x.parts) (sym e) 
 
 pub difference-near : (d f g : Form) → IsFit f → IsFit g → d ≡ less f g → unsigned_abs d.constant ≤ 2 ^ 67
 difference-near d f g h k e = subst (λ (x : Form). unsigned_abs x.constant ≤ 2 ^ 67) (sym e) (less-near f g h k)
-
--- the rows of facts are proper
-pub below_row-proper : (terms : List Tree) (t : Tree) → IsProper (below_row terms t).parts
-below_row-proper terms t = IsProper-less (form_of terms (part_at t 0)) (form_of terms (part_at t 1)) (IsFit-form_of terms (part_at t 0)).proper (IsFit-form_of terms (part_at t 1)).proper
-
-pub back_row-proper : (terms : List Tree) (t : Tree) → IsProper (back_row terms t).parts
-back_row-proper terms t = IsProper-less (form_of terms (part_at t 1)) (form_of terms (part_at t 0)) (IsFit-form_of terms (part_at t 1)).proper (IsFit-form_of terms (part_at t 0)).proper
-
-pub above_row-proper : (terms : List Tree) (t : Tree) → IsProper (above_row terms t).parts
-above_row-proper terms t = back_row-proper terms t

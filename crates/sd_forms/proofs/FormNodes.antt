@@ -26,19 +26,6 @@ form_by-two Neg k fs = refl
 form_by-two Mul k fs = refl
 form_by-two _ k fs = refl
 
--- the other heads have a column
-pub form_by-op : (o : Op) (k : ℕ) (fs : List Form) → (o ≡ op.Add → ⊥) → (o ≡ op.Sub → ⊥) → (o ≡ op.Mul → ⊥) → (o ≡ op.Neg → ⊥) → form_by (Plain o) k fs ≡ column k
-form_by-op op.Add k fs a b c d = absurd (a refl)
-form_by-op op.Sub k fs a b c d = absurd (b refl)
-form_by-op op.Mul k fs a b c d = absurd (c refl)
-form_by-op op.Neg k fs a b c d = absurd (d refl)
-form_by-op _ k fs a b c d = refl
-
-pub form_by-other : (h : Head) (k : ℕ) (fs : List Form) → ((n : ℕ) → h ≡ Num n → ⊥) → ((o : Op) → h ≡ Plain o → ⊥) → form_by h k fs ≡ column k
-form_by-other (Num n) k fs a b = absurd (a n refl)
-form_by-other (Plain o) k fs a b = absurd (b o refl)
-form_by-other _ k fs a b = refl
-
 forms-at : (f : Tree → Form) (ts : List Tree) (n i : ℕ) → i < n → i < length ts → form_at (map f (take n ts)) i ≡ f (tree_at ts i)
 forms-at f [] n i h l = absurd (omega arith)
 forms-at f (t ∷ ts) zero i h l = absurd (omega arith)
@@ -59,11 +46,6 @@ pub form_at-none : (g : ℕ → Form) (ps : List ℕ) (k : ℕ) → slice_get ps
 form_at-none g [] k e = refl
 form_at-none g (q ∷ ps) zero e = cc
 form_at-none g (q ∷ ps) (suc k) e = form_at-none g ps k e
-
-pub form_at-some : (g : ℕ → Form) (ps : List ℕ) (k p : ℕ) → slice_get ps k ≡ Some p → form_at (map g ps) k ≡ g p
-form_at-some g [] k p e = cc
-form_at-some g (q ∷ ps) zero p e = let f : q ≡ p = cc in ap g f
-form_at-some g (q ∷ ps) (suc k) p e = form_at-some g ps k p e
 
 pub form_of-next : (terms : List Tree) (forms : List Form) (node : TermNode) (id k : ℕ) → id < length terms → tree_of terms node ≡ tree_at terms id → PartsBelow id node
     → forms ≡ map (form_of terms) (take id terms) → k ≡ place_of terms (tree_at terms id)

@@ -24,12 +24,3 @@ form_of-append terms more t a =
     let under : AllIn terms (below t) = AllIn-left terms (below t) (t ∷ []) a in
     let here : has terms t ≡ true = (AllIn-right terms (below t) (t ∷ []) a).0 in
     λ i. form_by (head_of t) (place_of-append terms more t here i) (at_parts-append terms more t under i)
-
--- the forms of terms that are among closed terms
-pub forms-append : (terms more ts : List Tree) → IsClosed terms → AllIn terms ts → map (form_of (terms ++ more)) ts ≡ map (form_of terms) ts
-forms-append terms more [] c a = refl
-forms-append terms more (t ∷ ts) c a = λ i. form_of-append terms more t (c t a.0) i ∷ forms-append terms more ts c a.1 i
-
--- the forms of closed terms
-pub forms-kept : (terms more : List Tree) → IsClosed terms → map (form_of (terms ++ more)) terms ≡ map (form_of terms) terms
-forms-kept terms more c = forms-append terms more terms c (all-self terms)

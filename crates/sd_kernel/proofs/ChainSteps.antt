@@ -85,13 +85,6 @@ module _ (t a c : Tree) (ts : List Tree) (q : is_eq t ≡ true) (is_a : a ≡ pa
   pub chain-ends : r ≡ true → is_nil ts ≡ false → (s : Bool) → s ≡ same_tree a c → not s ≡ is_chain t ts
   chain-ends y n s e = sym (chain-is ∙ (λ i. y i && (n i || not (sym e i))))
 
-pub no-eq-chain : (t : Tree) (ts : List Tree) → is_eq t ≡ false → false ≡ is_chain t ts
-no-eq-chain t ts e = sym (ap (λ b. (b && leads (part_at t 0) ts (part_at t 1)) && (is_nil ts || not (same_tree (part_at t 0) (part_at t 1)))) e)
-
-pub nil-map : (terms : List Tree) (links : List ℕ) → length links ≡ 0 → is_nil (map (λ n. tree_at terms n) links) ≡ true
-nil-map terms [] e = refl
-nil-map terms (n ∷ links) e = absurd (omega (arith, e))
-
 pub more-map : (terms : List Tree) (links : List ℕ) → 0 < length links → is_nil (map (λ n. tree_at terms n) links) ≡ false
 more-map terms [] e = absurd (omega (arith, e))
 more-map terms (n ∷ links) e = refl

@@ -14,9 +14,6 @@ use Rattle.sd_kernel.proofs.Lookups.{sorted-at}
 grown : (old new : List Tree) (t : Tree) → AllWellSorted old → new ≡ old ++ t ∷ [] → IsWellSorted t → AllWellSorted new
 grown old new t a e w = subst AllWellSorted (sym e) (sorted-append old (t ∷ []) a (w, tt))
 
-pub symbol-grown : (old new : List Tree) (n : ℕ) (s : Sort) → AllWellSorted old → new ≡ old ++ leaf (Sym n s) ∷ [] → AllWellSorted new
-symbol-grown old new n s a e = grown old new (leaf (Sym n s)) a e (tt, refl)
-
 module _ (old new : List Tree) (all : AllWellSorted old) (parts : List ℕ) where
   module _ (a b : ℕ) (x : a < length old) (y : b < length old) (is : parts ≡ a ∷ b ∷ []) where
     pub equal-grown : sort_of (tree_at old a) ≡ sort_of (tree_at old b) → new ≡ old ++ tree_of old (record { head = Plain op.Eq; parts = parts }) ∷ [] → AllWellSorted new
@@ -40,12 +37,3 @@ module _ (old new : List Tree) (all : AllWellSorted old) (parts : List ℕ) wher
       grown old new (tree (Plain op.Ite) (map (λ n. tree_at old n) parts)) all e
       (subst (λ ps. IsWellSorted (tree (Plain op.Ite) (map (λ n. tree_at old n) ps))) (sym is)
       ((((tt, sorted-at old c all z), sorted-at old a all x), sorted-at old b all y), (sort_of (tree_at old a), λ i. s i ∷ sort_of (tree_at old a) ∷ sym r i ∷ [])))
-
-pub three-below : (n a b c : ℕ) (ns : List ℕ) → ns ≡ a ∷ b ∷ c ∷ [] → a < n → b < n → c < n → All (λ m. m < n) ns
-three-below n a b c ns e x y z =
-    subst (λ l. All (λ m. m < n) l) (sym e)
-    (All-cons (λ m. m < n) a (b ∷ c ∷ []) x (All-cons (λ m. m < n) b (c ∷ []) y (All-cons (λ m. m < n) c [] z (All-nil (λ m. m < n)))))
-
-pub sorted-of : (ts : List Tree) (ns : List ℕ) → AllWellSorted ts → All (λ n. n < length ts) ns → AllWellSorted (map (λ n. tree_at ts n) ns)
-sorted-of ts [] w a = tt
-sorted-of ts (n ∷ ns) w a = (sorted-at ts n w (a 0 0 (omega arith)), sorted-of ts ns w (λ k d lt. a (suc k) d (omega (arith, lt))))

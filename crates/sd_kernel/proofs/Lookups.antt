@@ -71,14 +71,6 @@ in-rest terms n ns h = and-right (nat_lt n (length terms)) (are_in terms ns) h
 pub in-second : (terms : List Tree) (a b : ℕ) (ns : List ℕ) → are_in terms (a ∷ b ∷ ns) ≡ true → b < length terms
 in-second terms a b ns h = in-first terms b ns (in-rest terms a (b ∷ ns) h)
 
-pub in-third : (terms : List Tree) (a b c : ℕ) (ns : List ℕ) → are_in terms (a ∷ b ∷ c ∷ ns) ≡ true → c < length terms
-in-third terms a b c ns h = in-second terms b c ns (in-rest terms a (b ∷ c ∷ ns) h)
-
-pub all-in : (terms : List Tree) (ns : List ℕ) → are_in terms ns ≡ true → All (λ n. n < length terms) ns
-all-in terms [] h k d lt = absurd (omega (arith, lt))
-all-in terms (n ∷ ns) h zero d lt = in-first terms n ns h
-all-in terms (n ∷ ns) h (suc k) d lt = all-in terms ns (in-rest terms n ns h) k d (omega (arith, lt))
-
 pub all_at-some : (terms : List Tree) (ns : List ℕ) → are_in terms ns ≡ true → all_at terms ns ≡ Some (map (λ n. tree_at terms n) ns)
 all_at-some terms [] h = refl
 all_at-some terms (n ∷ ns) h =

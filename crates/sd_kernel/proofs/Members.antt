@@ -62,11 +62,6 @@ pub about-snoc : (terms : List Tree) (fs : Trail) (f : Fact) → AreAbout terms 
 about-snoc terms [] f a h = (h, tt)
 about-snoc terms (g ∷ fs) f a h = (a.0, about-snoc terms fs f a.1 h)
 
-pub about-get : (terms : List Tree) (fs : Trail) (n : ℕ) (f : Fact) → AreAbout terms fs → slice_get fs n ≡ Some f → has terms f.0 ≡ true
-about-get terms [] n f a e = cc
-about-get terms (g ∷ fs) zero f a e = let h : g ≡ f = cc in subst (λ (x : Fact). has terms x.0 ≡ true) h a.0
-about-get terms (g ∷ fs) (suc n) f a e = about-get terms fs n f a.1 e
-
 pub about-more : (terms mid : List Tree) (fs : Trail) → ((t : Tree) → has terms t ≡ true → has mid t ≡ true) → AreAbout terms fs → AreAbout mid fs
 about-more terms mid [] k a = tt
 about-more terms mid (f ∷ fs) k a = (k f.0 a.0, about-more terms mid fs k a.1)

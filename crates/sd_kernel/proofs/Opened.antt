@@ -28,11 +28,6 @@ slice_get-at [] n h = absurd (omega arith)
 slice_get-at (t ∷ ts) zero h = refl
 slice_get-at (t ∷ ts) (suc n) h = slice_get-at ts n (omega (arith, h))
 
-pub slice_get-fact : (terms : List Tree) (fs : List NumberedFact) (n : ℕ) (d : NumberedFact) → n < length fs → slice_get (trail_of terms fs) n ≡ Some (fact_of terms (get_or fs n d))
-slice_get-fact terms [] n d h = absurd (omega arith)
-slice_get-fact terms (f ∷ fs) zero d h = refl
-slice_get-fact terms (f ∷ fs) (suc n) d h = slice_get-fact terms fs n d (omega (arith, h))
-
 pub trail_of-snoc : (terms : List Tree) (fs : List NumberedFact) (f : NumberedFact) → trail_of terms (fs ++ f ∷ []) ≡ trail_of terms fs ++ fact_of terms f ∷ []
 trail_of-snoc terms [] f = refl
 trail_of-snoc terms (g ∷ fs) f = ap (λ l. fact_of terms g ∷ l) (trail_of-snoc terms fs f)
@@ -58,15 +53,6 @@ facts-more terms (f ∷ fs) (suc n) g a lt zero d k = a 0 d (omega arith)
 facts-more terms (f ∷ fs) (suc n) g a lt (suc j) d k = facts-more terms fs n g (λ i e l. a (suc i) e (omega (arith, l))) lt j d (omega (arith, k))
 
 -- ---- a step and its effect
-
--- what a step makes of the first open branch is what its effect does
-pub next-effect : (terms : List Tree) (fs : List NumberedFact) (ws : List Waiting) (o : Bool) (s : State) (x : Step) (e : Effect) → ◌≡◌ {A = State} (terms, open_branches terms fs ws o) s
-    → outcome terms (trail_of terms fs) x ≡ outcome_of terms (trail_of terms fs) e → next s x ≡ after_effect s e
-next-effect terms fs ws o s x e is h = ap (λ t. next t x) (sym is) ∙ go o ∙ ap (λ t. after_effect t e) is
-  where
-    go : (b : Bool) → next (terms, open_branches terms fs ws b) x ≡ after_effect (terms, open_branches terms fs ws b) e
-    go true = ap (after (waiting_branches terms fs (reverse ws))) h
-    go false = refl
 
 pub open-true : (terms : List Tree) (fs : List NumberedFact) (ws : List Waiting) (o : Bool) (s : State) → ◌≡◌ {A = State} (terms, open_branches terms fs ws o) s → IsOpen s → o ≡ true
 open-true terms fs ws true s is h = refl

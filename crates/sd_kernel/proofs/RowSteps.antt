@@ -63,9 +63,6 @@ module _ (rows : List Row) (a i b j : ℕ) (p q : Row) (at_a : Some p ≡ slice_
       (IsProper-times i p.parts (at-least-one i (and-left (is_multiplier i) (is_multiplier j) (sym test ∙ y))) (row-computable rows a p at_a c).0)
       (IsProper-times j q.parts (at-least-one j (and-right (is_multiplier i) (is_multiplier j) (sym test ∙ y))) (row-computable rows b q at_b c).0))
 
-pub sum-no-second : (rows : List Row) (a i b j : ℕ) (p : Row) → Some p ≡ slice_get rows a → None ≡ slice_get rows b → row_of_sum rows a i b j ≡ wrong Number
-sum-no-second rows a i b j p e n = λ u. named_row (sym e u) (λ r. named_row (sym n u) (λ s. if is_multiplier i && is_multiplier j then made (added i r j s) else wrong RowCause))
-
 module _ (rows : List Row) (a : ℕ) (p s t : Row) (at_a : Some p ≡ slice_get rows a) (copy : s ≡ p) (cut : t ≡ reduced s) where
   pub cut-made : row_of_cut rows a ≡ made t
   cut-made = ap (λ o. named_row o (λ r. made (reduced r))) (sym at_a) ∙ ap made (sym (cut ∙ ap reduced copy))

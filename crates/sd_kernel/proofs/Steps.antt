@@ -12,14 +12,6 @@ pub lines-last : (xs : List Step) (x : Step) → lines_in (xs ++ x ∷ []) ≡ l
 lines-last [] x = omega arith
 lines-last (y ∷ xs) x = omega (arith, lines-last xs x)
 
--- a closed walk has read a proof
-pub closed-accepts : (s t : State) (xs : List Step) → ((rest : List Step) → judged s 0 (xs ++ rest) ≡ judged t (lines_in xs) rest) → ((t.1 ≡ [] → ⊥) → ⊥) → judged s 0 xs ≡ Accepted
-closed-accepts s t xs h n = ap (λ l. judged s 0 l) (sym (append-nil xs)) ∙ h [] ∙ closed t.1 n
-  where
-    closed : (bs : List Trail) → ((bs ≡ [] → ⊥) → ⊥) → at_end bs (lines_in xs) ≡ Accepted
-    closed [] n = refl
-    closed (b ∷ bs) n = absurd (n (λ e. cc))
-
 -- one more step
 pub one-more : (s t t' : State) (xs : List Step) (x : Step) → ((rest : List Step) → judged s 0 (xs ++ rest) ≡ judged t (lines_in xs) rest) → next t x ≡ goes t'
     → (rest : List Step) → judged s 0 ((xs ++ x ∷ []) ++ rest) ≡ judged t' (lines_in (xs ++ x ∷ [])) rest

@@ -27,16 +27,8 @@ not-same a b n = go (same_tree a b) refl
 pub first_fact-hit : (f : Fact) (fs : Trail) (t : Tree) → f.0 ≡ t → first_fact (f ∷ fs) t ≡ Some f.1
 first_fact-hit f fs t e = ap (λ b. cond b (Some f.1) (first_fact fs t)) (ap (λ u. same_tree f.0 u) (sym e) ∙ same_tree-self f.0)
 
-pub first_fact-miss : (f : Fact) (fs : Trail) (t : Tree) → (f.0 ≡ t → ⊥) → first_fact (f ∷ fs) t ≡ first_fact fs t
-first_fact-miss f fs t n = ap (λ b. cond b (Some f.1) (first_fact fs t)) (not-same f.0 t n)
-
 pub drop-at : {A : Type 0} (xs : List A) (i : ℕ) (d : A) → i < length xs → drop i xs ≡ get_or xs i d ∷ drop (i + 1) xs
 drop-at xs i d h = grind (arith, common_steps)
-
--- one more fact passed over
-pub trail-at : (terms : List Tree) (fs : List NumberedFact) (i : ℕ) (f : NumberedFact) (t : Tree) → i < length fs → f ≡ get_or fs i f
-    → first_fact (trail_of terms (drop i fs)) t ≡ first_fact (fact_of terms f ∷ trail_of terms (drop (i + 1) fs)) t
-trail-at terms fs i f t h e = ap (λ l. first_fact (trail_of terms l) t) (drop-at fs i f h) ∙ ap (λ g. first_fact (fact_of terms g ∷ trail_of terms (drop (i + 1) fs)) t) (sym e)
 
 module _ (trail : Trail) (terms : List Tree) where
   pub known-node : (node : TermNode) (t : Tree) → tree_of terms node ≡ t
@@ -137,8 +129,3 @@ module _ (terms : List Tree) (t : Tree) (b : Bool) where
   pub has-more : (fs : List NumberedFact) (i : ℕ) (f : NumberedFact) → i < length fs → f ≡ get_or fs i f → has_fact (take i (trail_of terms fs)) t b ≡ false
       → false ≡ same_tree (tree_at terms f.term) t && same_bool f.value b → has_fact (take (i + 1) (trail_of terms fs)) t b ≡ false
   has-more fs i f l e h o = ap (λ n. has_fact (take n (trail_of terms fs)) t b) (add-one i) ∙ has-suc fs i f l e ∙ ap (λ s. s || on f) h ∙ sym o
-
-pub get_or-other : {A : Type 0} (xs : List A) (i : ℕ) (d e : A) → i < length xs → get_or xs i d ≡ get_or xs i e
-get_or-other [] i d e h = absurd (omega arith)
-get_or-other (x ∷ xs) zero d e h = refl
-get_or-other (x ∷ xs) (suc i) d e h = get_or-other xs i d e (omega (arith, h))

@@ -46,9 +46,6 @@ whole_cut f b more k p e within piece longest = record {
   };
 }
 
-pub blank_begins : (b : ℕ) (more : Bytes) → first b ≡ Blank → BeginsWith (b ∷ more) Gap 1
-blank_begins b more e = whole_cut Blank b more 0 Gap e (omega arith) (refl, refl) (λ c extra after q split h. absurd (let k : c ∷ extra ≡ [] = h.0 in cc))
-
 word_begins : (b : ℕ) (more : Bytes) → first b ≡ Letter → BeginsWith (b ∷ more) (word (b ∷ take (prefix_len is_name_byte more) more)) (suc (prefix_len is_name_byte more))
 word_begins b more e = whole_cut Letter b more (prefix_len is_name_byte more) _ e (prefix_len-le-length is_name_byte more)
     (each_front is_name_byte more, refl)

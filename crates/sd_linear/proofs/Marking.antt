@@ -28,12 +28,6 @@ or-cases : (a b : Bool) → (a || b) ≡ true → (a ≡ true) ⊎ (b ≡ true)
 or-cases true b e = inl refl
 or-cases false b e = inr e
 
-pub marks-start : (steps : List RowStep) (marks none : List Bool) → 0 < length steps → none ≡ replicate (length steps) false → length none ≡ length steps → marks ≡ set none (length steps - 1) true → MarksFrom steps (length steps) marks
-marks-start steps marks none h e m f = record {
-  count = n;
-  last = λ k g. let i : k ≡ length steps - 1 = omega arith in ap (λ (l : List Bool). is_marked l k) f ∙ ap (λ (j : ℕ). is_marked (set none (length steps - 1) true) j) i ∙ get_or-set_same none (length steps - 1) true false (omega arith);
-  closed = λ k j i g l. absurd (outside k i g);
-  used = λ k i g. absurd (inside k i g);
 }
   where
     n : length marks ≡ length steps
@@ -48,25 +42,12 @@ marks-start steps marks none h e m f = record {
         let b : is_marked none k ≡ false = ap (λ (l : List Bool). is_marked l k) e ∙ get_or-replicate (length steps) k false false (omega arith) in
         cc
 
-pub marks-skip : (steps : List RowStep) (i : ℕ) (marks : List Bool) → is_marked marks i ≡ false → MarksFrom steps (i + 1) marks → MarksFrom steps i marks
-marks-skip steps i marks e m = record {
-  count = m.count;
-  last = m.last;
-  closed = λ k j h g l. go k j h g l (k == i) refl;
-  used = m.used;
 }
   where
     go : (k j : ℕ) → i ≤ k → is_marked marks k ≡ true → names (step_at steps k) j ≡ true → (b : Bool) → (k == i) ≡ b → is_marked marks j ≡ true
     go k j h g l true f = let n : k ≡ i = eqb-true k i f in let o : is_marked marks k ≡ is_marked marks i = ap (λ (x : ℕ). is_marked marks x) n in absurd (cc)
     go k j h g l false f = m.closed k j (omega (arith, eqb-false k i f)) g l
 
-pub marks-put : (steps : List RowStep) (i : ℕ) (marks marks' : List Bool) → i < length steps → AllEarlier steps → is_marked marks i ≡ true → length marks' ≡ length marks
-    → ((j : ℕ) → is_marked marks' j ≡ (is_marked marks j || names (step_at steps i) j)) → MarksFrom steps (i + 1) marks → MarksFrom steps i marks'
-marks-put steps i marks marks' h a e n f m = record {
-  count = n ∙ m.count;
-  last = λ k g. keep k (m.last k g);
-  closed = λ k j g l o. closed k j g l o (k == i) refl;
-  used = λ k g l. used k g (or-cases (is_marked marks k) (names (step_at steps i) k) (sym (f k) ∙ l));
 }
   where
     keep : (k : ℕ) → is_marked marks k ≡ true → is_marked marks' k ≡ true
@@ -84,6 +65,3 @@ marks-put steps i marks marks' h a e n f m = record {
     used : (k : ℕ) → k + 1 < length steps → (is_marked marks k ≡ true) ⊎ (names (step_at steps i) k ≡ true) → (j : ℕ) × (is_marked marks' j ≡ true) × (names (step_at steps j) k ≡ true)
     used k g (inl r) = let u = m.used k g r in (u.0, keep u.0 u.1, u.2)
     used k g (inr r) = (i, keep i e, r)
-
-pub marks-done : (steps : List RowStep) (marks : List Bool) → MarksFrom steps 0 marks → AreNeeded steps marks
-marks-done steps marks m = record { count = m.count; last = m.last; closed = λ k j e f. m.closed k j (omega arith) e f; used = m.used }

@@ -141,9 +141,6 @@ leads-on columns n k first now later lists lists' with c e g w a l = record {
       l.descends;
 }
 
-pub leads-from : (columns : List ℕ) (n : ℕ) (first now : List Row) (lists : List (List Held)) → n ≡ length columns → Leads columns n first now lists → DescendsFrom columns first lists
-leads-from columns n first now lists e l = record { all = l.all; starts = l.starts; descends = subst (λ (m : ℕ). Descends columns m l.all lists) e l.descends }
-
 -- what fails at a column fails at the first
 climbs : (inputs : List Row) (stop : Stop) (columns : List ℕ) (n : ℕ) (all : List (List Row)) (lists : List (List Held)) (i : ℕ) → Descends columns n all lists → i ≤ n → n ≤ length columns
     → Fails inputs stop (solved (drop i columns) (rows_at all i)) → Fails inputs stop (solved columns (rows_at all 0))

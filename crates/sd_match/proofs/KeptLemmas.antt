@@ -60,13 +60,6 @@ kept_none keep name n (x ∷ xs) f none = go (keep x && same_text f (name x)) re
     go true is h rest = absurd (let bad : ◌≡◌ {A = Option ℕ} (Some n) None = h in cc)
     go false is h rest = ap (λ b. if b then Some x else kept_named keep name xs f) is ∙ rest h
 
--- one thing more at the front
-pub kept_more : {A : Type 0} (keep : A → Bool) (name : A → Text) (place : ℕ) (xs : List A) (f : Text) (x : A) (next : ℕ) (was now : Option ℕ) → next ≡ suc place → place < length xs → x ≡ get_or xs place x
-    → now ≡ (if keep x && same_text f (name x) then Some place else was) → was ≡ kept_from keep name next (drop next xs) f → now ≡ kept_from keep name place (drop place xs) f
-kept_more keep name place xs f x next was now is within at updated before =
-    updated ∙ ap (λ o. if keep x && same_text f (name x) then Some place else o) (before ∙ ap (λ n. kept_from keep name n (drop n xs) f) is)
-    ∙ sym (ap (λ ys. kept_from keep name place ys f) (drop-cons xs place x within ∙ ap (λ y. y ∷ drop (suc place) xs) (sym at)))
-
 -- ---- what is kept
 
 abbrev pub is_root : CoreProc → Bool

@@ -42,9 +42,6 @@ same_sort-test s t r h = go r (same_sort s t) h refl
 
 -- ---- places by name and type
 
-name_of : Var → Text
-name_of v = v.name
-
 pub no_place : (n : ℕ) (xs : List Var) (x : Var) → first_named (λ (v : Var). v.name) xs x.name ≡ None → failure.place_from n xs x ≡ None
 no_place n [] x e = refl
 no_place n (y ∷ ys) x e = go (same_text x.name y.name) refl e (λ h. no_place (suc n) ys x h)

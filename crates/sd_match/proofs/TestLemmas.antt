@@ -22,38 +22,12 @@ alone s = with_global s (simple (112 ∷ []) [] ∷ [])
 abbrev pub calling : Sort → CoreProgram
 calling s = with_global s (simple (112 ∷ []) (Call [] 1 [] ∷ []) ∷ simple (113 ∷ []) [] ∷ [])
 
--- one procedure alone
-pub alone_formed : (s : Sort) → IsSort s → WellFormed (alone s)
-unfolding IsDistinct
-alone_formed s is_sort = record {
-  global_names = (tt, tt);
-  global_sorts = (is_sort, tt);
-  function_names = tt;
-  constant_names = tt;
-  signatures = tt;
-  uniques = tt;
-  axioms = tt;
-  proc_names = (tt, tt);
-  procs = each;
 }
   where
     each : (n : ℕ) (p : CoreProc) → slice_get (alone s).procs n ≡ Some p → IsProc (alone s) n p
     each zero p e = subst (IsProc (alone s) 0) (some_is (simple (112 ∷ []) []) p e) (record { sorts = tt; modifies = tt; modifies_once = tt; place = tt; body = tt })
     each (suc n) p e = absurd (let bad : ◌≡◌ {A = Option CoreProc} None (Some p) = e in cc)
 
--- one that calls the other
-pub calling_formed : (s : Sort) → IsSort s → WellFormed (calling s)
-unfolding IsDistinct
-calling_formed s is_sort = record {
-  global_names = (tt, tt);
-  global_sorts = (is_sort, tt);
-  function_names = tt;
-  constant_names = tt;
-  signatures = tt;
-  uniques = tt;
-  axioms = tt;
-  proc_names = ((refl, tt), (tt, tt));
-  procs = each;
 }
   where
     each : (n : ℕ) (p : CoreProc) → slice_get (calling s).procs n ≡ Some p → IsProc (calling s) n p

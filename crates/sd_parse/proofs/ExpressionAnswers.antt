@@ -115,9 +115,6 @@ pub record Given (b : ℕ) (u : Tokens) (xs : Group) : Type 0 where
 abbrev pub Next : ℕ → Tokens → Tall → Type 0
 Next b = Both (Wanted s.Comma) (λ _. Within b Whole)
 
-regrow : (u v : Tokens) (es : List Expr) {h k : ℕ} → h ≡ k → Expressions u es h → Expressions u es k
-regrow u v es e q = subst (λ n. Expressions u es n) e q
-
 snoc : {c : Token} {v : Tokens} {e : Expr} {k : ℕ} {p : Place} → Is s.Comma c → Phrase Whole v e k p → {u : Tokens} {es : List Expr} {h : ℕ} → Expressions u es h → Expressions (u ++ c ∷ v) (es ++ e ∷ []) (max h k)
 snoc i q (g.one a) = g.more a i (g.one q)
 snoc {c = c} {v = v} {e = e} {k = k} i q (g.more {c = o} {u = w} {v = z} {e = f} {es = es} {h = h} {k = j} a t m) =

@@ -264,7 +264,3 @@ pub lift_one : (d : ℕ) (l : Level) (ts : Tokens) → Lifts (read d l ts) (read
 unfolding read
 lift_one zero l ts = lift_zero l ts (begins (sign_of (ahead ts))) refl
 lift_one (suc d) l ts = lift_layer d (read d) (read (suc d)) (lift_one d) l ts
-
--- A reader of more height gives what a lower one gives, unless that finds a token too deep.
-pub lift_read : (k d : ℕ) (l : Level) (ts : Tokens) → Lifts (read d l ts) (read (d + k) l ts)
-lift_read k d l ts = lift_more (λ d. read d l) (λ d ts. lift_one d l ts) k d ts

@@ -111,15 +111,6 @@ name_sound (t ∷ ts) = by_kind t.kind refl
     by_kind (kind.Ident x) e = record { fact = (t ∷ [], refl, named (record { same = e })) }
     by_kind _ e = record { fact = tt }
 
-pub number_sound : (ts : Tokens) → Sound Counted ts (number ts)
-unfolding number
-number_sound [] = record { fact = tt }
-number_sound (t ∷ ts) = by_kind t.kind refl
-  where
-    by_kind : (k : TokenKind) → t.kind ≡ k → Sound Counted (t ∷ ts) (number_by t ts k)
-    by_kind (kind.Number n) e = record { fact = (t ∷ [], refl, counted (record { same = e })) }
-    by_kind _ e = record { fact = tt }
-
 -- ---- items
 
 -- texts of the language one after another, each added to what stood before

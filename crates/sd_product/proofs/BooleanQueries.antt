@@ -63,33 +63,6 @@ site_inputs-boolean a h = entry-boolean a.args a.before h.args h.before
 site_ends-boolean : (a : Site) → BooleanSite a → BooleanStore (site_ends a)
 site_ends-boolean a h = exit-boolean a.args a.outs a.after h.args h.outs h.after
 
-implication-boolean : (x : Claimed) (a b : Site) → IsEqualClaimed x → BooleanSite a → BooleanSite b → IsBoolean (implication x a b)
-implication-boolean x a b e h k =
-    let conditions = map (term_of x.pair.inputs (site_inputs a) (site_inputs b)) x.candidate.when in
-    let claim = claim_term x.pair.outputs x.candidate.claim (site_ends a) a.flag (site_ends b) b.flag in
-    let p : IsBoolean claim = claim-boolean x.pair.outputs x.candidate.claim (site_ends a) a.flag (site_ends b) b.flag e.claim (site_ends-boolean a h) h.flag (site_ends-boolean b k) k.flag in
-    let ws : AllBoolean conditions = terms-boolean x.pair.inputs (site_inputs a) (site_inputs b) x.candidate.when e.when (site_inputs-boolean a h) (site_inputs-boolean b k) in
-    implies-boolean a.guard (or_of (not_of b.guard) (under conditions claim)) h.guard (implies-boolean b.guard (under conditions claim) k.guard (under-boolean conditions claim ws p))
-
-if-boolean : (c : Bool) (t : Tree) → IsBoolean t → AllBoolean (if c then t ∷ [] else [])
-if-boolean true t h = (h, tt)
-if-boolean false t h = tt
-
-calls-boolean : (table : List Bool) (n : ℕ) (xs : List Claimed) (a b : Site) → AllByRecursion IsEqualClaimed xs → BooleanSite a → BooleanSite b → AllBoolean (calls_related table n xs a b)
-calls-boolean table n [] a b e h k = tt
-calls-boolean table n (x ∷ xs) a b e h k =
-    append-boolean _ (calls_related table (suc n) xs a b) (if-boolean (is_live table n && is_about x a b) (implication x a b) (implication-boolean x a b e.0 h k)) (calls-boolean table (suc n) xs a b e.1 h k)
-
-each-boolean : (table : List Bool) (xs : List Claimed) (a : Site) (bs : List Site) → AllByRecursion IsEqualClaimed xs → BooleanSite a → AllByRecursion BooleanSite bs → AllBoolean (with_each table xs a bs)
-each-boolean table xs a [] e h k = tt
-each-boolean table xs a (b ∷ bs) e h k =
-    append-boolean (calls_related table 0 xs a b) (with_each table xs a bs) (calls-boolean table 0 xs a b e h k.0) (each-boolean table xs a bs e h k.1)
-
-related-boolean : (table : List Bool) (xs : List Claimed) (as' bs : List Site) → AllByRecursion IsEqualClaimed xs → AllByRecursion BooleanSite as' → AllByRecursion BooleanSite bs → AllBoolean (all_related table xs as' bs)
-related-boolean table xs [] bs e h k = tt
-related-boolean table xs (a ∷ as') bs e h k =
-    append-boolean (with_each table xs a bs) (all_related table xs as' bs) (each-boolean table xs a bs e h.0 k) (related-boolean table xs as' bs e h.1 k)
-
 -- ---- sides
 
 -- a side over truth values

@@ -22,9 +22,6 @@ pub record Gathers (d : ℕ) (rest all : Parts) : Type 0 where
   pub into : (e : ℕ) → e ∣ d → Divides e rest → Divides e all
   pub back : (e : ℕ) → Divides e all → (e ∣ d) × Divides e rest
 
-pub gathers-start : (all : Parts) → Gathers 0 all all
-gathers-start all = record { into = λ e h k. k; back = λ e k. (dvd-zero e, k) }
-
 pub gathers-step : (d g : ℕ) (p : Part) (ps all : Parts) → IsGcd d (unsigned_abs p.1) g → Gathers d (p ∷ ps) all → Gathers g ps all
 gathers-step d g p ps all h k = record {
   into = λ e a b. k.into e (dvd_trans e a h.0) (dvd_trans e a h.1, b);

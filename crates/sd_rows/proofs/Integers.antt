@@ -44,12 +44,6 @@ zero_left a = omega (arith, ints)
 pub same_number_is : (a b : ℤ) → same_number a b ≡ true → a ≡ b
 same_number_is a b e = grind (arith, ints)
 
-pub same_number_self : (a : ℤ) → same_number a a ≡ true
-same_number_self a = grind (arith, ints)
-
-pub ≤ℤ_trans : (a b c : ℤ) → a ≤ℤ b → b ≤ℤ c → a ≤ℤ c
-≤ℤ_trans a b c h k = omega (arith, ints)
-
 pub +ℤ-≤ℤ : (a b c d : ℤ) → a ≤ℤ b → c ≤ℤ d → (a +ℤ c) ≤ℤ (b +ℤ d)
 +ℤ-≤ℤ a b c d h k = omega (arith, ints)
 

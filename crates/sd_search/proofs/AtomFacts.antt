@@ -48,13 +48,6 @@ unjudged-atom t ks s e =
     (λ i. s i && not (is_some (by_parts (head_of t) (sorts_of t) [])))
     ∙ ap not (judged-same (head_of t) (sorts_of t) [] ks ∙ ap (λ (o : Option (Option Bool)). is_some o) e)
 
-pub judged-no-atom : (t : Tree) → is_some (by_parts (head_of t) (sorts_of t) []) ≡ true → is_atom t ≡ false
-judged-no-atom t e = (λ i. is_truth_valued t && not (e i)) ∙ go (is_truth_valued t)
-  where
-    go : (b : Bool) → b && false ≡ false
-    go true = refl
-    go false = refl
-
 pub atom-known : (b : Trail) (t : Tree) → is_atom t ≡ true → known b t ≡ first_fact b t
 atom-known b t e = ap (λ (o : Option (Option Bool)). unwrap_or o (first_fact b t)) (atom-unjudged t (at_parts (known_by b) t) e)
 

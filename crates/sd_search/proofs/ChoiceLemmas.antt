@@ -60,21 +60,6 @@ fact-at terms [] k h = absurd (omega (arith, h))
 fact-at terms (i ∷ ids) zero h = refl
 fact-at terms (i ∷ ids) (suc k) h = fact-at terms ids k (omega (arith, h))
 
-length-ids : (terms : List Tree) (ids : List ℕ) → length (map (λ f. tree_at terms f) ids) ≡ length ids
-length-ids terms [] = refl
-length-ids terms (i ∷ ids) = ap (λ n. suc n) (length-ids terms ids)
-
-length-start : (facts : List Tree) → length (start facts) ≡ length facts
-length-start [] = refl
-length-start (t ∷ ts) = ap (λ n. suc n) (length-start ts)
-
--- there are no more facts than the branch has
-pub facts-short : (facts terms : List Tree) (ids : List ℕ) (b : Trail) → map (λ f. tree_at terms f) ids ≡ facts → Begins facts b → length ids ≤ length b
-facts-short facts terms ids b e h =
-    let k : length b ≡ length (start facts ++ h.0) = ap length h.1 in
-    let n : length ids ≡ length facts = sym (length-ids terms ids) ∙ ap length e in
-    omega (arith, k, n, length-append (start facts) h.0, length-start facts)
-
 -- truth-valued facts by number
 pub facts-truth : (terms facts : List Tree) (ids : List ℕ) → map (λ f. tree_at terms f) ids ≡ facts → AllTruthValued facts → All (λ f. f < length terms) ids
     → All (λ f. (f < length terms) × (is_truth_valued (tree_at terms f) ≡ true)) ids

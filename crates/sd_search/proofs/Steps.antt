@@ -63,18 +63,7 @@ front-first s b bs e = ap (λ (l : List Trail). front (s.0, l)) e
 pub others-first : (s : State) (b : Trail) (bs : List Trail) → s.1 ≡ b ∷ bs → others s ≡ bs
 others-first s b bs e = ap (λ (l : List Trail). others (s.0, l)) e
 
-pub open-first : (s : State) → IsOpen s → s.1 ≡ front s ∷ others s
-open-first s o = go s.1 o
-  where
-    go : (bs : List Trail) → (bs ≡ [] → ⊥) → bs ≡ front (s.0, bs) ∷ others (s.0, bs)
-    go [] o = absurd (o refl)
-    go (b ∷ bs) o = refl
-
 -- ---- steps that close it
-
-pub closing-start : (s : State) (xs : List Step) → IsOpen s → ClosesBranch s.0 (front s) xs → IsClosing s.0 (others s) s xs
-closing-start s [] o h = absurd h
-closing-start s (x ∷ xs) o h = (front s, refl, open-first s o, h)
 
 module _ (terms : List Tree) (rest : List Trail) where
   pub closing-goes : (s : State) (x : Step) (xs : List Step) → IsClosing terms rest s (x ∷ xs) → Goes s x

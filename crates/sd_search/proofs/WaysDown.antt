@@ -36,11 +36,6 @@ length-map f (x ∷ xs) = ap (λ n. suc n) (length-map f xs)
 pub contains-map : {A B : Type 0} (f : A → B) (xs : List A) (k : ℕ) (x : A) → k < length xs → x ≡ get_or xs k x → Contains (map f xs) (f x)
 contains-map f xs k x h e = (k, subst (λ n. k < n) (sym (length-map f xs)) h, get_or-map f xs k x (f x) h ∙ ap f (sym e))
 
-pub get_or-any : {A : Type 0} (xs : List A) (k : ℕ) (d e : A) → k < length xs → get_or xs k d ≡ get_or xs k e
-get_or-any [] k d e h = absurd (omega (arith, h))
-get_or-any (x ∷ xs) zero d e h = refl
-get_or-any (x ∷ xs) (suc k) d e h = get_or-any xs k d e (omega (arith, h))
-
 -- ---- values by number
 
 pub known-tree : (b : Trail) (ts : List Tree) (n : ℕ) → n < length ts → known_at (map (λ t. known b t) ts) n ≡ known b (tree_at ts n)
@@ -50,9 +45,6 @@ known-tree b (t ∷ ts) (suc n) h = known-tree b ts n (omega (arith, h))
 
 pub value-at : (b : Trail) (terms : List Tree) (values : List (Option Bool)) (n : ℕ) → AreValuesUnder b terms values → n < length terms → known_at values n ≡ known b (tree_at terms n)
 value-at b terms values n is h = ap (λ vs. known_at vs n) is ∙ known-tree b terms n h
-
-pub values-long : (terms : List Tree) (values : List (Option Bool)) → AreValues terms values → length values ≡ length terms
-values-long terms values v = ap length v.1 ∙ length-map (λ t. known v.0 t) terms
 
 known-judged : (b : Trail) (t : Tree) → is_truth_valued t ≡ true → is_atom t ≡ false → IfJudged (by_parts (head_of t) (sorts_of t) (at_parts (known_by b) t)) → is_some (known b t) ≡ true
 known-judged b t s a j = go (by_parts (head_of t) (sorts_of t) (at_parts (known_by b) t)) refl j

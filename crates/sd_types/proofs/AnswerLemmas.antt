@@ -56,16 +56,6 @@ module _ {A : Type 0} (f : A → Result (Unit {0}) TypeError) (xs : List A) (i :
   pub walks-stop : {e : TypeError} {r : Result (Unit {0}) TypeError} → Answers (f x) (Err e) → IsErrAnd r (λ y. y ≡ e) → Answers (each f xs) r
   walks-stop {r = r} h k = subst (λ d. Answers d r) (sym opened) (goes_on (λ _. each f (drop (i + 1) xs)) h k)
 
-pub walks-done : {A : Type 0} (f : A → Result (Unit {0}) TypeError) (xs : List A) (i : ℕ) → Walks f xs i → length xs ≤ i → Answers (each f xs) (Ok tt)
-walks-done f xs i h e = record { ok = h ∙ ap (each f) (drop-end xs i e); err = tt }
-
-pub gathers-none : {A B : Type 0} (f : A → Result B TypeError) (xs : List A) (done : List B) → done ≡ [] → Gathers f xs 0 done
-gathers-none {A} {B} f xs done e = go (all_of f xs) ∙ ap (λ (l : List B). and_then (all_of f xs) (λ bs. Ok (l ++ bs))) (sym e)
-  where
-    go : (d : Result (List B) TypeError) → d ≡ and_then d (λ bs. Ok ([] ++ bs))
-    go (Ok bs) = refl
-    go (Err e) = refl
-
 module _ {A B : Type 0} (f : A → Result B TypeError) (xs : List A) (i : ℕ) (x : A) (within : i < length xs) (at : x ≡ get_or xs i x) (done : List B) (gathers : Gathers f xs i done) where
   unrolled : all_of f xs ≡ and_then (and_then (f x) (λ b. and_then (all_of f (drop (i + 1) xs)) (λ bs. Ok (b ∷ bs)))) (λ bs. Ok (done ++ bs))
   unrolled = gathers ∙ ap (λ (l : List A). and_then (all_of f l) (λ bs. Ok (done ++ bs))) (drop-at xs i x within at)
@@ -85,6 +75,3 @@ module _ {A B : Type 0} (f : A → Result B TypeError) (xs : List A) (i : ℕ) (
     where
       twice_stopped : {e : TypeError} {r : Result (List B) TypeError} → Answers (f x) (Err e) → IsErrAnd r (λ y. y ≡ e) → Answers (and_then (and_then (f x) (λ b. and_then (all_of f (drop (i + 1) xs)) (λ bs. Ok (b ∷ bs)))) (λ bs. Ok (done ++ bs))) r
       twice_stopped h k = goes_on (λ bs. Ok (done ++ bs)) (stops (λ b. and_then (all_of f (drop (i + 1) xs)) (λ bs. Ok (b ∷ bs))) h) k
-
-pub gathers-done : {A B : Type 0} (f : A → Result B TypeError) (xs : List A) (i : ℕ) (done : List B) → Gathers f xs i done → length xs ≤ i → Answers (all_of f xs) (Ok done)
-gathers-done {A} {B} f xs i done h e = record { ok = h ∙ ap (λ (l : List A). and_then (all_of f l) (λ bs. Ok (done ++ bs))) (drop-end xs i e) ∙ ap Ok (append-nil done); err = tt }

@@ -78,6 +78,3 @@ put-same old new k x e h q =
     or_swapped true false = refl
     or_swapped false true = refl
     or_swapped false false = refl
-
-pub same-last : (xs ys zs : List Text) (x : Text) → HaveSame zs (xs ++ x ∷ []) → HaveSame xs ys → HaveSame zs (ys ++ x ∷ [])
-same-last xs ys zs x h k q = h q ∙ last_or xs x q ∙ ap (λ (b : Bool). b || same_text q x) (k q) ∙ sym (last_or ys x q)

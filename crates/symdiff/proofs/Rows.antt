@@ -157,16 +157,6 @@ replay_row words held o job t name told named task read same (inl h) = too_long 
 replay_row words held o job t name told named task read same (inr (bytes, holds, inl r)) = replayed job t name bytes named task read (λ b e. holds b (same ∙ e)) r
 replay_row words held o job t name told named task read same (inr (bytes, holds, inr (e, r, is))) = certificate_refused job t name bytes e named task read (λ b k. holds b (same ∙ k)) r is
 
--- a count that rose later rose
-pub rose_later : (before mid now : ℕ) → mid ≡ before → Rose mid now → Rose before now
-rose_later before mid now same rose = subst (λ (n : ℕ). Rose n now) same rose
-
--- the reply to texts that clash
-pub clash_reply : (task : Task) (held : List ℕ → Option (List ℕ)) (t : Texts) (e : MatchError) (o : Outcome) → Answers e (clash_of t) → IsClashReply e o → IsTextsReply task held t o
-clash_reply task held t matching.NoMemory o told h = absurd h
-clash_reply task held t (matching.GlobalTypes x) o told h = inl (global_types x, told, h)
-clash_reply task held t (matching.FunctionSignatures f) o told h = inl (function_signatures f, told, h)
-
 -- the row of two texts that were read, while the files stay
 pub texts_row : (words : List (List ℕ)) (held mid : List ℕ → Option (List ℕ)) (o : Outcome) (job : JobNames) (t : Texts) → job_of words ≡ Some job → AreRead held job t → ((name : List ℕ) → mid name ≡ held name)
     → IsTextsReply job.task mid t o → Answer words held o
@@ -176,15 +166,3 @@ texts_row words held mid o job t named read same h = go job.task refl h
     go k e (inl (r, clash, is)) = clashing job t r named read clash is
     go (verify name) e (inr (none, reply)) = compared job t name named e (record { are_read = read; no_clash = none }) reply
     go (replay name) e (inr (none, reply)) = replay_row words held o job t name (mid name) named e (record { are_read = read; no_clash = none }) (same name) reply
-
--- the count of the certificate that is to be read rose since earlier
-pub certificate_later : (task : Task) (before mid now : List ℕ → ℕ) → ((name : List ℕ) → mid name ≡ before name) → CertificateRose task mid now → CertificateRose task before now
-certificate_later (verify name) before mid now same rose = rose
-certificate_later (replay name) before mid now same rose = rose_later (before name) (mid name) (now name) (same name) rose
-
--- no pairs have no new failure
-pub none_headline : (words : List (List ℕ)) (held : List ℕ → Option (List ℕ)) (pairs : List PairVerdict) → pairs ≡ [] → Headline words held pairs
-none_headline words held pairs e j m ob ot nb nt P Q s t = subst (λ (vs : List PairVerdict). NoNewFailure P Q vs) (sym e) tt
-
-pub none_unknown : (words : List (List ℕ)) (held : List ℕ → Option (List ℕ)) (deaths : List Death) (pairs : List PairVerdict) → pairs ≡ [] → UnknownIsFailure words held deaths pairs
-none_unknown words held deaths pairs e j m ob ot nb nt P Q s t old new = subst (λ (vs : List PairVerdict). AreNewFailures P Q deaths vs) (sym e) tt
