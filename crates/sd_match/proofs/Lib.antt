@@ -8,4 +8,3 @@ pub mod LeastLemmas
 pub mod SpotLemmas
 pub mod RefusalLemmas
 pub mod PairLemmas
-pub mod TestLemmas

@@ -30,9 +30,6 @@ use Rattle.sd_product.proofs.OnlyEqual.{IsEqual, IsEqualClaim, IsOnlyEqual, IsEq
 
 -- ---- relations
 
-entry-boolean : (ins globals : List Tree) → AllBoolean ins → AllBoolean globals → BooleanStore (entry ins globals)
-entry-boolean ins globals h k = record { slots = h; globals = k }
-
 exit-boolean : (ins outs globals : List Tree) → AllBoolean ins → AllBoolean outs → AllBoolean globals → BooleanStore (exit ins outs globals)
 exit-boolean ins outs globals h k l = record { slots = append-boolean ins outs h k; globals = l }
 
@@ -52,16 +49,6 @@ claim-boolean places Flag old f new g e h p k q = implies-boolean g f q p
 claim-boolean places (Output r) old f new g e h p k q = or-boolean (or_of f g) (term_of places old new r) (or-boolean f g p q) (term-boolean places old new r e h k)
 
 -- ---- calls
-
-under-boolean : (ws : List Tree) (claim : Tree) → AllBoolean ws → IsBoolean claim → IsBoolean (under ws claim)
-under-boolean [] claim h p = p
-under-boolean (w ∷ ws) claim h p = implies-boolean w (under ws claim) h.0 (under-boolean ws claim h.1 p)
-
-site_inputs-boolean : (a : Site) → BooleanSite a → BooleanStore (site_inputs a)
-site_inputs-boolean a h = entry-boolean a.args a.before h.args h.before
-
-site_ends-boolean : (a : Site) → BooleanSite a → BooleanStore (site_ends a)
-site_ends-boolean a h = exit-boolean a.args a.outs a.after h.args h.outs h.after
 
 -- ---- sides
 

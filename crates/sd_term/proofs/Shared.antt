@@ -62,8 +62,6 @@ if-none (Some x) p = tt
 pub Extends-self : (bank : List Tree) → Extends bank bank
 Extends-self bank = record { longer = omega arith; kept = λ i lt. refl }
 
-})
-
 pub first-itself : (bank : List Tree) (i : ℕ) → AreDistinct bank → i < length bank → IsFirst bank i
 first-itself bank i d lt = λ j a e. omega (arith, d j i a lt e)
 
