@@ -21,7 +21,7 @@ use Rattle.sd_types.specs.Answer.{and_then, both, each, all_of}
 use Rattle.sd_types.specs.Tables.{named, with_name, with_names}
 use Rattle.sd_types.specs.Scopes.{declared_as}
 use Rattle.sd_types.specs.Phrases.{agree, same_number, all_given, is_truth}
-use Rattle.sd_types.specs.Statements.{Routine, distinct, targets, assignable, modified, has_body, left_sort, left_names, typed_indices, assignment, assign_rule, fits_callee, calling, call_rule, true_invariant, stmt_rule, row_rule, each_stmt}
+use Rattle.sd_types.specs.Statements.{Routine, distinct, targets, assignable, modified_rule, has_body, left_sort, left_names, typed_indices, assignment, assign_rule, fits_callee, callee_rule, call_rule, true_invariant, stmt_rule, row_rule, each_stmt}
 use Rattle.sd_types.specs.TypedBodies.{IsTypedStmt, AreTypedStmts, AllTypedStmts}
 use Rattle.sd_types.proofs.TypingLemmas.{parts, ok_is}
 
@@ -83,7 +83,7 @@ pub record IsCallable (R : Routine) (xs : List Text) (f : Text) : Type 0 where
   pub callee : Callee
   pub found : named R.scope.procedures f ≡ Some callee
   pub receivers : AreAssignable R xs
-  pub modifies : AllByRecursion (λ x. modified R x ≡ Ok tt) callee.modifies
+  pub modifies : AllByRecursion (λ x. modified_rule R x ≡ Ok tt) callee.modifies
   pub has_body : has_body R.scope.bodies f ≡ Ok tt
 
 abbrev mutual
@@ -127,18 +127,18 @@ is_declared x (Some w) v h = ap Some (ok_is h)
 
 call_checked : (R : Routine) (p : Place) (xs : List Text) (f : Text) (es : List Expr) (u : Unit {0}) → call_rule R p xs f es ≡ Ok u → IsCallable R xs f
 call_checked R p xs f es u h =
-    let a = parts (all_given R.context es) (λ gs. calling R p xs f gs) u h in
-    let b = parts (distinct xs) (λ _. and_then (targets R.context p xs) (λ ts. and_then (declared_as f (named R.scope.procedures f)) (λ q. both (fits_callee p q ts a.0) (both (each (assignable R) xs) (both (each (modified R) q.modifies) (has_body R.scope.bodies f)))))) u a.2 in
-    let c = parts (targets R.context p xs) (λ ts. and_then (declared_as f (named R.scope.procedures f)) (λ q. both (fits_callee p q ts a.0) (both (each (assignable R) xs) (both (each (modified R) q.modifies) (has_body R.scope.bodies f))))) u b.2 in
-    let d = parts (declared_as f (named R.scope.procedures f)) (λ q. both (fits_callee p q c.0 a.0) (both (each (assignable R) xs) (both (each (modified R) q.modifies) (has_body R.scope.bodies f)))) u c.2 in
-    let e = parts (fits_callee p d.0 c.0 a.0) (λ _. both (each (assignable R) xs) (both (each (modified R) d.0.modifies) (has_body R.scope.bodies f))) u d.2 in
-    let g = parts (each (assignable R) xs) (λ _. both (each (modified R) d.0.modifies) (has_body R.scope.bodies f)) u e.2 in
-    let i = parts (each (modified R) d.0.modifies) (λ _. has_body R.scope.bodies f) u g.2 in
+    let a = parts (all_given R.context es) (λ gs. callee_rule R p xs f gs) u h in
+    let b = parts (distinct xs) (λ _. and_then (targets R.context p xs) (λ ts. and_then (declared_as f (named R.scope.procedures f)) (λ q. both (fits_callee p q ts a.0) (both (each (assignable R) xs) (both (each (modified_rule R) q.modifies) (has_body R.scope.bodies f)))))) u a.2 in
+    let c = parts (targets R.context p xs) (λ ts. and_then (declared_as f (named R.scope.procedures f)) (λ q. both (fits_callee p q ts a.0) (both (each (assignable R) xs) (both (each (modified_rule R) q.modifies) (has_body R.scope.bodies f))))) u b.2 in
+    let d = parts (declared_as f (named R.scope.procedures f)) (λ q. both (fits_callee p q c.0 a.0) (both (each (assignable R) xs) (both (each (modified_rule R) q.modifies) (has_body R.scope.bodies f)))) u c.2 in
+    let e = parts (fits_callee p d.0 c.0 a.0) (λ _. both (each (assignable R) xs) (both (each (modified_rule R) d.0.modifies) (has_body R.scope.bodies f))) u d.2 in
+    let g = parts (each (assignable R) xs) (λ _. both (each (modified_rule R) d.0.modifies) (has_body R.scope.bodies f)) u e.2 in
+    let i = parts (each (modified_rule R) d.0.modifies) (λ _. has_body R.scope.bodies f) u g.2 in
     record {
       callee = d.0;
       found = is_declared f (named R.scope.procedures f) d.0 d.1;
       receivers = (are_distinct xs b.0 b.1, each_all (assignable R) xs g.0 g.1);
-      modifies = each_all (modified R) d.0.modifies i.0 i.1;
+      modifies = each_all (modified_rule R) d.0.modifies i.0 i.1;
       has_body = i.2;
     }
 

@@ -27,7 +27,7 @@ use Rattle.sd_types.specs.declared.scope.Site.TheVariants as site
 use Rattle.sd_types.specs.Names.{is_among}
 use Rattle.sd_types.specs.Tables.{named}
 use Rattle.sd_types.specs.Scopes.{or_global}
-use Rattle.sd_types.specs.Statements.{Routine, routine, assigned_as, is_global, modified, has_body}
+use Rattle.sd_types.specs.Statements.{Routine, routine, assigned_as, is_global, modified_rule, has_body}
 use Rattle.sd_types.specs.Declarations.{variables_as, parameters, modifies_of, callee_of, body_variables}
 use Rattle.sd_core.specs.declared.Spot.{Spot}
 use Rattle.sd_core.specs.declared.Spot.TheVariants.{Slot, Global}
@@ -159,7 +159,7 @@ module _ (P : Program) (G : Scope) (typed : IsTyped P G) where
   if_modified specs x = if is_among (modifies_of specs) x then Ok tt else Err (NotModified x)
 
   -- a global that typing lets a routine modify is in its list
-  modified_number : (locals : List (Text × Variable)) (specs : List Spec) (x : Text) (i : ℕ) → modified (routine G locals (modifies_of specs)) x ≡ Ok tt → index_in globals x ≡ Some i → Contains (filter_map (index_in globals) (modified_names specs [])) i
+  modified_number : (locals : List (Text × Variable)) (specs : List Spec) (x : Text) (i : ℕ) → modified_rule (routine G locals (modifies_of specs)) x ≡ Ok tt → index_in globals x ≡ Some i → Contains (filter_map (index_in globals) (modified_names specs [])) i
   modified_number locals specs x i h e =
       modifies_there globals specs x i e (go (named G.globals x) (index_global x i e) h)
     where
@@ -176,7 +176,7 @@ module _ (P : Program) (G : Scope) (typed : IsTyped P G) where
       go true h = refl
       go false h = absurd (cc)
 
-  pub callee_at : (p : CoreProc) (locals : List (Text × Variable)) (specs : List Spec) → p.modifies ≡ filter_map (index_in globals) (modified_names specs []) → (f : Text) (q : Callee) → named G.procedures f ≡ Some q → has_body G.bodies f ≡ Ok tt → AllByRecursion (λ x. modified (routine G locals (modifies_of specs)) x ≡ Ok tt) q.modifies → CalleeAt P number K p G f q
+  pub callee_at : (p : CoreProc) (locals : List (Text × Variable)) (specs : List Spec) → p.modifies ≡ filter_map (index_in globals) (modified_names specs []) → (f : Text) (q : Callee) → named G.procedures f ≡ Some q → has_body G.bodies f ≡ Ok tt → AllByRecursion (λ x. modified_rule (routine G locals (modifies_of specs)) x ≡ Ok tt) q.modifies → CalleeAt P number K p G f q
   callee_at p locals specs same f q found body mods =
       let here : named (procedure_entries P.decls) f ≡ Some q = ap (λ (l : List (Text × Callee)). named l f) (procedures_are P G typed) ∙ found in
       let k = procedure_found P.decls f q here in
@@ -187,9 +187,9 @@ module _ (P : Program) (G : Scope) (typed : IsTyped P G) where
       let is_first : k.procedure ≡ r.declared = some_is k.procedure r.declared (sym k.found ∙ declared_of P f r o.1) in
       let fine = routine_fine P G typed f r o.1 in
       let as_callee : callee_of r.declared ≡ q = ap callee_of (sym is_first) ∙ k.callee in
-      let theirs : AllByRecursion (λ x. modified (routine G locals (modifies_of specs)) x ≡ Ok tt) (modifies_of r.declared.specs) = subst (λ (c : Callee). AllByRecursion (λ x. modified (routine G locals (modifies_of specs)) x ≡ Ok tt) c.modifies) (sym as_callee) mods in
+      let theirs : AllByRecursion (λ x. modified_rule (routine G locals (modifies_of specs)) x ≡ Ok tt) (modifies_of r.declared.specs) = subst (λ (c : Callee). AllByRecursion (λ x. modified_rule (routine G locals (modifies_of specs)) x ≡ Ok tt) c.modifies) (sym as_callee) mods in
       let mine = filter_map (index_in globals) (modified_names specs []) in
-      let numbers : AllByRecursion (λ x. (i : ℕ) → index_in globals x ≡ Some i → Contains mine i) (modified_names r.declared.specs []) = all_modified (λ x. (i : ℕ) → index_in globals x ≡ Some i → Contains mine i) r.declared.specs [] (all_map (λ x. modified (routine G locals (modifies_of specs)) x ≡ Ok tt) (λ x. (i : ℕ) → index_in globals x ≡ Some i → Contains mine i) (modifies_of r.declared.specs) (λ x h i e. modified_number locals specs x i h e) theirs) in
+      let numbers : AllByRecursion (λ x. (i : ℕ) → index_in globals x ≡ Some i → Contains mine i) (modified_names r.declared.specs []) = all_modified (λ x. (i : ℕ) → index_in globals x ≡ Some i → Contains mine i) r.declared.specs [] (all_map (λ x. modified_rule (routine G locals (modifies_of specs)) x ≡ Ok tt) (λ x. (i : ℕ) → index_in globals x ≡ Some i → Contains mine i) (modifies_of r.declared.specs) (λ x h i e. modified_number locals specs x i h e) theirs) in
       record {
         declared = r.declared;
         is_declared = declared_of P f r o.1;

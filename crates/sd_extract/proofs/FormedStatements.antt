@@ -21,7 +21,7 @@ use Rattle.sd_types.specs.Answer.{and_then}
 use Rattle.sd_types.specs.Tables.{named}
 use Rattle.sd_types.specs.Scopes.{Context, context}
 use Rattle.sd_types.specs.Scopes.{declared_as as declared_in}
-use Rattle.sd_types.specs.Statements.{Routine, assigned_as, assignable, modified, has_body, left_names}
+use Rattle.sd_types.specs.Statements.{Routine, assigned_as, assignable, modified_rule, has_body, left_names}
 use Rattle.sd_types.specs.Declarations.{parameters}
 use Rattle.sd_types.specs.Typing.{HasType}
 use Rattle.sd_types.specs.TypedBodies.{AllHave, IsVariableOf, AreVariablesOf, Leads, Assigns, Calls, IsTypedStmt, AreTypedStmts}
@@ -115,7 +115,7 @@ pub record Fits (P : Program) (number : Text → ℕ) (K : CoreProgram) (p : Cor
   -- slots from the first hidden one on are none of the state
   pub hidden : (l : ℕ) → first ≤ l → AllByRecursion (λ q. q ≢ Slot l) F.state
   pub requires : (d : Proc) (spots : List Spot) → AllByRecursion IsSort (sorts_of d.head.ins) → AllByRecursion IsSort (sorts_of d.head.outs) → AreSpotsOf (state_sorts K p) spots (sorts_of d.head.ins) → Sees K.functions (state_sorts K p) (context R.scope (parameters d.head) site.Requires) (on_args F.names d spots)
-  pub callees : (f : Text) (q : Callee) → named R.scope.procedures f ≡ Some q → has_body R.scope.bodies f ≡ Ok tt → AllByRecursion (λ x. modified R x ≡ Ok tt) q.modifies → CalleeAt P number K p R.scope f q
+  pub callees : (f : Text) (q : Callee) → named R.scope.procedures f ≡ Some q → has_body R.scope.bodies f ≡ Ok tt → AllByRecursion (λ x. modified_rule R x ≡ Ok tt) q.modifies → CalleeAt P number K p R.scope f q
 
 -- the procedure of a loop
 pub record LoopProcAt (K : CoreProgram) (ms : List ℕ) (ins state copies : List Sort) (n : ℕ) (returns : Bool) : Type 0 where
@@ -327,7 +327,7 @@ module _ (P : Program) (number : Text → ℕ) (K : CoreProgram) (p : CoreProc) 
   call_at : (xs : List Text) (f : Text) (es : List Expr) → (h : Calls R xs f es) → IsCallable R xs f → CalleeAt P number K p R.scope f h.0
   call_at xs f es h c =
       let e = same_callee f c.callee h.0 c.found h.1 in
-      fits.callees f h.0 h.1 c.has_body (subst (λ (q : Callee). AllByRecursion (λ x. modified R x ≡ Ok tt) q.modifies) e c.modifies)
+      fits.callees f h.0 h.1 c.has_body (subst (λ (q : Callee). AllByRecursion (λ x. modified_rule R x ≡ Ok tt) q.modifies) e c.modifies)
 
   arg_sorts_are : (xs : List Text) (f : Text) (es : List Expr) → (h : Calls R xs f es) → IsCallable R xs f → arg_sorts P (Call xs f es) ≡ h.0.ins
   arg_sorts_are xs f es h c =

@@ -32,7 +32,7 @@ use Rattle.sd_types.specs.Answer.{and_then, both, each, all_of}
 use Rattle.sd_types.specs.Tables.{named, with_names}
 use Rattle.sd_types.specs.Scopes.{Context, declared_as}
 use Rattle.sd_types.specs.Phrases.{same_sort, agree, same_number, given, all_given, is_truth}
-use Rattle.sd_types.specs.Statements.{Routine as Rules, routine, distinct, targets, left_sort, left_names, typed_indices, assignable, assignment, assign_rule, is_global, modified, has_body, same_numbers, fits_callee, calling, call_rule, true_invariant, break_rule, stmt_rule, row_rule, each_stmt}
+use Rattle.sd_types.specs.Statements.{Routine as Rules, routine, distinct, targets, left_sort, left_names, typed_indices, assignable, assignment, assign_rule, is_global, modified_rule, has_body, same_numbers, fits_callee, callee_rule, call_rule, true_invariant, break_rule, stmt_rule, row_rule, each_stmt}
 use Rattle.sd_types.specs.Declarations.{modifies_of, callee_of, locals_of, own_names, body_variables, nothing, enter_all, parameters, known_vars, head_rule, names_global, spec_rule, body_stmts_rule, body_rule, own_body_rule, have_sorts, same_types, decl_rule, program_rule, refusal, WellTyped}
 use Rattle.sd_types.proofs.TypingLemmas.{parts, ok_of, ok_is, numbers-same}
 use Rattle.sd_extract.specs.Extract.{Source, source_of, number_from}
@@ -97,7 +97,7 @@ global_named globals y = go (is_global (named globals y))
     go true h = refl
     go false h = absurd (cc)
 
-is_in_modifies : (R : Rules) (y : Text) → modified R y ≡ Ok tt → is_global (named R.scope.globals y) ≡ true → R.modifies y ≡ true
+is_in_modifies : (R : Rules) (y : Text) → modified_rule R y ≡ Ok tt → is_global (named R.scope.globals y) ≡ true → R.modifies y ≡ true
 is_in_modifies R y = go (is_global (named R.scope.globals y)) (R.modifies y)
   where
     go : (a b : Bool) → (if a then (if b then passed else Err (NotModified y)) else passed) ≡ passed → a ≡ true → b ≡ true
@@ -246,27 +246,27 @@ module _ (P : Program) (G : Scope) (entered : enter_all nothing P.decls ≡ Ok G
         let g = parts (same_number p e.0 b.0) (λ _. each (assignable R) (left_names ls)) u f.2 in
         assign (left_names ls) u g.2
 
-    modifies_within : (f : Text) (callee : Proc) (q : Routine) (u : Unit {0}) → procedure_in P.decls f ≡ Some callee → routine_named P f ≡ Some q → (c : Callee) → callee_of callee ≡ c → each (modified R) c.modifies ≡ Ok u → (i : ℕ) → Among i (T.modifies f) → Among i S.modifies
+    modifies_within : (f : Text) (callee : Proc) (q : Routine) (u : Unit {0}) → procedure_in P.decls f ≡ Some callee → routine_named P f ≡ Some q → (c : Callee) → callee_of callee ≡ c → each (modified_rule R) c.modifies ≡ Ok u → (i : ℕ) → Among i (T.modifies f) → Among i S.modifies
     modifies_within f callee q u e g c is h i a =
         let found = source_found f q g in
         let declared : callee ≡ q.declared = some_is (sym e ∙ declared_in (procedure_in P.decls f) (implementation_in P.decls f) q g) in
         let mine = subst (λ (o : Option Source). Among i (modified_by o)) found a in
         let y = modified_name (globals_in P.decls) q.declared.specs i mine in
         let named_there : Found y.0 (modifies_of callee.specs) = subst (λ (p : Proc). Found y.0 (modifies_of p.specs)) (sym declared) y.2 in
-        modified_at (globals_in P.decls) r.declared.specs y.0 i y.1 (is_in_modifies R y.0 (each_at (modified R) (modifies_of callee.specs) u y.0 (ap (λ (d : Callee). each (modified R) d.modifies) is ∙ h) named_there) (callee_globals f callee y.0 e named_there))
+        modified_at (globals_in P.decls) r.declared.specs y.0 i y.1 (is_in_modifies R y.0 (each_at (modified_rule R) (modifies_of callee.specs) u y.0 (ap (λ (d : Callee). each (modified_rule R) d.modifies) is ∙ h) named_there) (callee_globals f callee y.0 e named_there))
 
     call_fine : (p : Place) (xs : List Text) (f : Text) (es : List Expr) (u : Unit {0}) → call_rule R p xs f es ≡ Ok u → CallFine T S xs f es
     call_fine p xs f es u h =
-        let a = parts (all_given R.context es) (λ gs. calling R p xs f gs) u h in
-        let b = parts (distinct xs) (λ _. and_then (targets R.context p xs) (λ ts. and_then (declared_as f (named G.procedures f)) (λ q. both (fits_callee p q ts a.0) (both (each (assignable R) xs) (both (each (modified R) q.modifies) (has_body G.bodies f)))))) u a.2 in
-        let c = parts (targets R.context p xs) (λ ts. and_then (declared_as f (named G.procedures f)) (λ q. both (fits_callee p q ts a.0) (both (each (assignable R) xs) (both (each (modified R) q.modifies) (has_body G.bodies f))))) u b.2 in
-        let d = parts (declared_as f (named G.procedures f)) (λ q. both (fits_callee p q c.0 a.0) (both (each (assignable R) xs) (both (each (modified R) q.modifies) (has_body G.bodies f)))) u c.2 in
-        let e = parts (fits_callee p d.0 c.0 a.0) (λ _. both (each (assignable R) xs) (both (each (modified R) d.0.modifies) (has_body G.bodies f))) u d.2 in
+        let a = parts (all_given R.context es) (λ gs. callee_rule R p xs f gs) u h in
+        let b = parts (distinct xs) (λ _. and_then (targets R.context p xs) (λ ts. and_then (declared_as f (named G.procedures f)) (λ q. both (fits_callee p q ts a.0) (both (each (assignable R) xs) (both (each (modified_rule R) q.modifies) (has_body G.bodies f)))))) u a.2 in
+        let c = parts (targets R.context p xs) (λ ts. and_then (declared_as f (named G.procedures f)) (λ q. both (fits_callee p q ts a.0) (both (each (assignable R) xs) (both (each (modified_rule R) q.modifies) (has_body G.bodies f))))) u b.2 in
+        let d = parts (declared_as f (named G.procedures f)) (λ q. both (fits_callee p q c.0 a.0) (both (each (assignable R) xs) (both (each (modified_rule R) q.modifies) (has_body G.bodies f)))) u c.2 in
+        let e = parts (fits_callee p d.0 c.0 a.0) (λ _. both (each (assignable R) xs) (both (each (modified_rule R) d.0.modifies) (has_body G.bodies f))) u d.2 in
         let i = parts (agree d.0.outs c.0) (λ _. both (agree d.0.ins a.0) (same_numbers p d.0 c.0 a.0)) e.0 e.1 in
         let j = parts (agree d.0.ins a.0) (λ _. same_numbers p d.0 c.0 a.0) e.0 i.2 in
         let k = parts (same_number p d.0.outs c.0) (λ _. same_number p d.0.ins a.0) e.0 j.2 in
-        let l = parts (each (assignable R) xs) (λ _. both (each (modified R) d.0.modifies) (has_body G.bodies f)) u e.2 in
-        let m = parts (each (modified R) d.0.modifies) (λ _. has_body G.bodies f) u l.2 in
+        let l = parts (each (assignable R) xs) (λ _. both (each (modified_rule R) d.0.modifies) (has_body G.bodies f)) u e.2 in
+        let m = parts (each (modified_rule R) d.0.modifies) (λ _. has_body G.bodies f) u l.2 in
         let callee = callee_found f d.0 (declared-as f (named G.procedures f) d.0 d.1) in
         let body : HasBody P.decls f = ⊎_elim (λ (none : is_among nothing.bodies f ≡ true). absurd (cc)) (λ (b : HasBody P.decls f). b) (body_of nothing G P.decls f entered (has_its_body G.bodies f u m.2)) in
         let its = has_routine f callee.0 callee.1 body in

@@ -116,9 +116,9 @@ fixed_outs p None = length p.outs
 fixed_outs p (Some root) = length root.outs
 
 -- how many declared locals a loop carries: its in-parameters are those parameters, the locals, and a copy for each modified global
-abbrev pub carried : CoreProc → Option CoreProc → ℕ
-carried p None = 0
-carried p (Some root) = length p.ins - (length root.ins + (length root.outs + length p.modifies))
+abbrev pub carried_count : CoreProc → Option CoreProc → ℕ
+carried_count p None = 0
+carried_count p (Some root) = length p.ins - (length root.ins + (length root.outs + length p.modifies))
 
 -- in-parameters: by position, and then a loop's locals and copies of globals by name
 abbrev pub in_pairs : (a b : ℕ) → (olds news : List Var) → List SpotPair
@@ -135,16 +135,16 @@ is_among i [] = false
 is_among i (n ∷ ns) = (i == n) || is_among i ns
 
 -- the shared globals that one of two procedures may modify
-abbrev pub modified : CoreProc → CoreProc → List Shared → List Shared
-modified p q = filter (λ s. is_among s.old p.modifies || is_among s.new q.modifies)
+abbrev pub modified_globals : CoreProc → CoreProc → List Shared → List Shared
+modified_globals p q = filter (λ s. is_among s.old p.modifies || is_among s.new q.modifies)
 
 abbrev pub inputs_of : CoreProgram → CoreProgram → CoreProc → CoreProc → List SpotPair
 inputs_of P Q p q = in_pairs (fixed_ins p (root_of P p)) (fixed_ins q (root_of Q q)) p.ins q.ins ++ shared_pairs P.globals (shared_of P.globals Q.globals)
 
 abbrev pub outputs_of : CoreProgram → CoreProgram → CoreProc → CoreProc → List SpotPair
 outputs_of P Q p q =
-    out_pairs (length p.ins) (length q.ins) (fixed_outs p (root_of P p)) (fixed_outs q (root_of Q q)) (carried p (root_of P p)) (carried q (root_of Q q)) p.outs q.outs ++
-    shared_pairs P.globals (modified p q (shared_of P.globals Q.globals))
+    out_pairs (length p.ins) (length q.ins) (fixed_outs p (root_of P p)) (fixed_outs q (root_of Q q)) (carried_count p (root_of P p)) (carried_count q (root_of Q q)) p.outs q.outs ++
+    shared_pairs P.globals (modified_globals p q (shared_of P.globals Q.globals))
 
 -- ---- states
 

@@ -1,7 +1,7 @@
 //! The shared globals that one of two procedures may modify.
 ghost use Rattle.std.specs.Prelude.{◌≡◌, ◌<◌, ◌==◌, ◌||◌, ℕ, IfOk, get_or, false, length};
 ghost use Rattle.std.specs.List.{AllByRecursion, filter};
-ghost use Rattle.sd_match.specs.Pairs.{is_among, modified};
+ghost use Rattle.sd_match.specs.Pairs.{is_among, modified_globals};
 
 use sd_base::NoMemory;
 use sd_core::{CoreProc, Shared};
@@ -37,7 +37,7 @@ fn is_marked(marks: &[bool], place: u32) -> bool
 }
 
 /// The shared globals that one of two procedures may modify, where the programs have so many.
-pub(crate) fn modified(
+pub(crate) fn modified_globals(
     alloc: Global,
     old_count: usize,
     new_count: usize,
@@ -46,7 +46,7 @@ pub(crate) fn modified(
     shared: &[Shared],
 ) -> Result<Vec<Shared>, NoMemory>
     requires { AllByRecursion (λ s. (s.old < old_count) × (s.new < new_count)) shared.now }
-    ensures { IfOk result (λ kept. kept.items ≡ modified old.now new.now shared.now) }
+    ensures { IfOk result (λ kept. kept.items ≡ modified_globals old.now new.now shared.now) }
 {
     let olds = marks_of(alloc, old_count, old.modifies.as_slice())?;
     let news = marks_of(alloc, new_count, new.modifies.as_slice())?;

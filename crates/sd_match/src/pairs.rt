@@ -2,11 +2,11 @@
 ghost use Rattle.std.specs.Prelude.{◌≡◌, ◌<◌, ◌^◌, ◌++◌, IfOk, IfErr, OnOk, Some, None, length, slice_get};
 ghost use Rattle.std.specs.Option.{option_copied};
 ghost use Rattle.sd_core.specs.Formed.{WellFormed};
-ghost use Rattle.sd_match.specs.Pairs.{owner, root_of, fixed_ins, fixed_outs, carried, inputs_of, outputs_of, state_of, partner, pair_with, pair_by, pairs_of};
+ghost use Rattle.sd_match.specs.Pairs.{owner, root_of, fixed_ins, fixed_outs, carried_count, inputs_of, outputs_of, state_of, partner, pair_with, pair_by, pairs_of};
 ghost use Rattle.sd_match.specs.Refusals.{Answers, refusal_of};
 ghost use Rattle.sd_match.specs.Tables.{AreTablesOf};
 
-use crate::modified::modified;
+use crate::modified::modified_globals;
 use crate::pair::{Pair, PairState, SpotPair};
 use crate::partners::number_at;
 use crate::refusal::{MatchError, refuse};
@@ -46,7 +46,7 @@ fn fixed_ins(proc: &CoreProc, root: Option<&CoreProc>) -> Result<usize, NoMemory
 fn outs_of<'a>(proc: &'a CoreProc, root: Option<&CoreProc>) -> Result<Outs<'a>, NoMemory>
     ensures first { IfOk result (λ outs. outs.first ≡ length proc.now.ins) }
     ensures fixed { IfOk result (λ outs. outs.fixed ≡ fixed_outs proc.now (option_copied root.entry)) }
-    ensures carried { IfOk result (λ outs. outs.carried ≡ carried proc.now (option_copied root.entry)) }
+    ensures carried { IfOk result (λ outs. outs.carried_count ≡ carried_count proc.now (option_copied root.entry)) }
     ensures vars { IfOk result (λ outs. outs.vars.now ≡ proc.now.outs) }
 {
     let first = proc.ins.len();
@@ -55,7 +55,7 @@ fn outs_of<'a>(proc: &'a CoreProc, root: Option<&CoreProc>) -> Result<Outs<'a>, 
         None => Ok(Outs {
             first,
             fixed: vars.len(),
-            carried: 0,
+            carried_count: 0,
             vars,
         }),
         Some(root) => {
@@ -63,7 +63,7 @@ fn outs_of<'a>(proc: &'a CoreProc, root: Option<&CoreProc>) -> Result<Outs<'a>, 
             Ok(Outs {
                 first,
                 fixed: root.outs.len(),
-                carried: first.saturating_sub(sum_of(root.ins.len(), parameters)?),
+                carried_count: first.saturating_sub(sum_of(root.ins.len(), parameters)?),
                 vars,
             })
         }
@@ -114,7 +114,7 @@ fn outputs_of(
         outs_of(p, root_of(old, p))?,
         outs_of(q, root_of(new, q))?,
     )?;
-    let shared = modified(
+    let shared = modified_globals(
         alloc,
         old.globals.len(),
         new.globals.len(),

@@ -199,7 +199,7 @@ pub(crate) struct Outs<'a> {
     /// How many are paired by position.
     pub fixed: usize,
     /// How many after them are paired by name.
-    pub carried: usize,
+    pub carried_count: usize,
     pub vars: &'a [Var],
 }
 
@@ -210,7 +210,7 @@ pub(crate) fn put_outs(
     old: Outs<'_>,
     new: Outs<'_>,
 ) -> Result<(), NoMemory>
-    ensures { OnOk result (pairs.new ≡ pairs.old ++ out_pairs old.entry.first new.entry.first old.entry.fixed new.entry.fixed old.entry.carried new.entry.carried old.entry.vars.now new.entry.vars.now) }
+    ensures { OnOk result (pairs.new ≡ pairs.old ++ out_pairs old.entry.first new.entry.first old.entry.fixed new.entry.fixed old.entry.carried_count new.entry.carried_count old.entry.vars.now new.entry.vars.now) }
 {
     put_by_position(
         alloc,
@@ -225,11 +225,11 @@ pub(crate) fn put_outs(
         pairs,
         sum_of(old.first, old.fixed)?,
         sum_of(new.first, new.fixed)?,
-        front(rest(old.vars, old.fixed), old.carried),
-        front(rest(new.vars, new.fixed), new.carried),
+        front(rest(old.vars, old.fixed), old.carried_count),
+        front(rest(new.vars, new.fixed), new.carried_count),
     )?;
-    let a = sum_of(old.fixed, old.carried)?;
-    let b = sum_of(new.fixed, new.carried)?;
+    let a = sum_of(old.fixed, old.carried_count)?;
+    let b = sum_of(new.fixed, new.carried_count)?;
     put_by_position(
         alloc,
         pairs,

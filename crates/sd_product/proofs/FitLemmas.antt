@@ -18,7 +18,7 @@ use Rattle.sd_match.specs.declared.pair.SpotPair.{SpotPair}
 use Rattle.sd_match.specs.declared.pair.Pair.{Pair}
 use Rattle.sd_match.specs.declared.pair.PairState.{PairState}
 use Rattle.sd_match.specs.declared.pair.PairState.TheVariants.{Open, Signature, UnmatchedRecursion}
-use Rattle.sd_match.specs.Pairs.{same_sorts, same_types, root_from, is_loop_of, loop_at, loop_partner, loop_partner_at, loop_partner_in, partner_by, partner, root_by, root_of, fixed_ins, fixed_outs, carried, in_pairs, out_pairs, shared_pairs, is_among, modified, inputs_of, outputs_of, owner, first_unmatched, state_by, state_of, pair_with, pair_at, pair_by, pairs_from, pairs_of}
+use Rattle.sd_match.specs.Pairs.{same_sorts, same_types, root_from, is_loop_of, loop_at, loop_partner, loop_partner_at, loop_partner_in, partner_by, partner, root_by, root_of, fixed_ins, fixed_outs, carried_count, in_pairs, out_pairs, shared_pairs, is_among, modified_globals, inputs_of, outputs_of, owner, first_unmatched, state_by, state_of, pair_with, pair_at, pair_by, pairs_from, pairs_of}
 use Rattle.sd_match.proofs.PartnerLemmas.{loop_is}
 use Rattle.sd_term.specs.declared.build.Kind.TheVariants as kind
 use Rattle.sd_term.specs.Tree.{and-left, and-right}
@@ -36,7 +36,7 @@ use Rattle.sd_product.proofs.SpotFits.{Agrees, Alike, all-append, all-filter, st
 record AreAlike (p q : CoreProc) (r s : Option CoreProc) : Type 0 where
   ins : Alike (take (fixed_ins p r) p.ins) (take (fixed_ins q s) q.ins)
   outs : Alike (take (fixed_outs p r) p.outs) (take (fixed_outs q s) q.outs)
-  last : Alike (drop (fixed_outs p r + carried p r) p.outs) (drop (fixed_outs q s + carried q s) q.outs)
+  last : Alike (drop (fixed_outs p r + carried_count p r) p.outs) (drop (fixed_outs q s + carried_count q s) q.outs)
 
 roots-alike : (p q : CoreProc) → same_types p q ≡ true → AreAlike p q None None
 roots-alike p q h = record {
@@ -76,7 +76,7 @@ module _ (P : CoreProgram) (n a k : ℕ) (p : CoreProc) (formed : WellFormed P) 
       go (inl e) = ap (take (length l.root.outs)) e ∙ take-append_seam l.root.outs l.declared
       go (inr e) = ap (take (length l.root.outs)) (e ∙ append_assoc l.root.outs l.declared left) ∙ take-append_seam l.root.outs (l.declared ++ left)
 
-  loop-declared : length l.root.outs + carried p (Some l.root) ≡ length (l.root.outs ++ l.declared)
+  loop-declared : length l.root.outs + carried_count p (Some l.root) ≡ length (l.root.outs ++ l.declared)
   loop-declared =
       let r = l.root in
       let copies = copies_of P.globals r.modifies in
@@ -87,11 +87,11 @@ module _ (P : CoreProgram) (n a k : ℕ) (p : CoreProc) (formed : WellFormed P) 
       let written : length p.modifies ≡ length r.modifies = ap length l.modifies in
       omega (arith, long, whole, middle, outs, written, loop-copies)
 
-  loop-last : (drop (length l.root.outs + carried p (Some l.root)) p.outs ≡ []) ⊎ (drop (length l.root.outs + carried p (Some l.root)) p.outs ≡ left)
+  loop-last : (drop (length l.root.outs + carried_count p (Some l.root)) p.outs ≡ []) ⊎ (drop (length l.root.outs + carried_count p (Some l.root)) p.outs ≡ left)
   loop-last = go l.outs
     where
       go : (p.outs ≡ l.root.outs ++ l.declared) ⊎ (p.outs ≡ (l.root.outs ++ l.declared) ++ left)
-          → (drop (length l.root.outs + carried p (Some l.root)) p.outs ≡ []) ⊎ (drop (length l.root.outs + carried p (Some l.root)) p.outs ≡ left)
+          → (drop (length l.root.outs + carried_count p (Some l.root)) p.outs ≡ []) ⊎ (drop (length l.root.outs + carried_count p (Some l.root)) p.outs ≡ left)
       go (inl e) = inl ((λ i. drop (loop-declared i) ((e ∙ sym (append-nil (l.root.outs ++ l.declared))) i)) ∙ drop-append_seam (l.root.outs ++ l.declared) [])
       go (inr e) = inr ((λ i. drop (loop-declared i) (e i)) ∙ drop-append_seam (l.root.outs ++ l.declared) left)
 
@@ -110,7 +110,7 @@ loops-alike P Q n a k m b o p q formed formed' here there l r h =
     record {
       ins = subst (λ (xs : List Var). Alike xs (take (length r.root.ins + length r.root.outs) q.ins)) (sym (loop-ins P n a k p formed here l)) (subst (λ (ys : List Var). Alike (l.root.ins ++ l.root.outs) ys) (sym (loop-ins Q m b o q formed' there r)) (alike-append l.root.ins r.root.ins l.root.outs r.root.outs ins first));
       outs = subst (λ (xs : List Var). Alike xs (take (length r.root.outs) q.outs)) (sym (loop-outs P n a k p formed here l)) (subst (λ (ys : List Var). Alike l.root.outs ys) (sym (loop-outs Q m b o q formed' there r)) first);
-      last = tails-alike (drop (length l.root.outs + carried p (Some l.root)) p.outs) (drop (length r.root.outs + carried q (Some r.root)) q.outs) (loop-last P n a k p formed here l) (loop-last Q m b o q formed' there r);
+      last = tails-alike (drop (length l.root.outs + carried_count p (Some l.root)) p.outs) (drop (length r.root.outs + carried_count q (Some r.root)) q.outs) (loop-last P n a k p formed here l) (loop-last Q m b o q formed' there r);
     }
 
 -- ---- partners
@@ -233,9 +233,9 @@ module _ (P Q : CoreProgram) (formed : WellFormed P) (formed' : WellFormed Q) (i
       let S = exit_sorts P p in
       let T = exit_sorts Q q in
       let shared = shared_of P.globals Q.globals in
-      all-append (Agrees S T) (out_pairs (length p.ins) (length q.ins) (fixed_outs p (root_of P p)) (fixed_outs q (root_of Q q)) (carried p (root_of P p)) (carried q (root_of Q q)) p.outs q.outs) (shared_pairs P.globals (modified p q shared))
-      (outs-agree S T (length p.ins) (length q.ins) (fixed_outs p (root_of P p)) (fixed_outs q (root_of Q q)) (carried p (root_of P p)) (carried q (root_of Q q)) p.outs q.outs (stand-after p.ins p.outs) (stand-after q.ins q.outs) h.outs h.last)
-      (spots-agree S T P.globals (modified p q shared) (all-filter _ (λ s. is_among s.old p.modifies || is_among s.new q.modifies) shared (shared-agree S T 0 P.globals Q.globals (stand-self P.globals) (stand-self Q.globals))))
+      all-append (Agrees S T) (out_pairs (length p.ins) (length q.ins) (fixed_outs p (root_of P p)) (fixed_outs q (root_of Q q)) (carried_count p (root_of P p)) (carried_count q (root_of Q q)) p.outs q.outs) (shared_pairs P.globals (modified_globals p q shared))
+      (outs-agree S T (length p.ins) (length q.ins) (fixed_outs p (root_of P p)) (fixed_outs q (root_of Q q)) (carried_count p (root_of P p)) (carried_count q (root_of Q q)) p.outs q.outs (stand-after p.ins p.outs) (stand-after q.ins q.outs) h.outs h.last)
+      (spots-agree S T P.globals (modified_globals p q shared) (all-filter _ (λ s. is_among s.old p.modifies || is_among s.new q.modifies) shared (shared-agree S T 0 P.globals Q.globals (stand-self P.globals) (stand-self Q.globals))))
 
 -- ---- candidates
 

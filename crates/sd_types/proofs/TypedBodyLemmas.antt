@@ -19,7 +19,7 @@ use Rattle.sd_types.specs.Answer.{and_then, both, each, all_of}
 use Rattle.sd_types.specs.Tables.{named}
 use Rattle.sd_types.specs.Scopes.{Context, declared_as}
 use Rattle.sd_types.specs.Phrases.{is_of, agree, same_number, selected, sort_in, at_place, sort_of, given, all_given, is_truth}
-use Rattle.sd_types.specs.Statements.{Routine, routine, distinct, target, targets, assignable, modified, has_body, indexed, left_sort, left_names, typed_indices, assignment, assign_rule, same_numbers, fits_callee, calling, call_rule, true_invariant, break_rule, stmt_rule, row_rule, each_stmt}
+use Rattle.sd_types.specs.Statements.{Routine, routine, distinct, target, targets, assignable, modified_rule, has_body, indexed, left_sort, left_names, typed_indices, assignment, assign_rule, same_numbers, fits_callee, callee_rule, call_rule, true_invariant, break_rule, stmt_rule, row_rule, each_stmt}
 use Rattle.sd_types.specs.Declarations.{modifies_of, body_variables, nothing, enter_all, known_vars, head_rule, spec_rule, parameters, body_stmts_rule, body_rule, own_body_rule, same_types, decl_rule, program_rule, refusal}
 use Rattle.sd_types.specs.Typing.{HasType}
 use Rattle.sd_types.specs.TypedBodies.{AllHave, IsVariableOf, AreVariablesOf, Leads, LeftHasType, Assigns, Calls, AllTruths, IsTypedStmt, AreTypedStmts, AllTypedStmts, IsTypedBody, IsTypedOwnBody, HasTypedBody, HaveTypedBodies, BodiesAreTyped}
@@ -104,11 +104,11 @@ declared-as x (Some w) v h = ap Some (ok_is h)
 
 call-typed : (R : Routine) (p : Place) (xs : List Text) (f : Text) (es : List Expr) (u : Unit {0}) → call_rule R p xs f es ≡ Ok u → Calls R xs f es
 call-typed R p xs f es u h =
-    let a = parts (all_given R.context es) (λ gs. calling R p xs f gs) u h in
-    let b = parts (distinct xs) (λ _. and_then (targets R.context p xs) (λ ts. and_then (declared_as f (named R.scope.procedures f)) (λ q. both (fits_callee p q ts a.0) (both (each (assignable R) xs) (both (each (modified R) q.modifies) (has_body R.scope.bodies f)))))) u a.2 in
-    let c = parts (targets R.context p xs) (λ ts. and_then (declared_as f (named R.scope.procedures f)) (λ q. both (fits_callee p q ts a.0) (both (each (assignable R) xs) (both (each (modified R) q.modifies) (has_body R.scope.bodies f))))) u b.2 in
-    let d = parts (declared_as f (named R.scope.procedures f)) (λ q. both (fits_callee p q c.0 a.0) (both (each (assignable R) xs) (both (each (modified R) q.modifies) (has_body R.scope.bodies f)))) u c.2 in
-    let e = parts (fits_callee p d.0 c.0 a.0) (λ _. both (each (assignable R) xs) (both (each (modified R) d.0.modifies) (has_body R.scope.bodies f))) u d.2 in
+    let a = parts (all_given R.context es) (λ gs. callee_rule R p xs f gs) u h in
+    let b = parts (distinct xs) (λ _. and_then (targets R.context p xs) (λ ts. and_then (declared_as f (named R.scope.procedures f)) (λ q. both (fits_callee p q ts a.0) (both (each (assignable R) xs) (both (each (modified_rule R) q.modifies) (has_body R.scope.bodies f)))))) u a.2 in
+    let c = parts (targets R.context p xs) (λ ts. and_then (declared_as f (named R.scope.procedures f)) (λ q. both (fits_callee p q ts a.0) (both (each (assignable R) xs) (both (each (modified_rule R) q.modifies) (has_body R.scope.bodies f))))) u b.2 in
+    let d = parts (declared_as f (named R.scope.procedures f)) (λ q. both (fits_callee p q c.0 a.0) (both (each (assignable R) xs) (both (each (modified_rule R) q.modifies) (has_body R.scope.bodies f)))) u c.2 in
+    let e = parts (fits_callee p d.0 c.0 a.0) (λ _. both (each (assignable R) xs) (both (each (modified_rule R) d.0.modifies) (has_body R.scope.bodies f))) u d.2 in
     let i = parts (agree d.0.outs c.0) (λ _. both (agree d.0.ins a.0) (same_numbers p d.0 c.0 a.0)) e.0 e.1 in
     let j = parts (agree d.0.ins a.0) (λ _. same_numbers p d.0 c.0 a.0) e.0 i.2 in
     let k = parts (same_number p d.0.outs c.0) (λ _. same_number p d.0.ins a.0) e.0 j.2 in (

@@ -92,8 +92,8 @@ is_global None = false
 is_global (Some v) = elim v.nature [ Global ↦ true | _ ↦ false ]
 
 -- a global that the callee modifies is in the caller's `modifies`
-abbrev pub modified : Routine → Text → Result (Unit {0}) TypeError
-modified R x = if is_global (named R.scope.globals x) then (if R.modifies x then Ok tt else Err (NotModified x)) else Ok tt
+abbrev pub modified_rule : Routine → Text → Result (Unit {0}) TypeError
+modified_rule R x = if is_global (named R.scope.globals x) then (if R.modifies x then Ok tt else Err (NotModified x)) else Ok tt
 
 abbrev pub has_body : List Text → Text → Result (Unit {0}) TypeError
 has_body bodies f = if is_among bodies f then Ok tt else Err (NoBody f)
@@ -106,18 +106,18 @@ abbrev pub fits_callee : Place → Callee → List Given → List Given → Resu
 fits_callee p q ts gs = both (agree q.outs ts) (both (agree q.ins gs) (same_numbers p q ts gs))
 
 -- the rules by number, once the arguments have types
-abbrev pub calling : Routine → Place → List Text → Text → List Given → Result (Unit {0}) TypeError
-calling R p xs f gs =
+abbrev pub callee_rule : Routine → Place → List Text → Text → List Given → Result (Unit {0}) TypeError
+callee_rule R p xs f gs =
     both (distinct xs)
     (and_then (targets R.context p xs) (λ ts.
     and_then (declared_as f (named R.scope.procedures f)) (λ q.
     both (fits_callee p q ts gs)
     (both (each (assignable R) xs)
-    (both (each (modified R) q.modifies)
+    (both (each (modified_rule R) q.modifies)
     (has_body R.scope.bodies f))))))
 
 abbrev pub call_rule : Routine → Place → List Text → Text → List Expr → Result (Unit {0}) TypeError
-call_rule R p xs f es = and_then (all_given R.context es) (λ gs. calling R p xs f gs)
+call_rule R p xs f es = and_then (all_given R.context es) (λ gs. callee_rule R p xs f gs)
 
 -- ---- statements
 

@@ -5,7 +5,7 @@ ghost use Rattle.sd_types.specs.declared.scope.Site.TheVariants as spot;
 ghost use Rattle.sd_types.specs.Names.{is_among};
 ghost use Rattle.sd_types.specs.Answer.{Answers, each, all_of};
 ghost use Rattle.sd_types.specs.Scopes.{context};
-ghost use Rattle.sd_types.specs.Statements.{Routine, routine, distinct, targets, assigned_as, assignable, indexed, left_sort, left_names, typed_indices, modified, is_global};
+ghost use Rattle.sd_types.specs.Statements.{Routine, routine, distinct, targets, assigned_as, assignable, indexed, left_sort, left_names, typed_indices, modified_rule, is_global};
 
 use crate::phrase::{given_args, select, sort_named};
 use crate::refusal::{TypeError, not_modified, read_only, unknown};
@@ -116,7 +116,7 @@ fn check_modified(
     modifies: &NameList,
     name: &Name,
 ) -> Result<(), TypeError>
-    ensures { Answers (modified (routine scope.now locals.now modifies.now) name.now) result }
+    ensures { Answers (modified_rule (routine scope.now locals.now modifies.now) name.now) result }
 {
     if is_global_variable(scope.globals.get(name)) {
         if modifies.has(name) {
@@ -137,7 +137,7 @@ pub(crate) fn check_all_modified(
     modifies: &NameList,
     names: &Items<Name>,
 ) -> Result<(), TypeError>
-    ensures { Answers (each (modified (routine scope.now locals.now modifies.now)) names.now) result }
+    ensures { Answers (each (modified_rule (routine scope.now locals.now modifies.now)) names.now) result }
 {
     for name in names.as_slice() {
         check_modified(alloc, scope, locals, modifies, name)?;

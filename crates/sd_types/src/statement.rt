@@ -3,7 +3,7 @@ ghost use Rattle.std.specs.Option.{option_copied};
 ghost use Rattle.sd_types.specs.declared.scope.Site.TheVariants as spot;
 ghost use Rattle.sd_types.specs.Answer.{Answers, each};
 ghost use Rattle.sd_types.specs.Scopes.{context};
-ghost use Rattle.sd_types.specs.Statements.{routine, assignment, assign_rule, has_body, same_numbers, fits_callee, calling, call_rule, true_invariant, break_rule, stmt_rule, each_stmt};
+ghost use Rattle.sd_types.specs.Statements.{routine, assignment, assign_rule, has_body, same_numbers, fits_callee, callee_rule, call_rule, true_invariant, break_rule, stmt_rule, each_stmt};
 
 use crate::assigned::{
     check_all_assignable, check_all_modified, check_distinct, check_indices, given_targets,
@@ -102,7 +102,7 @@ fn check_callee(
     name: &Name,
     args: &Items<Given>,
 ) -> Result<(), TypeError>
-    ensures { Answers (calling (routine scope.now locals.now modifies.now) at receivers.now name.now args.now) result }
+    ensures { Answers (callee_rule (routine scope.now locals.now modifies.now) at receivers.now name.now args.now) result }
 {
     check_distinct(alloc, receivers)?;
     let targets = given_targets(alloc, scope, locals, at, receivers)?;
