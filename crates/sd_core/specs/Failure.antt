@@ -3,11 +3,12 @@ use Rattle.std.specs.Prelude.{◌≡◌, ℕ, suc, true, false, ◌&&◌, List, 
 use Rattle.std.specs.List.{AllByRecursion}
 use Rattle.sd_base.specs.declared.sort.Var.{Var}
 use Rattle.sd_base.specs.Value.{same_text, Value}
-use Rattle.sd_base.specs.Meaning.{Meaning, interpretation}
+use Rattle.sd_base.specs.Meaning.{Meaning}
 use Rattle.sd_core.specs.declared.tree.CoreProc.{CoreProc}
 use Rattle.sd_core.specs.declared.tree.CoreProgram.{CoreProgram}
 use Rattle.sd_core.specs.declared.tree.Shared.{Shared}
 use Rattle.sd_core.specs.Run.{nothing, Ended, flag_run}
+use Rattle.sd_core.specs.Interpretation.{core_interpretation}
 use Rattle.sd_core.specs.Formed.{sorts_of, same_sort}
 use Rattle.sd_core.specs.Meanings.{HaveSorts, IsMeaningOf}
 
@@ -64,5 +65,5 @@ pub record NewFailureOf (P Q : CoreProgram) (i j : ℕ) : Type 0 where
   pub after : List Value
   pub outs' : List Value
   pub after' : List Value
-  pub old_ends : flag_run (interpretation M) P.procs old_calls i ins globals ≡ Ended outs after false
-  pub new_fails : flag_run (interpretation M) Q.procs new_calls j ins' globals' ≡ Ended outs' after' true
+  pub old_ends : flag_run (core_interpretation P M) P.procs old_calls i ins globals ≡ Ended outs after false
+  pub new_fails : flag_run (core_interpretation Q M) Q.procs new_calls j ins' globals' ≡ Ended outs' after' true

@@ -1,5 +1,6 @@
 pub mod Store
 pub mod Run
+pub mod Interpretation
 pub mod Formed
 pub mod Meanings
 pub mod Failure

@@ -5,10 +5,11 @@ use Rattle.sd_base.specs.declared.sort.Sort.{Sort}
 use Rattle.sd_base.specs.declared.sort.Var.{Var}
 use Rattle.sd_base.specs.Value.{Value}
 use Rattle.sd_base.specs.Sorts.{HasSort}
-use Rattle.sd_base.specs.Meaning.{Table, Meaning, interpretation}
+use Rattle.sd_base.specs.Meaning.{Table, Meaning}
 use Rattle.sd_core.specs.declared.tree.Function.{Function}
 use Rattle.sd_core.specs.declared.tree.CoreProgram.{CoreProgram}
 use Rattle.sd_core.specs.Run.{is_true}
+use Rattle.sd_core.specs.Interpretation.{core_interpretation}
 
 -- values of these types, one by one
 abbrev pub HaveSorts : List Sort → List Value → Type 0
@@ -37,5 +38,5 @@ Differ M (c ∷ cs) = AllByRecursion (λ d. c.sort ≡ d.sort → M.constant c.n
 pub record IsMeaningOf (P : CoreProgram) (M : Meaning) : Type 0 where
   pub starts : (s : Sort) → HasSort s (M.start s)
   pub functions : AllByRecursion (Fits M) P.functions
-  pub axioms : AllByRecursion (λ e. IsTrue (is_true (interpretation M) e)) P.axioms
+  pub axioms : AllByRecursion (λ e. IsTrue (is_true (core_interpretation P M) e)) P.axioms
   pub uniques : Differ M P.uniques

@@ -65,7 +65,7 @@ has_signature args result t h =
 
 -- ---- functions, constants and axioms
 
-module _ (M : Meaning) where
+module _ (P : Program) (M : Meaning) where
   constants_fit : (names : List Text) (sort : Sort) → AllByRecursion (λ c. HasSort sort (M.constant c)) names → AllByRecursion (Fits M) (constants_named names sort)
   constants_fit [] sort h = tt
   constants_fit (c ∷ names) sort h = (h.0, constants_fit names sort h.1)
@@ -74,7 +74,7 @@ module _ (M : Meaning) where
   constants_have [] sort h = tt
   constants_have (c ∷ names) sort h = (h.0, constants_have names sort h.1)
 
-  functions_fit : (ds : List Decl) → AllByRecursion (IsTrueOf M) ds → AllByRecursion (Fits M) (functions_in ds)
+  functions_fit : (ds : List Decl) → AllByRecursion (IsTrueOf P M) ds → AllByRecursion (Fits M) (functions_in ds)
   functions_fit [] h = tt
   functions_fit (Function f args result ∷ ds) h = (fits_table args result (M.function f) h.0, functions_fit ds h.1)
   functions_fit (Const unique names sort ∷ ds) h = all_append (Fits M) (constants_named names sort) (functions_in ds) (constants_fit names sort h.0) (functions_fit ds h.1)
@@ -87,7 +87,7 @@ module _ (M : Meaning) where
   abbrev HoldsHere : Expr → Type 0
   HoldsHere e = IsTrue (truth_of (value (interpretation M) nowhere e.kind))
 
-  axioms_hold : (ds : List Decl) → AllByRecursion (IsTrueOf M) ds → AllByRecursion HoldsHere (axioms_in ds)
+  axioms_hold : (ds : List Decl) → AllByRecursion (IsTrueOf P M) ds → AllByRecursion HoldsHere (axioms_in ds)
   axioms_hold [] h = tt
   axioms_hold (Axiom e ∷ ds) h = (h.0, axioms_hold ds h.1)
   axioms_hold (Function f args result ∷ ds) h = axioms_hold ds h.1
@@ -97,7 +97,7 @@ module _ (M : Meaning) where
   axioms_hold (Procedure p ∷ ds) h = axioms_hold ds h.1
   axioms_hold (Implementation i ∷ ds) h = axioms_hold ds h.1
 
-  all_true : (ds : List Decl) → AllByRecursion (Fits M) (functions_in ds) → AllByRecursion HoldsHere (axioms_in ds) → AllByRecursion (IsTrueOf M) ds
+  all_true : (ds : List Decl) → AllByRecursion (Fits M) (functions_in ds) → AllByRecursion HoldsHere (axioms_in ds) → AllByRecursion (IsTrueOf P M) ds
   all_true [] h k = tt
   all_true (Function f args result ∷ ds) h k = (has_signature args result (M.function f) h.0, all_true ds h.1 k)
   all_true (Const unique names sort ∷ ds) h k =
@@ -120,7 +120,7 @@ module _ (M : Meaning) where
 
   -- ---- a program
 
-  module _ (kept : AxiomsAreKept) (P : Program) where
+  module _ (kept : AxiomsAreKept) where
     core_axioms_hold : AllByRecursion HoldsHere (axioms_in P.decls) → AllByRecursion (λ e. IsTrue (is_true (interpretation M) e)) (map core_axiom (axioms_in P.decls))
     core_axioms_hold h =
         out_of_map IsTrue (is_true (interpretation M)) (map core_axiom (axioms_in P.decls))
@@ -131,7 +131,7 @@ module _ (M : Meaning) where
         out_of_map IsTrue (λ e. truth_of (value (interpretation M) nowhere e.kind)) (axioms_in P.decls)
         (subst (AllByRecursion IsTrue) (kept P M) (into_map IsTrue (is_true (interpretation M)) (map core_axiom (axioms_in P.decls)) h))
 
-    pub core_meaning : ((s : Sort) → HasSort s (M.start s)) → AllByRecursion (IsTrueOf M) P.decls → AreDistinct M (uniques_in P.decls) → IsMeaningOf (core_program P) M
+    pub core_meaning : ((s : Sort) → HasSort s (M.start s)) → AllByRecursion (IsTrueOf P M) P.decls → AreDistinct M (uniques_in P.decls) → IsMeaningOf (core_program P) M
     core_meaning starts h u = record {
       starts = starts;
       functions = functions_fit P.decls h;
@@ -139,7 +139,7 @@ module _ (M : Meaning) where
       uniques = distinct_differ (uniques_in P.decls) u;
     }
 
-    pub decls_true : IsMeaningOf (core_program P) M → AllByRecursion (IsTrueOf M) P.decls
+    pub decls_true : IsMeaningOf (core_program P) M → AllByRecursion (IsTrueOf P M) P.decls
     decls_true w = all_true P.decls w.functions (axioms_hold_here w.axioms)
 
     pub uniques_distinct : IsMeaningOf (core_program P) M → AreDistinct M (uniques_in P.decls)

@@ -97,8 +97,8 @@ module _ (runs : RunsAreKept) (procedures : ProceduresAreKept) where
         let failed = (exact_of Q typed' g s is' w.M w.new_steps w.ins' w.globals' w.same_input.new_input).failed.0 w.new_fails in
         record {
           M = w.M;
-          old_meaning = core_meaning w.M axioms P w.is_meaning.starts w.is_meaning.old_true w.is_meaning.old_unique;
-          new_meaning = core_meaning w.M axioms Q w.is_meaning.starts w.is_meaning.new_true w.is_meaning.new_unique;
+          old_meaning = core_meaning P w.M axioms w.is_meaning.starts w.is_meaning.old_true w.is_meaning.old_unique;
+          new_meaning = core_meaning Q w.M axioms w.is_meaning.starts w.is_meaning.new_true w.is_meaning.new_unique;
           old = core P typed f r is;
           new = core Q typed' g s is';
           old_found = core_found P typed f r is;
@@ -137,10 +137,10 @@ module _ (runs : RunsAreKept) (procedures : ProceduresAreKept) where
           M = w.M;
           is_meaning = record {
             starts = w.old_meaning.starts;
-            old_true = decls_true w.M axioms P w.old_meaning;
-            new_true = decls_true w.M axioms Q w.new_meaning;
-            old_unique = uniques_distinct w.M axioms P w.old_meaning;
-            new_unique = uniques_distinct w.M axioms Q w.new_meaning;
+            old_true = decls_true P w.M axioms w.old_meaning;
+            new_true = decls_true Q w.M axioms w.new_meaning;
+            old_unique = uniques_distinct P w.M axioms w.old_meaning;
+            new_unique = uniques_distinct Q w.M axioms w.new_meaning;
           };
           ins = w.ins;
           ins' = w.ins';

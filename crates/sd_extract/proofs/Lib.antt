@@ -19,9 +19,6 @@ pub mod Assigned
 pub mod TypedIsFine
 pub mod LawLemmas
 pub mod Roots
-mod Examples
-mod Compared
-pub mod FormLemmas
 pub mod PropositionalLemmas
 pub mod Propositional
 pub mod FailureMeanings

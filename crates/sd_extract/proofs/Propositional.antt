@@ -20,7 +20,7 @@ use Rattle.sd_meaning.specs.Routine.{Routine, requires_of, ensures_of, procedure
 use Rattle.sd_meaning.specs.Inputs.{globals_in, uniques_in}
 use Rattle.sd_extract.specs.Extract.{Source, source_of, var_in, copies_of, kinds, none, put, check, assume, on_args, contract, leave, body_frame, body_start, body_proc, hidden, each_extracted, procs_of, size_of, number_from, routine_procs, procs_from}
 use Rattle.sd_extract.specs.Programs.{functions_in, axioms_in, core_axiom}
-use Rattle.sd_extract.specs.Form.{AreTruths, IsPropositional, IsPropositionalSpec, IsPropositionalHead, IsPropositionalBody, MaybePropositionalBody, IsPropositionalDecl}
+use Rattle.sd_extract.specs.Propositional.{AreTruths, IsPropositional, IsPropositionalSpec, IsPropositionalHead, IsPropositionalBody, MaybePropositionalBody, IsPropositionalDecl}
 use Rattle.sd_extract.specs.Laws.{PropositionalIsKept}
 use Rattle.sd_extract.proofs.PropositionalLemmas.{all_append, all_map, map_all, AllPropositional, IsNumberless, checks-propositional, assumes-propositional, put-propositional, each_extracted-propositional, hidden-truths, each_loops-none}
 

@@ -24,7 +24,7 @@ use Rattle.sd_core.specs.Propositional as propositional
 use Rattle.sd_meaning.specs.Routine.{Clause}
 use Rattle.sd_extract.specs.Names.{Names, at_place, place_of, unary_of, binary_of, negated, both, core_of, cores_of}
 use Rattle.sd_extract.specs.Extract.{Counts, Frame, Source, plus, counts, counts_all, put, checked, check, assume, stored, all_stored, cores, extracted, all_extracted, each_extracted, args_in, all_args_in, each_args_in, lefts_in, all_lefts_in, each_left_in, hidden, loops_in, all_loops_in, each_loop_in}
-use Rattle.sd_extract.specs.Form.{AreTruths, HasNoNumber, HaveNoNumber, NoneHasNumber, IsPropositional, ArePropositional}
+use Rattle.sd_extract.specs.Propositional.{AreTruths, HasNoNumber, HaveNoNumber, NoneHasNumber, IsPropositional, ArePropositional}
 
 -- ---- lists
 

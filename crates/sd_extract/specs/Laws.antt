@@ -1,22 +1,24 @@
 -- What extraction keeps.
 use Rattle.std.specs.Prelude.{◌≡◌, ◌↔◌, ℕ, List, map, length, Some, None, slice_get}
 use Rattle.sd_base.specs.Value.{Text, Value}
-use Rattle.sd_base.specs.Meaning.{Meaning, interpretation, truth_of}
+use Rattle.sd_base.specs.Meaning.{Meaning, truth_of}
 use Rattle.sd_ast.specs.declared.Program.{Program}
 use Rattle.sd_ast.specs.declared.Proc.{Proc}
 use Rattle.sd_ast.specs.Tree.{names_of}
 use Rattle.sd_meaning.specs.Evaluate.{value}
+use Rattle.sd_meaning.specs.Interpretation.{interpretation_of}
 use Rattle.sd_meaning.specs.Routine.{Routine, procedure_in, routine_named}
 use Rattle.sd_meaning.specs.Inputs.{globals_in, nowhere}
 use Rattle.sd_meaning.specs.Run.{named, run}
 use Rattle.sd_types.specs.Declarations.{WellTyped}
 use Rattle.sd_core.specs.declared.CoreProc.{CoreProc}
 use Rattle.sd_core.specs.Run.{flag_run, is_true}
+use Rattle.sd_core.specs.Interpretation.{core_interpretation}
 use Rattle.sd_core.specs.Formed.{WellFormed}
 use Rattle.sd_meaning.specs.NewFailure.{NewFailure}
 use Rattle.sd_core.specs.Failure.{NewFailureOf}
 use Rattle.sd_core.specs.Propositional.{IsPropositionalCore}
-use Rattle.sd_extract.specs.Form.{IsPropositionalProgram}
+use Rattle.sd_extract.specs.Propositional.{IsPropositionalProgram}
 use Rattle.sd_extract.specs.Extract.{number_from}
 use Rattle.sd_extract.specs.Programs.{core_program, core_axiom, axioms_in}
 use Rattle.sd_extract.specs.Law.{Exact}
@@ -30,7 +32,7 @@ abbrev pub RunsAreKept : Type 0
 RunsAreKept =
     (P : Program) → WellTyped P → (M : Meaning) (n : ℕ) (f : Text) (d : Proc) (r : Routine) → procedure_in P.decls f ≡ Some d → routine_named P f ≡ Some r →
     (ins globals : List Value) → length ins ≡ length d.head.ins → length globals ≡ length (globals_in P.decls) →
-    Exact (names_of (globals_in P.decls)) (run P M n f ins (named (names_of (globals_in P.decls)) globals)) (flag_run (interpretation M) (core_program P).procs n (number_of P f) ins globals)
+    Exact (names_of (globals_in P.decls)) (run P M n f ins (named (names_of (globals_in P.decls)) globals)) (flag_run (core_interpretation (core_program P) M) (core_program P).procs n (number_of P f) ins globals)
 
 -- A procedure with a body has its name and its parameters in the core.
 abbrev pub ProceduresAreKept : Type 0
@@ -41,7 +43,7 @@ ProceduresAreKept =
 -- Axioms are as true as they were, one by one.
 abbrev pub AxiomsAreKept : Type 0
 AxiomsAreKept =
-    (P : Program) (M : Meaning) → map (is_true (interpretation M)) (map core_axiom (axioms_in P.decls)) ≡ map (λ e. truth_of (value (interpretation M) nowhere e.kind)) (axioms_in P.decls)
+    (P : Program) (M : Meaning) → map (is_true (core_interpretation (core_program P) M)) (map core_axiom (axioms_in P.decls)) ≡ map (λ e. truth_of (value (interpretation_of P M) nowhere e.kind)) (axioms_in P.decls)
 
 -- The core program of a well-typed program is well formed.
 abbrev pub ExtractedIsFormed : Type 0

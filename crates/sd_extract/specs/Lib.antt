@@ -3,7 +3,7 @@ pub mod Extract
 pub mod Programs
 pub mod Law
 pub mod Laws
-pub mod Form
+pub mod Propositional
 pub mod Positions
 pub mod Scopes
 pub mod Counted

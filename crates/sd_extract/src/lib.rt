@@ -12,7 +12,6 @@ mod declarations;
 mod decls;
 mod expression;
 mod extraction;
-mod form;
 mod frame;
 mod frames;
 mod hidden;
@@ -31,4 +30,3 @@ mod statement;
 mod table;
 
 pub use extraction::extract;
-pub use form::is_propositional_program;

@@ -9,8 +9,9 @@ use Rattle.sd_ast.specs.declared.Decl.{Decl}
 use Rattle.sd_ast.specs.declared.Decl.TheVariants.{Const, Function, Axiom, Globals}
 use Rattle.sd_ast.specs.declared.Program.{Program}
 use Rattle.sd_ast.specs.declared.Proc.{Proc}
-use Rattle.sd_base.specs.Meaning.{Meaning, Table, interpretation, truth_of}
+use Rattle.sd_base.specs.Meaning.{Meaning, Table, truth_of}
 use Rattle.sd_meaning.specs.Evaluate.{Store, State, held, value}
+use Rattle.sd_meaning.specs.Interpretation.{interpretation_of}
 use Rattle.sd_meaning.specs.Routine.{procedure_in}
 
 -- ---- meanings
@@ -28,12 +29,12 @@ HasSignature args result t =
 abbrev pub nowhere : State
 nowhere = record { globals = []; entry = []; locals = [] }
 
--- a declaration is true of its name: a function and a constant have their types, and an axiom holds
-abbrev pub IsTrueOf : Meaning → Decl → Type 0
-IsTrueOf M (Function f args result) = HasSignature args result (M.function f)
-IsTrueOf M (Const unique names sort) = AllByRecursion (λ c. HasSort sort (M.constant c)) names
-IsTrueOf M (Axiom e) = IsTrue (truth_of (value (interpretation M) nowhere e.kind))
-IsTrueOf M _ = Unit {0}
+-- a declaration of a program is true of its name: a function and a constant have their types, and an axiom holds
+abbrev pub IsTrueOf : Program → Meaning → Decl → Type 0
+IsTrueOf P M (Function f args result) = HasSignature args result (M.function f)
+IsTrueOf P M (Const unique names sort) = AllByRecursion (λ c. HasSort sort (M.constant c)) names
+IsTrueOf P M (Axiom e) = IsTrue (truth_of (value (interpretation_of P M) nowhere e.kind))
+IsTrueOf P M _ = Unit {0}
 
 abbrev pub constants_of_sort : List Text → Sort → List Var
 constants_of_sort names sort = map (λ c. record { name = c; sort = sort }) names
@@ -52,8 +53,8 @@ AreDistinct M (c ∷ cs) =
 -- a meaning of the functions, constants and types of two texts
 pub record IsMeaning (old new : Program) (M : Meaning) : Type 0 where
   pub starts : (s : Sort) → HasSort s (M.start s)
-  pub old_true : AllByRecursion (IsTrueOf M) old.decls
-  pub new_true : AllByRecursion (IsTrueOf M) new.decls
+  pub old_true : AllByRecursion (IsTrueOf old M) old.decls
+  pub new_true : AllByRecursion (IsTrueOf new M) new.decls
   pub old_unique : AreDistinct M (uniques_in old.decls)
   pub new_unique : AreDistinct M (uniques_in new.decls)
 

@@ -1,6 +1,8 @@
 pub mod Evaluate
+pub mod Interpretation
 pub mod Routine
 pub mod Run
 pub mod Inputs
 pub mod NewFailure
 pub mod Propositional
+pub mod Laws

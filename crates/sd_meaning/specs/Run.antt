@@ -8,8 +8,9 @@ use Rattle.sd_ast.specs.declared.Expr.{Expr}
 use Rattle.sd_ast.specs.declared.Left.{Left}
 use Rattle.sd_ast.specs.declared.Stmt.{Stmt}
 use Rattle.sd_ast.specs.declared.StmtKind.{StmtKind, Assert, Assume, Assign, Call, If', While', Break, Return, Row_of-Stmt, end_of-Stmt, more_of-Stmt}
-use Rattle.sd_base.specs.Meaning.{Meaning, Interpretation, interpretation, truth_of, index_of}
+use Rattle.sd_base.specs.Meaning.{Meaning, Interpretation, truth_of, index_of}
 use Rattle.sd_meaning.specs.Evaluate.{Store, State, variable, value}
+use Rattle.sd_meaning.specs.Interpretation.{interpretation_of}
 use Rattle.sd_meaning.specs.Routine.{Routine, procedure_in, routine_named, Clause, requires_of, ensures_of, clauses_of}
 use Rattle.sd_ast.specs.Tree.{names_of}
 
@@ -231,4 +232,4 @@ root_run I with f ins globals (Some p) =
 -- a run of the procedure f that no call began, with n steps
 abbrev pub run : Program → Meaning → ℕ → Text → List Value → Store → Outcome
 run P M n f ins globals =
-    root_run (interpretation M) (level P (interpretation M) n) f ins globals (procedure_in P.decls f)
+    root_run (interpretation_of P M) (level P (interpretation_of P M) n) f ins globals (procedure_in P.decls f)

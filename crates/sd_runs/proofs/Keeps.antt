@@ -19,7 +19,8 @@ use Rattle.sd_core.specs.Store.{Store, read, write, write_all, set_all}
 use Rattle.sd_core.specs.Run.{nothing, value_in, End, Ended, Blocked, Unfinished, Step, Goes, Stops, Blocks, Lacks, Calls, receive, then_run, run, run_row, run_all, enter, slots_from, outs_of, end_of, run_proc, run_number, calls_within}
 use Rattle.sd_core.specs.Formed.{sorts_of, state_sorts, Within, IsCall, IsFormed, AreFormed, AllFormed, AreTargets}
 use Rattle.sd_core.specs.Meanings.{HaveSorts}
-use Rattle.sd_runs.specs.Kept.{at_all, EndFits, KeepsCalls, RunsKeep}
+use Rattle.sd_runs.specs.Kept.{at_all, EndFits, KeepsCalls}
+use Rattle.sd_runs.specs.Laws.{RunsKeep}
 use Rattle.sd_runs.proofs.Contained.{contains_first, contains_later, not_among}
 use Rattle.sd_runs.proofs.Fits.{StoreFits, InterpretsFunctions, get_fits, append_fits, write_all_fits, meaning_interprets, all_values_fit}
 

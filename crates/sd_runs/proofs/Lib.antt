@@ -2,7 +2,7 @@ pub mod Contained
 pub mod Fits
 pub mod Keeps
 pub mod More
-pub mod Hushed
+pub mod InfallibleRuns
 pub mod Rows
 pub mod Callers
 pub mod Spread

@@ -7,7 +7,7 @@ use Rattle.sd_core.specs.declared.CoreStmt.{CoreStmt, Assign, If', Call, Assume,
 use Rattle.sd_core.specs.declared.CoreProc.{CoreProc}
 use Rattle.sd_core.specs.Store.{Store}
 use Rattle.sd_core.specs.Run.{value_in, End, Unfinished, Step, Goes, Stops, Blocks, Lacks, Calls, receive, then_run, run, run_row, run_all, enter, end_of, run_number, calls_within}
-use Rattle.sd_runs.specs.Bounds.{MoreCalls}
+use Rattle.sd_runs.specs.Laws.{MoreCalls}
 
 -- the same, or unfinished
 abbrev Below : Step → Step → Type 0

@@ -1,10 +1,7 @@
 -- Procedures that never raise their flag.
 use Rattle.std.specs.Prelude.{◌≡◌, ℕ, ◌<◌, Bool, true, false, List, Some, length, slice_get, get_or}
 use Rattle.std.specs.List.{AllByRecursion}
-use Rattle.sd_base.specs.Value.{Value}
-use Rattle.sd_base.specs.Meaning.{Interpretation}
 use Rattle.sd_core.specs.declared.CoreProc.{CoreProc}
-use Rattle.sd_core.specs.Run.{Ended, calls_within}
 use Rattle.sd_runs.specs.Calls.{callees_of, any_fail}
 
 -- a body without a failure, which calls procedures of this set alone
@@ -29,7 +26,3 @@ pub record AreTheInfallible (procs : List CoreProc) (infallible : ℕ → Bool) 
 -- whether the entry of a procedure is set
 abbrev pub entry_at : List Bool → ℕ → Bool
 entry_at entries q = get_or entries q false
-
--- A infallible procedure ends with its flag down.
-abbrev pub InfallibleRuns : Type 0
-InfallibleRuns = (I : Interpretation) (procs : List CoreProc) (infallible : ℕ → Bool) → IsInfallibleSet procs infallible → (n q : ℕ) (ins globals outs after : List Value) (flag : Bool) → infallible q ≡ true → calls_within I procs n q ins globals ≡ Ended outs after flag → flag ≡ false

@@ -1,13 +1,12 @@
 -- What every run keeps: the types of values, and the globals that its procedure may not modify.
 use Rattle.std.specs.Prelude.{◌≡◌, ℕ, Bool, List, map, get_or, Some, slice_get}
 use Rattle.sd_base.specs.Value.{Value}
-use Rattle.sd_base.specs.Meaning.{Meaning, interpretation}
 use Rattle.sd_core.specs.declared.CoreProc.{CoreProc}
 use Rattle.sd_core.specs.declared.CoreProgram.{CoreProgram}
 use Rattle.sd_core.specs.Store.{set_all}
-use Rattle.sd_core.specs.Run.{Calls, Ended, calls_within, nothing}
-use Rattle.sd_core.specs.Formed.{WellFormed, sorts_of}
-use Rattle.sd_core.specs.Meanings.{HaveSorts, IsMeaningOf}
+use Rattle.sd_core.specs.Run.{Calls, Ended, nothing}
+use Rattle.sd_core.specs.Formed.{sorts_of}
+use Rattle.sd_core.specs.Meanings.{HaveSorts}
 
 -- what stands in these globals
 abbrev pub at_all : List Value → List ℕ → List Value
@@ -23,7 +22,3 @@ pub record EndFits (P : CoreProgram) (p : CoreProc) (globals outs after : List V
 -- each call from values of the declared types ends so
 pub record KeepsCalls (P : CoreProgram) (calls : Calls) : Type 0 where
   pub by : (q : ℕ) (p : CoreProc) (ins globals outs after : List Value) (flag : Bool) → slice_get P.procs q ≡ Some p → HaveSorts (sorts_of p.ins) ins → HaveSorts (sorts_of P.globals) globals → calls q ins globals ≡ Ended outs after flag → EndFits P p globals outs after
-
--- Runs of a well formed program keep types, and the globals that they may not modify, whatever the bound.
-abbrev pub RunsKeep : Type 0
-RunsKeep = (P : CoreProgram) (M : Meaning) → WellFormed P → IsMeaningOf P M → (n : ℕ) → KeepsCalls P (calls_within (interpretation M) P.procs n)

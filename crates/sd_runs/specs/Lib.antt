@@ -1,5 +1,5 @@
 pub mod Kept
 pub mod Calls
 pub mod Infallible
-pub mod Bounds
 pub mod Marks
+pub mod Laws

@@ -1,7 +1,5 @@
 //! What runs keep.
-ghost use Rattle.sd_runs.specs.Kept.{RunsKeep};
-ghost use Rattle.sd_runs.specs.Infallible.{InfallibleRuns};
-ghost use Rattle.sd_runs.specs.Bounds.{MoreCalls};
+ghost use Rattle.sd_runs.specs.Laws.{RunsKeep, MoreCalls, InfallibleRuns};
 
 /// A run gives outs and globals of the declared types, and leaves the globals that its procedure doesn't modify as they were.
 pub fn runs_keep()
@@ -13,7 +11,7 @@ pub fn more_calls()
     ensures { MoreCalls }
 {}
 
-/// A infallible procedure ends with its flag down.
+/// An infallible procedure ends with its flag down.
 pub fn infallible_runs()
     ensures { InfallibleRuns }
 {}

@@ -10,7 +10,7 @@ use Rattle.sd_ast.specs.declared.tree.ExprKind.{Old, Unary, Binary, Select, Stor
 use Rattle.sd_ast.specs.declared.tree.BinOp.{BinOp}
 use Rattle.sd_ast.specs.declared.tree.UnOp.{UnOp}
 use Rattle.sd_ast.proofs.TreeLemmas.{old_is, unary_is, binary_is, select_is, store_is}
-use Rattle.sd_extract.proofs.FormLemmas.{refuted, not_if_false, both_last, both_first}
+use Rattle.sd_taken.proofs.TestLemmas.{refuted, not_if_false, both_last, both_first}
 use Rattle.sd_taken.specs.Form.{HasNoProduct, HaveNoProduct, NoneHasProduct, IsNoProduct}
 
 product_row : {m : _} (r : Row_of-Expr m) → HaveNoProduct r ≡ NoneHasProduct (items-the_row-Expr m r)

@@ -16,8 +16,8 @@ use Rattle.sd_core.specs.Run.{Calls, End, Ended, Blocked, Unfinished, Step, Goes
 use Rattle.sd_core.specs.Run as core
 use Rattle.sd_core.specs.Formed.{WellFormed, sorts_of, state_sorts, HasType, AllHaveTypes, AreSpotsOf, IsFormed, AreFormed, AllFormed}
 use Rattle.sd_core.specs.Meanings.{HaveSorts}
-use Rattle.sd_runs.specs.Kept.{at_all, EndFits, KeepsCalls, RunsKeep}
-use Rattle.sd_runs.specs.Infallible.{InfallibleRuns}
+use Rattle.sd_runs.specs.Kept.{at_all, EndFits, KeepsCalls}
+use Rattle.sd_runs.specs.Laws.{RunsKeep, InfallibleRuns}
 use Rattle.sd_term.specs.Tree.{Tree}
 use Rattle.sd_term.specs.Build.{not_of, and_of, or_of}
 use Rattle.sd_term.specs.Truth.{Valuation, value}

@@ -10,7 +10,7 @@ use Rattle.sd_parse.proofs.AnswerLaws.{one_answer}
 use Rattle.sd_core.specs.declared.CoreProgram.{CoreProgram}
 use Rattle.sd_core.specs.Failure.{NewFailureOf}
 use Rattle.sd_core.specs.Propositional.{IsPropositionalCore}
-use Rattle.sd_extract.specs.Form.{IsPropositionalProgram}
+use Rattle.sd_extract.specs.Propositional.{IsPropositionalProgram}
 use Rattle.sd_extract.specs.Programs.{core_program}
 use Rattle.sd_extract.proofs.Propositional.{propositional_kept}
 use Rattle.sd_kernel.specs.declared.proved.Proved.{Proved}
@@ -25,7 +25,7 @@ use Rattle.sd_product.proofs.EqualInputs.{no_new_failure_lem}
 use Rattle.sd_product.proofs.Mutual.{mutual_summaries_lem}
 use Rattle.sd_product.proofs.FailureLemmas.{open-cubes-fail, valuations-fail}
 use Rattle.sd_runs.proofs.Keeps.{runs_keep_within}
-use Rattle.sd_runs.proofs.Hushed.{infallible_runs_within}
+use Rattle.sd_runs.proofs.InfallibleRuns.{infallible_runs_within}
 use Rattle.sd_vcgen.proofs.Runs.{runs-are-valuations}
 use Rattle.sd_vcgen.proofs.Valuations.{valuations-are-runs}
 use Rattle.symdiff.specs.declared.verdict.PairVerdict.{PairVerdict}

@@ -15,7 +15,7 @@ use Rattle.symdiff.specs.declared.text.Text.{Text}
 use Rattle.symdiff.specs.declared.text.TextFault.{TextFault}
 use Rattle.symdiff.specs.declared.text.TextFault.TheVariants.{Memory, Failed, Refused}
 use Rattle.symdiff.specs.TextRefusals.{IsTaken, IsTextRefusal, refusal_status}
-use Rattle.sd_extract.specs.Form.{IsPropositionalProgram}
+use Rattle.sd_extract.specs.Propositional.{IsPropositionalProgram}
 use Rattle.sd_match.specs.Refusals.{Refusal, Answers, global_types, function_signatures}
 use Rattle.sd_match.specs.declared.refusal.MatchError.{MatchError}
 use Rattle.sd_match.specs.declared.refusal.MatchError.TheVariants as matching

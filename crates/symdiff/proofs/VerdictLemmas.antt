@@ -9,7 +9,7 @@ use Rattle.sd_types.specs.Declarations.{WellTyped}
 use Rattle.sd_core.specs.declared.CoreProc.{CoreProc}
 use Rattle.sd_core.specs.declared.CoreProgram.{CoreProgram}
 use Rattle.sd_core.specs.Failure.{NewFailureOf}
-use Rattle.sd_extract.specs.Form.{IsPropositionalProgram}
+use Rattle.sd_extract.specs.Propositional.{IsPropositionalProgram}
 use Rattle.sd_extract.specs.Programs.{core_program}
 use Rattle.sd_extract.specs.Laws.{number_of}
 use Rattle.sd_extract.proofs.LawLemmas.{runs_kept, procedures_kept, axioms_kept}

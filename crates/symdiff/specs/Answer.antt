@@ -3,7 +3,7 @@ use Rattle.std.specs.Prelude.{◌≡◌, ◌⊎◌, ◌<◌, ℕ, List, Option, 
 use Rattle.sd_base.specs.Outside.{WhereTold}
 use Rattle.sd_base.specs.Causes.{Rose}
 use Rattle.sd_ast.specs.declared.Program.{Program}
-use Rattle.sd_extract.specs.Form.{IsPropositionalProgram}
+use Rattle.sd_extract.specs.Propositional.{IsPropositionalProgram}
 use Rattle.sd_cert.specs.declared.fault.CertError.{CertError}
 use Rattle.symdiff.specs.Words.{Task, verify, replay, JobNames, job_of}
 use Rattle.sd_match.specs.Refusals.{Refusal}

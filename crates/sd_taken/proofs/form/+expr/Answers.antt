@@ -1,6 +1,6 @@
 use Rattle.std.proofs.Common.{sym, ◌∙◌, refl}
-use Rattle.sd_extract.proofs.FormLemmas.{refuted, three_last, three_first, three_second}
-use Rattle.sd_extract.proofs.FormLemmas.{not_if_false, both_last, both_first}
+use Rattle.sd_taken.proofs.TestLemmas.{refuted, three_last, three_first, three_second}
+use Rattle.sd_taken.proofs.TestLemmas.{not_if_false, both_last, both_first}
 use Rattle.sd_taken.proofs.ExprLemmas.{with_front, without_front, at_Apply, at_Old, at_Unary, at_Binary, at_Select, at_Store}
 use Rattle.sd_taken.proofs.form.+expr.Goals as goal
 use Rattle.sd_taken.proofs.form.+expr.Goals.{has_no_product-then-child_has_no_product-3, has_no_product-else-child_has_no_product-3}

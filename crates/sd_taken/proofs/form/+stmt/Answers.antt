@@ -1,5 +1,5 @@
 use Rattle.std.proofs.Common.{sym, ◌∙◌}
-use Rattle.sd_extract.proofs.FormLemmas.{refuted, three_last, three_first, three_second}
+use Rattle.sd_taken.proofs.TestLemmas.{refuted, three_last, three_first, three_second}
 use Rattle.sd_taken.proofs.FormLemmas.{at_If, at_While}
 use Rattle.sd_taken.proofs.form.+stmt.Goals as goal
 use Rattle.sd_taken.proofs.form.+stmt.Goals.{is_compared-then-has_no_product, is_compared-else-has_no_product, is_compared-then-has_no_product-2, is_compared-else-has_no_product-2}

@@ -1,4 +1,4 @@
--- The programs that are compared today: over truth values, without calls and loops.
+-- The programs over truth values, without calls and loops.
 use Rattle.std.specs.Prelude.{◌≡◌, List, Option, Some, None}
 use Rattle.std.specs.List.{AllByRecursion}
 use Rattle.sd_base.specs.declared.Sort.{Bool as BoolSort}

@@ -1,4 +1,4 @@
--- A infallible procedure ends with its flag down.
+-- An infallible procedure ends with its flag down.
 use Rattle.std.proofs.Common.{◌≡◌, ℕ, zero, suc, List, [], ◌∷◌, ◌++◌, Option, Some, None, refl, sym, ◌∙◌}
 use Rattle.std.specs.Prelude.{Bool, true, false, ◌||◌, map, slice_get, if◌then◌else◌}
 use Rattle.std.specs.List.{AllByRecursion}
@@ -10,7 +10,8 @@ use Rattle.sd_core.specs.declared.CoreProc.{CoreProc}
 use Rattle.sd_core.specs.Store.{Store}
 use Rattle.sd_core.specs.Run.{value_in, End, Ended, Blocked, Unfinished, Step, Goes, Stops, Blocks, Lacks, Calls, receive, then_run, run, run_row, run_all, enter, end_of, run_number, calls_within}
 use Rattle.sd_runs.specs.Calls.{callees, row_callees, callees_of, has_fail, row_has_fail, any_fail}
-use Rattle.sd_runs.specs.Infallible.{IsInfallibleBody, InfallibleRuns}
+use Rattle.sd_runs.specs.Infallible.{IsInfallibleBody}
+use Rattle.sd_runs.specs.Laws.{InfallibleRuns}
 
 -- ---- lists
 
@@ -45,12 +46,12 @@ if_infallible true x y a c = a
 if_infallible false x y a c = c
 
 -- calls of these procedures end with the flag down
-abbrev Hush : Calls → (ℕ → Bool) → Type 0
-Hush calls infallible = (q : ℕ) (ins globals outs after : List Value) (flag : Bool) → infallible q ≡ true → calls q ins globals ≡ Ended outs after flag → flag ≡ false
+abbrev FlagsDown : Calls → (ℕ → Bool) → Type 0
+FlagsDown calls infallible = (q : ℕ) (ins globals outs after : List Value) (flag : Bool) → infallible q ≡ true → calls q ins globals ≡ Ended outs after flag → flag ≡ false
 
-module _ (I : Interpretation) (calls : Calls) (infallible : ℕ → Bool) (hushed : Hush calls infallible) where
+module _ (I : Interpretation) (calls : Calls) (infallible : ℕ → Bool) (flags_down : FlagsDown calls infallible) where
   received_infallible : (q : ℕ) (ins : List Value) (st : Store Value) (spots : List Spot) → infallible q ≡ true → (end : End) → calls q ins st.globals ≡ end → StepInfallible (receive st spots end)
-  received_infallible q ins st spots h (Ended outs after true) e = hushed q ins st.globals outs after true h e
+  received_infallible q ins st spots h (Ended outs after true) e = flags_down q ins st.globals outs after true h e
   received_infallible q ins st spots h (Ended outs after false) e = tt
   received_infallible q ins st spots h Blocked e = tt
   received_infallible q ins st spots h Unfinished e = tt
@@ -90,11 +91,11 @@ infallible_end p (Stops st b) outs after flag a e = let f : b ≡ flag = cc in s
 infallible_end p Blocks outs after flag a e = cc
 infallible_end p Lacks outs after flag a e = cc
 
-infallible_number : (I : Interpretation) (calls : Calls) (infallible : ℕ → Bool) → Hush calls infallible → (o : Option CoreProc) → ((p : CoreProc) → o ≡ Some p → IsInfallibleBody infallible p) → (ins globals outs after : List Value) (flag : Bool) → run_number I calls o ins globals ≡ Ended outs after flag → flag ≡ false
-infallible_number I calls infallible hushed None h ins globals outs after flag e = cc
-infallible_number I calls infallible hushed (Some p) h ins globals outs after flag e =
+infallible_number : (I : Interpretation) (calls : Calls) (infallible : ℕ → Bool) → FlagsDown calls infallible → (o : Option CoreProc) → ((p : CoreProc) → o ≡ Some p → IsInfallibleBody infallible p) → (ins globals outs after : List Value) (flag : Bool) → run_number I calls o ins globals ≡ Ended outs after flag → flag ≡ false
+infallible_number I calls infallible flags_down None h ins globals outs after flag e = cc
+infallible_number I calls infallible flags_down (Some p) h ins globals outs after flag e =
     let b = h p refl in
-    infallible_end p _ outs after flag (run_all_infallible I calls infallible hushed p.body b.no_fail b.callees (enter I.start p ins globals)) e
+    infallible_end p _ outs after flag (run_all_infallible I calls infallible flags_down p.body b.no_fail b.callees (enter I.start p ins globals)) e
 
 pub infallible_runs_within : InfallibleRuns
 infallible_runs_within I procs infallible set zero q ins globals outs after flag h e = cc
