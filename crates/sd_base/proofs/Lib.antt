@@ -2,6 +2,6 @@ pub mod SortLemmas
 pub mod ValueLemmas
 pub mod MapLemmas
 pub mod CastLemmas
-pub mod Told
+pub mod Appended
 pub mod Pieces
-pub mod Held
+pub mod FileLists

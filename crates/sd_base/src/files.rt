@@ -1,8 +1,8 @@
 ghost use Rattle.std.specs.Prelude.{◌≡◌, ◌≢◌, ◌<◌, ◌≤◌, ◌+◌, ◌-◌, ◌⊎◌, ◌↔◌, [], ◌++◌, None, Some, ℕ, List, All, AllPairs, map, length, take, drop, min, nat_le, position, Contains, IsNone, IsSome, IfOk, IfSome, OnOk, OnErr, IsErr, IsSomeAnd, MatchResult, IsTrue, IsOk, is_some};
 ghost use Rattle.std.specs.Bool.{OnTrue, OnFalse};
 ghost use Rattle.sd_base.specs.Causes.{HasCause, NeverFall, AllSame};
-ghost use Rattle.sd_base.specs.Outside.{WhereTold, CopiesPiece, appended, emptied, AllStay, OthersStay};
-ghost use Rattle.sd_base.specs.Memory.{counted, is_named, file_in, held_in, file_with};
+ghost use Rattle.sd_base.specs.Outside.{WhereKnown, CopiesPiece, appended, emptied, AllStay, OthersStay};
+ghost use Rattle.sd_base.specs.Memory.{counted, is_named, file_in, content_in, file_with};
 
 use crate::{Failed, Files, Name, NoMemory};
 use std::alloc::Global;
@@ -86,7 +86,8 @@ pub struct MemFiles {
     failing: Vec<u64>,
     calls: u64,
     read_faults: u64,
-    write_faults: u64,
+    start_faults: u64,
+    append_faults: u64,
 }
 
 impl Model for MemFiles {
@@ -94,7 +95,14 @@ impl Model for MemFiles {
 
     ghost Value = { FilesInMemory };
 
-    ghost view = { λ m. record { files = m.files.items; failing = m.failing.items; calls = m.calls; read_faults = m.read_faults; write_faults = m.write_faults } };
+    ghost view = { λ m. record {
+      files = m.files.items;
+      failing = m.failing.items;
+      calls = m.calls;
+      read_faults = m.read_faults;
+      start_faults = m.start_faults;
+      append_faults = m.append_faults;
+    } };
 }
 
 impl MemFiles {
@@ -107,7 +115,14 @@ impl MemFiles {
     ) -> Result<MemFiles, NoMemory>
         requires names { AllPairs (λ one other. one.0 ≢ other.0) files.items }
         requires lengths { All (λ file. length file.1.items ≤ room) files.items }
-        ensures { IfOk result (λ made. made ≡ record { files = map (file_with room) files.items; failing = failing.items; calls = 0; read_faults = 0; write_faults = 0 }) }
+        ensures { IfOk result (λ made. made ≡ record {
+          files = map (file_with room) files.items;
+          failing = failing.items;
+          calls = 0;
+          read_faults = 0;
+          start_faults = 0;
+          append_faults = 0;
+        }) }
     {
         let mut files = files;
         let mut made = Vec::new(alloc);
@@ -122,30 +137,37 @@ impl MemFiles {
             failing,
             calls: 0,
             read_faults: 0,
-            write_faults: 0,
+            start_faults: 0,
+            append_faults: 0,
         })
     }
 }
 
 impl Files for MemFiles {
-    ghost held = { λ m name. held_in m.files name };
+    ghost content = { λ m name. content_in m.files name };
 
     ghost read_faults = { λ m _. m.read_faults };
 
-    ghost write_faults = { λ m _. m.write_faults };
+    ghost start_faults = { λ m _. m.start_faults };
+
+    ghost append_faults = { λ m _. m.append_faults };
 
     fn read_at(&mut self, name: &str, at: u64, into: &mut [u8]) -> Result<usize, Failed>
         ensures within { IfOk result (λ count. count ≤ length into.new) }
-        ensures piece { IfOk result (λ count. WhereTold (held_in self.old.files name.now) (λ bytes. CopiesPiece bytes at into.new count)) }
-        ensures stay { (other : List ℕ) → held_in self.new.files other ≡ held_in self.old.files other }
+        ensures piece { IfOk result (λ count.
+            WhereKnown (content_in self.old.files name.now) (λ bytes. CopiesPiece bytes at into.new count)) }
+        ensures stay { (other : List ℕ) → content_in self.new.files other ≡ content_in self.old.files other }
         ensures cause { HasCause self.old.read_faults self.new.read_faults result }
-        ensures counts { (other : List ℕ) → self.old.read_faults ≤ self.new.read_faults }
-        ensures others { (other : List ℕ) → self.old.write_faults ≤ self.new.write_faults }
-        ensures no_fault { OnOk result (((other : List ℕ) → self.new.read_faults ≡ self.old.read_faults) × ((other : List ℕ) → self.new.write_faults ≡ self.old.write_faults)) }
+        ensures reads { (other : List ℕ) → self.old.read_faults ≤ self.new.read_faults }
+        ensures starts { (other : List ℕ) → self.old.start_faults ≤ self.new.start_faults }
+        ensures appends { (other : List ℕ) → self.old.append_faults ≤ self.new.append_faults }
+        ensures no_fault { OnOk result (((other : List ℕ) → self.new.read_faults ≡ self.old.read_faults)
+            × ((other : List ℕ) → self.new.start_faults ≡ self.old.start_faults)
+            × ((other : List ℕ) → self.new.append_faults ≡ self.old.append_faults)) }
 
         // Exactly what it does.
-        ensures succeeds { IsOk result ↔ ((¬ Contains self.old.failing self.old.calls) × IsSome (held_in self.old.files name.now)) }
-        ensures count { IfOk result (λ count. WhereTold (held_in self.old.files name.now) (λ bytes. count ≡ min (length into.new) (length bytes - at))) }
+        ensures succeeds { IsOk result ↔ ((¬ Contains self.old.failing self.old.calls) × IsSome (content_in self.old.files name.now)) }
+        ensures count { IfOk result (λ count. WhereKnown (content_in self.old.files name.now) (λ bytes. count ≡ min (length into.new) (length bytes - at))) }
         ensures after { MatchResult result
             (λ _. self.new ≡ record self.old { calls = counted self.old.calls })
             (λ _. self.new ≡ record self.old { calls = counted self.old.calls; read_faults = counted self.old.read_faults }) }
@@ -166,38 +188,44 @@ impl Files for MemFiles {
     }
 
     fn start(&mut self, name: &str) -> Result<(), Failed>
-        ensures emptied { OnOk result (held_in self.new.files name.now ≡ emptied (held_in self.old.files name.now)) }
-        ensures stay { (other : List ℕ) → other ≢ name.now → held_in self.new.files other ≡ held_in self.old.files other }
-        ensures cause { HasCause self.old.write_faults self.new.write_faults result }
-        ensures counts { (other : List ℕ) → self.old.write_faults ≤ self.new.write_faults }
-        ensures others { (other : List ℕ) → self.old.read_faults ≤ self.new.read_faults }
-        ensures no_fault { OnOk result (((other : List ℕ) → self.new.read_faults ≡ self.old.read_faults) × ((other : List ℕ) → self.new.write_faults ≡ self.old.write_faults)) }
+        ensures emptied { OnOk result (content_in self.new.files name.now ≡ emptied (content_in self.old.files name.now)) }
+        ensures stay { (other : List ℕ) → other ≢ name.now → content_in self.new.files other ≡ content_in self.old.files other }
+        ensures cause { HasCause self.old.start_faults self.new.start_faults result }
+        ensures reads { (other : List ℕ) → self.old.read_faults ≤ self.new.read_faults }
+        ensures starts { (other : List ℕ) → self.old.start_faults ≤ self.new.start_faults }
+        ensures appends { (other : List ℕ) → self.old.append_faults ≤ self.new.append_faults }
+        ensures no_fault { OnOk result (((other : List ℕ) → self.new.read_faults ≡ self.old.read_faults)
+            × ((other : List ℕ) → self.new.start_faults ≡ self.old.start_faults)
+            × ((other : List ℕ) → self.new.append_faults ≡ self.old.append_faults)) }
 
         // Exactly what it does.
-        ensures succeeds { IsOk result ↔ ((¬ Contains self.old.failing self.old.calls) × IsSome (held_in self.old.files name.now)) }
-        ensures unchanged { OnErr result (self.new ≡ record self.old { calls = counted self.old.calls; write_faults = counted self.old.write_faults }) }
+        ensures succeeds { IsOk result ↔ ((¬ Contains self.old.failing self.old.calls) × IsSome (content_in self.old.files name.now)) }
+        ensures unchanged { OnErr result (self.new ≡ record self.old { calls = counted self.old.calls; start_faults = counted self.old.start_faults }) }
     {
         let failing = self.failing.contains(&self.calls);
         self.calls = self.calls.saturating_add(1);
         if failing {
-            self.write_faults = self.write_faults.saturating_add(1);
+            self.start_faults = self.start_faults.saturating_add(1);
             return Err(Failed);
         }
         if !clear_in(&mut self.files, name) {
-            self.write_faults = self.write_faults.saturating_add(1);
+            self.start_faults = self.start_faults.saturating_add(1);
             return Err(Failed);
         }
         Ok(())
     }
 
     fn append(&mut self, name: &str, piece: &[u8]) -> Result<(), Failed>
-        ensures added { OnOk result (held_in self.new.files name.now ≡ appended (held_in self.old.files name.now) piece.now) }
-        ensures part { OnErr result ((count : ℕ) × (held_in self.new.files name.now ≡ appended (held_in self.old.files name.now) (take count piece.now))) }
-        ensures stay { (other : List ℕ) → other ≢ name.now → held_in self.new.files other ≡ held_in self.old.files other }
-        ensures cause { HasCause self.old.write_faults self.new.write_faults result }
-        ensures counts { (other : List ℕ) → self.old.write_faults ≤ self.new.write_faults }
-        ensures others { (other : List ℕ) → self.old.read_faults ≤ self.new.read_faults }
-        ensures no_fault { OnOk result (((other : List ℕ) → self.new.read_faults ≡ self.old.read_faults) × ((other : List ℕ) → self.new.write_faults ≡ self.old.write_faults)) }
+        ensures added { OnOk result (content_in self.new.files name.now ≡ appended (content_in self.old.files name.now) piece.now) }
+        ensures part { OnErr result ((count : ℕ) × (content_in self.new.files name.now ≡ appended (content_in self.old.files name.now) (take count piece.now))) }
+        ensures stay { (other : List ℕ) → other ≢ name.now → content_in self.new.files other ≡ content_in self.old.files other }
+        ensures cause { HasCause self.old.append_faults self.new.append_faults result }
+        ensures reads { (other : List ℕ) → self.old.read_faults ≤ self.new.read_faults }
+        ensures starts { (other : List ℕ) → self.old.start_faults ≤ self.new.start_faults }
+        ensures appends { (other : List ℕ) → self.old.append_faults ≤ self.new.append_faults }
+        ensures no_fault { OnOk result (((other : List ℕ) → self.new.read_faults ≡ self.old.read_faults)
+            × ((other : List ℕ) → self.new.start_faults ≡ self.old.start_faults)
+            × ((other : List ℕ) → self.new.append_faults ≡ self.old.append_faults)) }
 
         // Exactly when it fails.
         ensures succeeds { IsOk result ↔ ((¬ Contains self.old.failing self.old.calls)
@@ -207,11 +235,11 @@ impl Files for MemFiles {
         let failing = self.failing.contains(&self.calls);
         self.calls = self.calls.saturating_add(1);
         if failing {
-            self.write_faults = self.write_faults.saturating_add(1);
+            self.append_faults = self.append_faults.saturating_add(1);
             return Err(Failed);
         }
         if !append_in(&mut self.files, name, piece) {
-            self.write_faults = self.write_faults.saturating_add(1);
+            self.append_faults = self.append_faults.saturating_add(1);
             return Err(Failed);
         }
         Ok(())
@@ -220,9 +248,9 @@ impl Files for MemFiles {
 
 /// Reads from the file of this name.
 fn read_from(files: &[MemFile], name: &str, at: u64, into: &mut [u8]) -> Option<usize>
-    ensures found { is_some result ≡ is_some (held_in files.now name.now) }
-    ensures piece { IfSome result (λ count. WhereTold (held_in files.now name.now) (λ bytes. CopiesPiece bytes at into.new count)) }
-    ensures count { IfSome result (λ count. WhereTold (held_in files.now name.now) (λ bytes. count ≡ min (length into.new) (length bytes - at))) }
+    ensures found { is_some result ≡ is_some (content_in files.now name.now) }
+    ensures piece { IfSome result (λ count. WhereKnown (content_in files.now name.now) (λ bytes. CopiesPiece bytes at into.new count)) }
+    ensures count { IfSome result (λ count. WhereKnown (content_in files.now name.now) (λ bytes. count ≡ min (length into.new) (length bytes - at))) }
     ensures within { IfSome result (λ count. count ≤ length into.new) }
 {
     match place_of(files, name) {
@@ -236,10 +264,10 @@ fn read_from(files: &[MemFile], name: &str, at: u64, into: &mut [u8]) -> Option<
 
 /// Empties the file of this name, if there is one.
 fn clear_in(files: &mut [MemFile], name: &str) -> bool
-    ensures found { result ≡ is_some (held_in files.old name.now) }
-    ensures emptied { held_in files.new name.now ≡ emptied (held_in files.old name.now) }
+    ensures found { result ≡ is_some (content_in files.old name.now) }
+    ensures emptied { content_in files.new name.now ≡ emptied (content_in files.old name.now) }
     ensures none { OnFalse result (files.new ≡ files.old) }
-    ensures stay { OthersStay held_in files.old files.new name.now }
+    ensures stay { OthersStay content_in files.old files.new name.now }
 {
     match place_of(files, name) {
         Some(place) => {
@@ -254,10 +282,10 @@ fn clear_in(files: &mut [MemFile], name: &str) -> bool
 /// Adds what fits of the piece to the file of this name, and answers whether all of it did.
 fn append_in(files: &mut [MemFile], name: &str, piece: &[u8]) -> bool
     ensures all { IsTrue result ↔ IsSomeAnd (file_in files.old name.now) (λ file. length file.bytes + length piece.now ≤ file.room) }
-    ensures added { OnTrue result (held_in files.new name.now ≡ appended (held_in files.old name.now) piece.now) }
-    ensures part { (count : ℕ) × (held_in files.new name.now ≡ appended (held_in files.old name.now) (take count piece.now)) }
+    ensures added { OnTrue result (content_in files.new name.now ≡ appended (content_in files.old name.now) piece.now) }
+    ensures part { (count : ℕ) × (content_in files.new name.now ≡ appended (content_in files.old name.now) (take count piece.now)) }
     ensures absent { IsNone (file_in files.old name.now) → files.new ≡ files.old }
-    ensures stay { OthersStay held_in files.old files.new name.now }
+    ensures stay { OthersStay content_in files.old files.new name.now }
 {
     match place_of(files, name) {
         Some(place) => {

@@ -1,6 +1,6 @@
 ghost use Rattle.std.specs.Prelude.{◌≡◌, ◌≢◌, ◌≤◌, ◌<◌, ◌+◌, ◌^◌, ℕ, length, take, IfOk, IsErrOf};
-ghost use Rattle.sd_base.specs.Causes.{Rose, NeverFall, AllSame};
-ghost use Rattle.sd_base.specs.Outside.{WhereTold, AllStay};
+ghost use Rattle.sd_base.specs.Causes.{Rose, NeverFall, NoFault};
+ghost use Rattle.sd_base.specs.Outside.{WhereKnown, AllStay};
 
 use crate::Files;
 use std::alloc::Global;
@@ -23,13 +23,17 @@ pub fn read_up_to<F: Files>(
     limit: usize,
 ) -> Result<Vec<u8>, ReadFault>
     requires { limit < 2 ^ 63 }
-    ensures told { IfOk result (λ text. WhereTold (F.held files.old name.now) (λ bytes. text.items ≡ take (limit + 1) bytes)) }
+    ensures front { IfOk result (λ text.
+        WhereKnown (F.content files.old name.now) (λ bytes. text.items ≡ take (limit + 1) bytes)) }
     ensures length { IfOk result (λ text. length text.items ≤ limit + 1) }
-    ensures stay { AllStay F.held files.old files.new }
-    ensures cause { IsErrOf result ReadFault.Failed → Rose (F.read_faults files.old name.now) (F.read_faults files.new name.now) }
-    ensures counts { NeverFall (F.read_faults files.old) (F.read_faults files.new) }
-    ensures others { NeverFall (F.write_faults files.old) (F.write_faults files.new) }
-    ensures no_fault { result ≢ Err ReadFault.Failed → AllSame (F.read_faults files.old) (F.read_faults files.new) × AllSame (F.write_faults files.old) (F.write_faults files.new) }
+    ensures stay { AllStay F.content files.old files.new }
+    ensures cause { IsErrOf result ReadFault.Failed
+        → Rose (F.read_faults files.old name.now) (F.read_faults files.new name.now) }
+    ensures reads { NeverFall (F.read_faults files.old) (F.read_faults files.new) }
+    ensures starts { NeverFall (F.start_faults files.old) (F.start_faults files.new) }
+    ensures appends { NeverFall (F.append_faults files.old) (F.append_faults files.new) }
+    ensures no_fault { result ≢ Err ReadFault.Failed
+        → NoFault F.read_faults F.start_faults F.append_faults files.old files.new }
 {
     let mut text = Vec::new(alloc);
     let mut piece = [0u8; PIECE];

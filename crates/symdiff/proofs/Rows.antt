@@ -3,7 +3,7 @@ use Rattle.std.proofs.Common.{◌≡◌, ◌∙◌, sym, ap, subst, refl, ℕ, B
 use Rattle.std.specs.Prelude.{Option, None, Some, Contains, ◌⊎◌, Result, Err, codes, if◌then◌else◌}
 use Rattle.std.specs.List.{list_all}
 use Rattle.sd_base.specs.Causes.{Rose}
-use Rattle.sd_base.specs.Outside.{WhereTold}
+use Rattle.sd_base.specs.Outside.{WhereKnown}
 use Rattle.sd_ast.specs.declared.Program.{Program}
 use Rattle.symdiff.specs.declared.verdict.PairVerdict.{PairVerdict}
 use Rattle.symdiff.specs.Words.{Task, JobNames, verify, replay, job_of}
@@ -137,17 +137,17 @@ are_read held told job t stay old_held old_read new_held new_read = record {
 }
 
 -- a held text that is read
-pub told_taken : (told : Option (List ℕ)) (bytes : List ℕ) (P : Program) → Holds told bytes → IsTaken bytes P → WhereTold told (λ b. IsTaken b P)
+pub told_taken : (told : Option (List ℕ)) (bytes : List ℕ) (P : Program) → Holds told bytes → IsTaken bytes P → WhereKnown told (λ b. IsTaken b P)
 told_taken told bytes P h r b e = subst (λ (x : List ℕ). IsTaken x P) (sym (h b e)) r
 
 pub old_row : (words : List (List ℕ)) (held : List ℕ → Option (List ℕ)) (o : Outcome) (job : JobNames) (f : TextFault) → job_of words ≡ Some job
-    → ((r : TextRefusal) → ◌≡◌ {A = Result Text TextFault} (Err f) (Err (Refused r)) → WhereTold (held job.old) (λ bytes. IsTextRefusal bytes r)) → IsTextReply (codes "old") f o → Answer words held o
+    → ((r : TextRefusal) → ◌≡◌ {A = Result Text TextFault} (Err f) (Err (Refused r)) → WhereKnown (held job.old) (λ bytes. IsTextRefusal bytes r)) → IsTextReply (codes "old") f o → Answer words held o
 old_row words held o job Memory named refused h = absurd h
 old_row words held o job Failed named refused h = absurd h
 old_row words held o job (Refused r) named refused h = old_refused job r named (refused r refl) h
 
-pub new_row : (words : List (List ℕ)) (held : List ℕ → Option (List ℕ)) (o : Outcome) (job : JobNames) (old : Program) (f : TextFault) → job_of words ≡ Some job → WhereTold (held job.old) (λ bytes. IsTaken bytes old)
-    → ((r : TextRefusal) → ◌≡◌ {A = Result Text TextFault} (Err f) (Err (Refused r)) → WhereTold (held job.new) (λ bytes. IsTextRefusal bytes r)) → IsTextReply (codes "new") f o → Answer words held o
+pub new_row : (words : List (List ℕ)) (held : List ℕ → Option (List ℕ)) (o : Outcome) (job : JobNames) (old : Program) (f : TextFault) → job_of words ≡ Some job → WhereKnown (held job.old) (λ bytes. IsTaken bytes old)
+    → ((r : TextRefusal) → ◌≡◌ {A = Result Text TextFault} (Err f) (Err (Refused r)) → WhereKnown (held job.new) (λ bytes. IsTextRefusal bytes r)) → IsTextReply (codes "new") f o → Answer words held o
 new_row words held o job old Memory named taken refused h = absurd h
 new_row words held o job old Failed named taken refused h = absurd h
 new_row words held o job old (Refused r) named taken refused h = new_refused job old r named taken (refused r refl) h

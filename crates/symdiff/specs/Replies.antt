@@ -5,7 +5,7 @@ use Rattle.sd_rounds.specs.declared.settle.Death.{Death}
 use Rattle.sd_product.specs.Work.{Held}
 use Rattle.sd_cert.specs.declared.fault.CertError.{CertError}
 use Rattle.sd_cert.specs.Written.{IsWritten}
-use Rattle.sd_base.specs.Outside.{WhereTold}
+use Rattle.sd_base.specs.Outside.{WhereKnown}
 use Rattle.sd_match.specs.Refusals.{Refusal, global_types, function_signatures}
 use Rattle.sd_match.specs.declared.refusal.MatchError.{MatchError}
 use Rattle.sd_match.specs.declared.refusal.MatchError.TheVariants as matching
@@ -73,7 +73,7 @@ IsJudged bytes t o = IsReplay bytes t o ⊎ ((e : CertError) × IsRefused bytes 
 -- the bytes that are held are beyond the limit, or they were judged
 abbrev pub IsReplayReply : Option (List ℕ) → Texts → Outcome → Type 0
 IsReplayReply told t o =
-    (WhereTold told (λ bytes. 9223372036854775807 < length bytes) × (o ≡ message 9 certificate_size)) ⊎ ((bytes : List ℕ) × Holds told bytes × IsJudged bytes t o)
+    (WhereKnown told (λ bytes. 9223372036854775807 < length bytes) × (o ≡ message 9 certificate_size)) ⊎ ((bytes : List ℕ) × Holds told bytes × IsJudged bytes t o)
 
 -- what a task on two texts comes to
 abbrev pub IsTaskReply : Task → (List ℕ → Option (List ℕ)) → Texts → Outcome → Type 0

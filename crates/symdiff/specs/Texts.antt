@@ -1,7 +1,7 @@
 -- The texts of a job.
 use Rattle.std.specs.Prelude.{◌≡◌, ℕ, List, [], Option, None}
 use Rattle.sha2.specs.Sha256.{sha256}
-use Rattle.sd_base.specs.Outside.{WhereTold}
+use Rattle.sd_base.specs.Outside.{WhereKnown}
 use Rattle.sd_ast.specs.declared.Program.{Program}
 use Rattle.sd_extract.specs.Programs.{core_program}
 use Rattle.sd_match.specs.Refusals.{Refusal, refusal_of}
@@ -12,7 +12,7 @@ use Rattle.symdiff.specs.TextRefusals.{IsTaken}
 
 -- these bytes are what is held, where that is told
 abbrev pub Holds : Option (List ℕ) → List ℕ → Type 0
-Holds told bytes = WhereTold told (λ b. b ≡ bytes)
+Holds told bytes = WhereKnown told (λ b. b ≡ bytes)
 
 -- two texts, and the programs that they spell
 pub record Texts : Type 0 where

@@ -97,7 +97,7 @@ fn integers_are_compared(rt: HostRuntime) -> Result<(), Fail> {
         let mut sink = MemSink::new(alloc, 100, 1000, Vec::new(alloc))?;
         let ended = run_words(&rt, alloc, &VERIFY, (old, new), &[], &mut sink)?;
         assert_eq!(rt; ended.status.code, status);
-        assert_eq!(rt; sink.taken(), text);
+        assert_eq!(rt; sink.bytes(), text);
     }
     Ok(())
 }
@@ -265,7 +265,7 @@ fn certificates_over_integers_are_judged(rt: HostRuntime) -> Result<(), Fail> {
             &OpenGate,
         );
         assert_eq!(rt; ended.status.code, status);
-        assert_eq!(rt; sink.taken(), text);
+        assert_eq!(rt; sink.bytes(), text);
     }
     Ok(())
 }

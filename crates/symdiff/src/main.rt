@@ -50,7 +50,8 @@ fn main(rt: HostRuntime) -> ExitCode {
     let mut files = RealFiles {
         rt: &rt,
         read_faults: 0,
-        write_faults: 0,
+        start_faults: 0,
+        append_faults: 0,
     };
     let mut out = RealSink {
         inner: io::writer(&rt),

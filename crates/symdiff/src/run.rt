@@ -1,5 +1,5 @@
 ghost use Rattle.std.specs.Prelude.{◌≡◌, ◌≢◌, ◌⊎◌, ◌↔◌, [], ◌∷◌, ℕ, List, Option, Contains, IsTrue, map, string_bytes};
-ghost use Rattle.sd_base.specs.Causes.{Rose, AllSame};
+ghost use Rattle.sd_base.specs.Causes.{Rose, NoFault};
 ghost use Rattle.sd_base.specs.Outside.{AllStay, appended};
 ghost use Rattle.symdiff.specs.Replies.{named, outcome_of};
 ghost use Rattle.symdiff.specs.Answer.{Answer, Headline, UnknownIsFailure, ReadRose, CertificateWriteRose};
@@ -61,9 +61,12 @@ fn write_certificate<F: Files>(
     certificate: &Option<NamedCertificate<'_>>,
 ) -> CertificateFile
     ensures whole { (IsBroken result → ⊥) → result ≡ whole (named certificate.now) }
-    ensures files { FilesAfter F.held files.old files.new (named certificate.now) result }
-    ensures cause { IsBroken result → FileRose (named certificate.now) (F.write_faults files.old) (F.write_faults files.new) }
-    ensures no_fault { (IsBroken result → ⊥) → AllSame (F.read_faults files.old) (F.read_faults files.new) × AllSame (F.write_faults files.old) (F.write_faults files.new) }
+    ensures files { FilesAfter F.content files.old files.new (named certificate.now) result }
+    ensures not_started { result ≡ CertificateFile.NotStarted
+        → FileRose (named certificate.now) (F.start_faults files.old) (F.start_faults files.new) }
+    ensures cut { result ≡ CertificateFile.Cut
+        → FileRose (named certificate.now) (F.append_faults files.old) (F.append_faults files.new) }
+    ensures no_fault { (IsBroken result → ⊥) → NoFault F.read_faults F.start_faults F.append_faults files.old files.new }
 {
     let Some(file) = certificate else {
         return CertificateFile::Untouched;
@@ -137,37 +140,40 @@ pub fn run<R: Threads + Sync, F: Files, S: Sink, G: Gate>(
     // Each other status than 6, 7 and 8 is a row of the table of answers, and its certificate and its text were written whole.
     ensures answer { result.status.code ≢ 6 → result.status.code ≢ 7 → result.status.code ≢ 8
         → (text : List ℕ) × (certificate : Option (List ℕ × List ℕ))
-        × Answer (map string_bytes words.now) (F.held files.old) (outcome result.status.code text certificate result)
+        × Answer (map string_bytes words.now) (F.content files.old) (outcome result.status.code text certificate result)
         × (result.certificate_length ≡ certificate_size certificate)
         × (result.certificate_file ≡ whole certificate)
-        × FilesAfter F.held files.old files.new certificate result.certificate_file
+        × FilesAfter F.content files.old files.new certificate result.certificate_file
         × (S.written out.new ≡ appended (S.written out.old) text) }
 
     // With 7 the writing of such a row was cut short. The text is begun only where the certificate is whole.
     ensures cut_short { result.status.code ≡ 7
         → (code : ℕ) × (text : List ℕ) × (certificate : Option (List ℕ × List ℕ))
-        × Answer (map string_bytes words.now) (F.held files.old) (outcome code text certificate result)
+        × Answer (map string_bytes words.now) (F.content files.old) (outcome code text certificate result)
         × (result.certificate_length ≡ certificate_size certificate)
-        × FilesAfter F.held files.old files.new certificate result.certificate_file
+        × FilesAfter F.content files.old files.new certificate result.certificate_file
         × IsCutShort certificate result.certificate_file text (S.written out.old) (S.written out.new) }
 
     // With 6 and 8 nothing was written, and nothing is said of pairs.
-    ensures silent { (result.status.code ≡ 6) ⊎ (result.status.code ≡ 8) → SaysNothing result × AllStay F.held files.old files.new × (S.written out.new ≡ S.written out.old) }
+    ensures silent { (result.status.code ≡ 6) ⊎ (result.status.code ≡ 8) → SaysNothing result × AllStay F.content files.old files.new × (S.written out.new ≡ S.written out.old) }
 
     // The faults have their causes, and the first one ends the run.
     ensures read_fault { result.status.code ≡ 6 → ReadRose (map string_bytes words.now) (F.read_faults files.old) (F.read_faults files.new) }
     ensures write_fault { result.status.code ≡ 7
-        → (IsBroken result.certificate_file → CertificateWriteRose (map string_bytes words.now) (F.write_faults files.old) (F.write_faults files.new))
+        → (result.certificate_file ≡ CertificateFile.NotStarted
+        → CertificateWriteRose (map string_bytes words.now) (F.start_faults files.old) (F.start_faults files.new))
+        × (result.certificate_file ≡ CertificateFile.Cut
+        → CertificateWriteRose (map string_bytes words.now) (F.append_faults files.old) (F.append_faults files.new))
         × ((IsBroken result.certificate_file → ⊥) → Rose (S.faults out.old) (S.faults out.new)) }
-    ensures first_fault { result.status.code ≢ 6 → (IsBroken result.certificate_file → ⊥) → AllSame (F.read_faults files.old) (F.read_faults files.new) × AllSame (F.write_faults files.old) (F.write_faults files.new) }
+    ensures first_fault { result.status.code ≢ 6 → (IsBroken result.certificate_file → ⊥) → NoFault F.read_faults F.start_faults F.append_faults files.old files.new }
     ensures first_write_fault { result.status.code ≢ 7 ⊎ IsBroken result.certificate_file → S.faults out.new ≡ S.faults out.old }
 
     // Where a pair is said to be safe, no meaning and no equal input let the old procedure end while the new one fails.
-    ensures headline { Headline (map string_bytes words.now) (F.held files.old) result.pairs.items }
+    ensures headline { Headline (map string_bytes words.now) (F.content files.old) result.pairs.items }
 
     // Where a pair is said to be unknown, no search for a candidate of it was spent, and the texts are over truth values without
     // calls and loops, such an input is there.
-    ensures unknown { UnknownIsFailure (map string_bytes words.now) (F.held files.old) result.deaths.items result.pairs.items }
+    ensures unknown { UnknownIsFailure (map string_bytes words.now) (F.content files.old) result.deaths.items result.pairs.items }
 {
     let reply = match reply_to(alloc, words, files) {
         Ok(reply) => reply,

@@ -152,7 +152,7 @@ fn a_pair_whose_search_is_spent_is_unknown(rt: HostRuntime) -> Result<(), Fail> 
     let ended = run_on(&rt, alloc, &CERTIFY, &mut files, &mut sink)?;
     assert_eq!(rt; ended.status.code, 1);
     assert_eq!(rt;
-        sink.taken(),
+        sink.bytes(),
         b"unknown p p\npairs 1 safe 0 equal 0 unknown 1 refused 0 axioms 0 0\n".as_slice()
     );
     // On equal inputs a branch is closed only once all eleven of one side are known. So each of the 2048 inputs has a closed branch of its own,
@@ -163,7 +163,7 @@ fn a_pair_whose_search_is_spent_is_unknown(rt: HostRuntime) -> Result<(), Fail> 
     let ended = run_on(&rt, alloc, &REPLAY, &mut files, &mut sink)?;
     assert_eq!(rt; ended.status.code, 1);
     assert_eq!(rt;
-        sink.taken(),
+        sink.bytes(),
         b"unproved p p\npairs 1 safe 0 equal 0 unknown 1 refused 0 axioms 0 0\n".as_slice()
     );
     assert!(rt; ended.deaths.is_empty());

@@ -195,7 +195,7 @@ fn reports_are_written_whole(rt: HostRuntime) -> Result<(), Fail> {
         let mut sink = MemSink::new(alloc, 10, 1000, Vec::new(alloc))?;
         let ended = run_words(&rt, alloc, &VERIFY, (old, new), &[], &mut sink)?;
         assert_eq!(rt; ended.status.code, status);
-        assert_eq!(rt; sink.taken(), text);
+        assert_eq!(rt; sink.bytes(), text);
     }
     Ok(())
 }
@@ -277,7 +277,7 @@ fn refused_texts_have_their_cause(rt: HostRuntime) -> Result<(), Fail> {
         let mut sink = MemSink::new(alloc, 1000, 1000, Vec::new(alloc))?;
         let ended = run_words(&rt, alloc, &VERIFY, (old, b""), &[], &mut sink)?;
         assert_eq!(rt; ended.status.code, status);
-        assert_eq!(rt; sink.taken(), text);
+        assert_eq!(rt; sink.bytes(), text);
     }
     Ok(())
 }
@@ -309,7 +309,7 @@ fn phrases_are_200_high_at_most(rt: HostRuntime) -> Result<(), Fail> {
         let texts = (old.as_slice(), b"".as_slice());
         let ended = run_words(&rt, alloc, &VERIFY, texts, &[], &mut sink)?;
         assert_eq!(rt; ended.status.code, status);
-        assert_eq!(rt; sink.taken(), text);
+        assert_eq!(rt; sink.bytes(), text);
     }
     Ok(())
 }
@@ -340,11 +340,11 @@ fn texts_are_limited(rt: HostRuntime) -> Result<(), Fail> {
     }
     let mut sink = MemSink::new(alloc, 1000, 1000, Vec::new(alloc))?;
     assert_eq!(rt; status_of(&rt, alloc, procedures.as_slice(), &mut sink)?, 9);
-    assert_eq!(rt; sink.taken(), b"error: old procedures\n".as_slice());
+    assert_eq!(rt; sink.bytes(), b"error: old procedures\n".as_slice());
     let blanks = vec![in alloc; b' '; 16777217]?;
     let mut sink = MemSink::new(alloc, 1000, 1000, Vec::new(alloc))?;
     assert_eq!(rt; status_of(&rt, alloc, blanks.as_slice(), &mut sink)?, 9);
-    assert_eq!(rt; sink.taken(), b"error: old size\n".as_slice());
+    assert_eq!(rt; sink.bytes(), b"error: old size\n".as_slice());
     Ok(())
 }
 
@@ -355,7 +355,7 @@ fn other_words_get_the_usage_text(rt: HostRuntime) -> Result<(), Fail> {
         let mut sink = MemSink::new(alloc, 1000, 1000, Vec::new(alloc))?;
         let ended = run_words(&rt, alloc, &VERIFY[..count], (b"", b""), &[], &mut sink)?;
         assert_eq!(rt; ended.status.code, 2);
-        assert_eq!(rt; sink.taken(), USAGE);
+        assert_eq!(rt; sink.bytes(), USAGE);
     }
     Ok(())
 }
@@ -387,7 +387,7 @@ fn a_read_fault_ends_the_run(rt: HostRuntime) -> Result<(), Fail> {
     // Two calls read the old file and find its end, and the third is the first on the new one.
     let ended = run_words(&rt, alloc, &VERIFY, (ASSERTS_B, ASSERTS_B), &[2], &mut sink)?;
     assert_eq!(rt; ended.status.code, 6);
-    assert_eq!(rt; sink.taken(), b"".as_slice());
+    assert_eq!(rt; sink.bytes(), b"".as_slice());
     Ok(())
 }
 
@@ -397,7 +397,7 @@ fn a_write_fault_leaves_a_part_of_the_text(rt: HostRuntime) -> Result<(), Fail> 
     let mut sink = MemSink::new(alloc, 10, 1000, vec![in alloc; 1]?)?;
     let ended = run_words(&rt, alloc, &VERIFY, (ASSERTS_B, ASSERTS_B), &[], &mut sink)?;
     assert_eq!(rt; ended.status.code, 7);
-    assert_eq!(rt; sink.taken(), b"safe p p\np".as_slice());
+    assert_eq!(rt; sink.bytes(), b"safe p p\np".as_slice());
     Ok(())
 }
 
@@ -494,7 +494,7 @@ fn a_certificate_is_written_and_replayed(rt: HostRuntime) -> Result<(), Fail> {
             &OpenGate,
         );
         assert_eq!(rt; ended.status.code, 0);
-        assert_eq!(rt; sink.taken(), report);
+        assert_eq!(rt; sink.bytes(), report);
         assert!(rt; holds(&mut files, OF_EMPTY_TEXTS));
     }
     Ok(())
@@ -541,7 +541,7 @@ fn a_certificate_of_calls_is_accepted(rt: HostRuntime) -> Result<(), Fail> {
             &OpenGate,
         );
         assert_eq!(rt; ended.status.code, 0);
-        assert_eq!(rt; sink.taken(), report);
+        assert_eq!(rt; sink.bytes(), report);
     }
     Ok(())
 }
@@ -590,7 +590,7 @@ fn certificates_are_judged(rt: HostRuntime) -> Result<(), Fail> {
             &OpenGate,
         );
         assert_eq!(rt; ended.status.code, status);
-        assert_eq!(rt; sink.taken(), text);
+        assert_eq!(rt; sink.bytes(), text);
         assert!(rt; ended.deaths.is_empty());
     }
     Ok(())
@@ -614,7 +614,7 @@ fn what_follows_the_end_is_refused(rt: HostRuntime) -> Result<(), Fail> {
         &OpenGate,
     );
     assert_eq!(rt; ended.status.code, 5);
-    assert_eq!(rt; sink.taken(), b"error: certificate line 14\n".as_slice());
+    assert_eq!(rt; sink.bytes(), b"error: certificate line 14\n".as_slice());
     Ok(())
 }
 
@@ -635,7 +635,7 @@ fn a_certificate_that_is_cut_leaves_no_report(rt: HostRuntime) -> Result<(), Fai
     assert_eq!(rt; ended.status.code, 7);
     assert_eq!(rt; ended.certificate_file, CertificateFile::Cut);
     assert!(rt; holds(&mut files, &OF_EMPTY_TEXTS[..200]));
-    assert_eq!(rt; sink.taken(), b"".as_slice());
+    assert_eq!(rt; sink.bytes(), b"".as_slice());
     Ok(())
 }
 
@@ -646,6 +646,6 @@ fn a_certificate_goes_to_a_file_of_its_own(rt: HostRuntime) -> Result<(), Fail> 
     let words = ["verify", "old", "new", "--certificate", "new"];
     let ended = run_words(&rt, alloc, &words, (b"", b""), &[], &mut sink)?;
     assert_eq!(rt; ended.status.code, 2);
-    assert_eq!(rt; sink.taken(), USAGE);
+    assert_eq!(rt; sink.bytes(), USAGE);
     Ok(())
 }

@@ -1,7 +1,7 @@
 //! The texts that are read.
 ghost use Rattle.std.specs.Prelude.{◌≡◌, ◌≢◌, IfOk, IfErr, Err};
-ghost use Rattle.sd_base.specs.Causes.{Rose, NeverFall, AllSame};
-ghost use Rattle.sd_base.specs.Outside.{WhereTold, AllStay};
+ghost use Rattle.sd_base.specs.Causes.{Rose, NeverFall, NoFault};
+ghost use Rattle.sd_base.specs.Outside.{WhereKnown, AllStay};
 ghost use Rattle.sd_types.specs.Declarations.{WellTyped};
 ghost use Rattle.symdiff.specs.declared.text.TextRefusal.{TextRefusal as Refusal};
 ghost use Rattle.symdiff.specs.Texts.{Holds};
@@ -81,14 +81,15 @@ fn take(alloc: Global, bytes: &[u8]) -> Result<Typed, TextFault>
 
 /// Reads a file and the program that it spells.
 pub fn read_text<F: Files>(alloc: Global, files: &mut F, name: &str) -> Result<Text, TextFault>
-    ensures held { IfOk result (λ text. Holds (F.held files.old name.now) text.bytes.items) }
+    ensures held { IfOk result (λ text. Holds (F.content files.old name.now) text.bytes.items) }
     ensures taken { IfOk result (λ text. IsTaken text.bytes.items text.program) }
-    ensures refused { (r : Refusal) → result ≡ Err (TextFault.Refused r) → WhereTold (F.held files.old name.now) (λ bytes. IsTextRefusal bytes r) }
+    ensures refused { (r : Refusal) → result ≡ Err (TextFault.Refused r) → WhereKnown (F.content files.old name.now) (λ bytes. IsTextRefusal bytes r) }
     ensures cause { result ≡ Err TextFault.Failed → Rose (F.read_faults files.old name.now) (F.read_faults files.new name.now) }
-    ensures stay { AllStay F.held files.old files.new }
-    ensures counts { NeverFall (F.read_faults files.old) (F.read_faults files.new) }
-    ensures others { NeverFall (F.write_faults files.old) (F.write_faults files.new) }
-    ensures no_fault { result ≢ Err TextFault.Failed → AllSame (F.read_faults files.old) (F.read_faults files.new) × AllSame (F.write_faults files.old) (F.write_faults files.new) }
+    ensures stay { AllStay F.content files.old files.new }
+    ensures reads { NeverFall (F.read_faults files.old) (F.read_faults files.new) }
+    ensures starts { NeverFall (F.start_faults files.old) (F.start_faults files.new) }
+    ensures appends { NeverFall (F.append_faults files.old) (F.append_faults files.new) }
+    ensures no_fault { result ≢ Err TextFault.Failed → NoFault F.read_faults F.start_faults F.append_faults files.old files.new }
 {
     let bytes = match read_up_to(alloc, files, name, TEXT_BYTES) {
         Ok(bytes) => bytes,

@@ -23,7 +23,7 @@ returns-then-is_broken-clause-cut_short g c _ =
       named r.certificate,
       ended_answer _ _ e.result r.status r.status r.text.items (named r.certificate) (outcome_of r) refl e.ensures.outcome c.in-Ok.ensures.answer,
       e.ensures.length,
-      files_same g.F.Files.held c.args.files.now w.new.files (named r.certificate) w.result e.result.certificate_file e.ensures.file (files_since g.F.Files.held c.args.files.now _ w.new.files (named r.certificate) w.result c.in-Ok.ensures.stay w.ensures.files),
+      files_same g.F.Files.content c.args.files.now w.new.files (named r.certificate) w.result e.result.certificate_file e.ensures.file (files_since g.F.Files.content c.args.files.now _ w.new.files (named r.certificate) w.result c.in-Ok.ensures.stay w.ensures.files),
       inl (broken_same w.result e.result.certificate_file c.is_broken.result e.ensures.file c.is_broken.ensures c.if-is_broken.true, refl),
     )
 
@@ -47,7 +47,7 @@ returns-in-Ok-write_all-clause-answer g c _ _ _ =
       ended_answer _ _ e.result r.status e.result.status.code r.text.items (named r.certificate) (outcome_of r) e.ensures.status e.ensures.outcome c.in-Ok.ensures.answer,
       e.ensures.length,
       e.ensures.file ∙ w.ensures.whole (unbroken w.result c.is_broken.result c.is_broken.ensures c.if-is_broken.false),
-      files_same g.F.Files.held c.args.files.now w.new.files (named r.certificate) w.result e.result.certificate_file e.ensures.file (files_since g.F.Files.held c.args.files.now _ w.new.files (named r.certificate) w.result c.in-Ok.ensures.stay w.ensures.files),
+      files_same g.F.Files.content c.args.files.now w.new.files (named r.certificate) w.result e.result.certificate_file e.ensures.file (files_since g.F.Files.content c.args.files.now _ w.new.files (named r.certificate) w.result c.in-Ok.ensures.stay w.ensures.files),
       c.in-Ok-write_all.ensures.ok ∙ ap (λ t. appended (g.S.Sink.written c.args.out.now) t) c.as_slice.ensures.value,
     )
 
@@ -74,7 +74,7 @@ returns-in-Err-clause-cut_short g c _ =
       named r.certificate,
       ended_answer _ _ e.result r.status r.status r.text.items (named r.certificate) (outcome_of r) refl e.ensures.outcome c.in-Ok.ensures.answer,
       e.ensures.length,
-      files_same g.F.Files.held c.args.files.now w.new.files (named r.certificate) w.result e.result.certificate_file e.ensures.file (files_since g.F.Files.held c.args.files.now _ w.new.files (named r.certificate) w.result c.in-Ok.ensures.stay w.ensures.files),
+      files_same g.F.Files.content c.args.files.now w.new.files (named r.certificate) w.result e.result.certificate_file e.ensures.file (files_since g.F.Files.content c.args.files.now _ w.new.files (named r.certificate) w.result c.in-Ok.ensures.stay w.ensures.files),
       inr (
         e.ensures.file ∙ w.ensures.whole (unbroken w.result c.is_broken.result c.is_broken.ensures c.if-is_broken.false),
         (p.0, p.1 ∙ ap (λ t. appended (g.S.Sink.written c.args.out.now) (take p.0 t)) c.as_slice.ensures.value),
@@ -93,10 +93,10 @@ pub returns-in-Ok-write_all-clause-first_fault : goal.returns-in-Ok-write_all-cl
 returns-in-Ok-write_all-clause-first_fault g c _ _ =
     let r = c.in-Ok.ensures.first_fault (λ bad. cc) in
     let w = c.write_certificate-file.ensures.no_fault (unbroken c.write_certificate-file.result c.is_broken.result c.is_broken.ensures c.if-is_broken.false) in
-    (λ name. w.0 name ∙ r.0 name, λ name. w.1 name ∙ r.1 name)
+    (λ name. w.0 name ∙ r.0 name, λ name. w.1 name ∙ r.1 name, λ name. w.2 name ∙ r.2 name)
 
 pub returns-in-Err-clause-first_fault : goal.returns-in-Err-clause-first_fault
 returns-in-Err-clause-first_fault g c _ _ =
     let r = c.in-Ok.ensures.first_fault (λ bad. cc) in
     let w = c.write_certificate-file.ensures.no_fault (unbroken c.write_certificate-file.result c.is_broken.result c.is_broken.ensures c.if-is_broken.false) in
-    (λ name. w.0 name ∙ r.0 name, λ name. w.1 name ∙ r.1 name)
+    (λ name. w.0 name ∙ r.0 name, λ name. w.1 name ∙ r.1 name, λ name. w.2 name ∙ r.2 name)
