@@ -1,3 +1,6 @@
+pub mod Lists
+pub mod Options
+pub mod Texts
 pub mod SortLemmas
 pub mod ValueLemmas
 pub mod MapLemmas
