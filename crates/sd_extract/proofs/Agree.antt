@@ -129,8 +129,7 @@ module _ (I : Interpretation) (calls : Calls) (R : Room) (F : Frame) where
               let xs = all_extracted P number F at a in let ys = all_extracted P number F (plus at (counts_all a)) b in
               if_agrees (core_of F.names e.kind) xs ys st (truth_of (value I s e.kind)) (steps P I lower a s) (steps P I lower b s) (ap truth_of (value_kept I st F.names s t.kept e.kind)) (steps_agree at a r.0 s st t) (steps_agree (plus at (counts_all a)) b r.1 s st t)
           step_agrees at (While' e invs shape body) r s st t = of_loop at (While' e invs shape body) r s st t
-          step_agrees at Break r s st t = (st, refl, t, r)
-          step_agrees at Return r s st t = (st, refl, t, r)
+          step_agrees at _ r s st t = (st, refl, t, r)
 
           pub steps_agree : (at : Counts) {m : _} (ks : Row_of-Stmt m) → AllReady R F CallReady LoopReady at ks → (s : State) (st : Store Value) → TiedIn R F s st → Agrees (steps P I lower ks s) (run_all I calls (all_extracted P number F at ks) st)
           steps_agree at end_of-Stmt r s st t = (st, refl, t)

@@ -100,8 +100,7 @@ modified_found q (Modifies xs ∷ specs) seen h =
   where
     here : Found q xs → Found q seen ⊎ Found q (new_names xs seen ++ modified_names specs (seen ++ xs))
     here f = ⊎_elim (λ (a : Found q seen). inl a) (λ (n : Found q (new_names xs seen)). inr (found_left q (new_names xs seen) (modified_names specs (seen ++ xs)) n)) (new_found q xs seen f)
-modified_found q (Requires free e ∷ specs) seen h = modified_found q specs seen h
-modified_found q (Ensures free e ∷ specs) seen h = modified_found q specs seen h
+modified_found q (_ ∷ specs) seen h = modified_found q specs seen h
 
 pub modified_back : (q : Text) (specs : List Spec) (seen : List Text) → Found q (modified_names specs seen) → Found q (modifies_of specs)
 modified_back q [] seen h = absurd h
@@ -109,8 +108,7 @@ modified_back q (Modifies xs ∷ specs) seen h =
     ⊎_elim (λ (n : Found q (new_names xs seen)). found_left q xs (modifies_of specs) (new_back q xs seen n))
     (λ (l : Found q (modified_names specs (seen ++ xs))). found_right q xs (modifies_of specs) (modified_back q specs (seen ++ xs) l))
     (found_either q (new_names xs seen) (modified_names specs (seen ++ xs)) h)
-modified_back q (Requires free e ∷ specs) seen h = modified_back q specs seen h
-modified_back q (Ensures free e ∷ specs) seen h = modified_back q specs seen h
+modified_back q (_ ∷ specs) seen h = modified_back q specs seen h
 
 -- numbers of names
 among_of : (vs : List Var) (names : List Text) (q : Text) (i : ℕ) → index_in vs q ≡ Some i → Found q names → Among i (filter_map (index_in vs) names)

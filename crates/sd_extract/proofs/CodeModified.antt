@@ -94,16 +94,13 @@ specs_new_is : (ks seen : List Text) (specs : List Spec) → AreSame ks seen →
 specs_new_is ks seen [] h = sym (append_none ks)
 specs_new_is ks seen (Modifies xs ∷ specs) h =
     specs_new_is (all_new ks xs) (seen ++ xs) specs (all_same ks seen xs h) ∙ (ap (λ l. l ++ modified_names specs (seen ++ xs)) (all_new_is ks seen xs h) ∙ append_assoc ks (new_names xs seen) _)
-specs_new_is ks seen (Requires free e ∷ specs) h = specs_new_is ks seen specs h
-specs_new_is ks seen (Ensures free e ∷ specs) h = specs_new_is ks seen specs h
+specs_new_is ks seen (_ ∷ specs) h = specs_new_is ks seen specs h
 
 pub modified_is : (specs : List Spec) → specs_new [] specs ≡ modified_names specs []
 modified_is specs = specs_new_is [] [] specs (λ x. refl)
 
 specs_first : (ks : List Text) (s : Spec) (specs : List Spec) → specs_new ks (s ∷ specs) ≡ specs_new (specs_new ks (s ∷ [])) specs
-specs_first ks (Modifies xs) specs = refl
-specs_first ks (Requires free e) specs = refl
-specs_first ks (Ensures free e) specs = refl
+specs_first ks _ specs = refl
 
 pub specs_done : (specs : List Spec) (i : ℕ) (names : List Text) → length specs ≤ i → specs_new names (drop i specs) ≡ specs_new [] specs → names ≡ modified_names specs []
 specs_done specs i names le so = sym (ap (specs_new names) (drop_all specs i le)) ∙ (so ∙ modified_is specs)

@@ -181,12 +181,7 @@ procedure_stands (Procedure q ∷ ds) f p h = go (same_text f q.head.name) refl 
     go : (b : Bool) → same_text f q.head.name ≡ b → (if b then Some q else procedure_in ds f) ≡ Some p → (procedure_in ds f ≡ Some p → Stands (Procedure p) ds × (f ≡ p.head.name)) → ((Procedure q ≡ Procedure p) ⊎ Stands (Procedure p) ds) × (f ≡ p.head.name)
     go true t h rest = let e : q ≡ p = cc in (inl (ap Procedure e), (bytes_decides f q.head.name).0 t ∙ ap (λ (x : Proc). x.head.name) e)
     go false t h rest = let r = rest h in (inr r.0, r.1)
-procedure_stands (Types xs ∷ ds) f p h = let r = procedure_stands ds f p h in (inr r.0, r.1)
-procedure_stands (Const u xs s ∷ ds) f p h = let r = procedure_stands ds f p h in (inr r.0, r.1)
-procedure_stands (Function g xs s ∷ ds) f p h = let r = procedure_stands ds f p h in (inr r.0, r.1)
-procedure_stands (Axiom a ∷ ds) f p h = let r = procedure_stands ds f p h in (inr r.0, r.1)
-procedure_stands (Globals vs ∷ ds) f p h = let r = procedure_stands ds f p h in (inr r.0, r.1)
-procedure_stands (Implementation i ∷ ds) f p h = let r = procedure_stands ds f p h in (inr r.0, r.1)
+procedure_stands (_ ∷ ds) f p h = let r = procedure_stands ds f p h in (inr r.0, r.1)
 
 pub implementation_stands : (ds : List Decl) (f : Text) (i : Impl) → implementation_in ds f ≡ Some i → Stands (Implementation i) ds × (f ≡ i.head.name)
 implementation_stands [] f i h = absurd (cc)
@@ -195,12 +190,7 @@ implementation_stands (Implementation q ∷ ds) f i h = go (same_text f q.head.n
     go : (b : Bool) → same_text f q.head.name ≡ b → (if b then Some q else implementation_in ds f) ≡ Some i → (implementation_in ds f ≡ Some i → Stands (Implementation i) ds × (f ≡ i.head.name)) → ((Implementation q ≡ Implementation i) ⊎ Stands (Implementation i) ds) × (f ≡ i.head.name)
     go true t h rest = let e : q ≡ i = cc in (inl (ap Implementation e), (bytes_decides f q.head.name).0 t ∙ ap (λ (x : Impl). x.head.name) e)
     go false t h rest = let r = rest h in (inr r.0, r.1)
-implementation_stands (Types xs ∷ ds) f i h = let r = implementation_stands ds f i h in (inr r.0, r.1)
-implementation_stands (Const u xs s ∷ ds) f i h = let r = implementation_stands ds f i h in (inr r.0, r.1)
-implementation_stands (Function g xs s ∷ ds) f i h = let r = implementation_stands ds f i h in (inr r.0, r.1)
-implementation_stands (Axiom a ∷ ds) f i h = let r = implementation_stands ds f i h in (inr r.0, r.1)
-implementation_stands (Globals vs ∷ ds) f i h = let r = implementation_stands ds f i h in (inr r.0, r.1)
-implementation_stands (Procedure p ∷ ds) f i h = let r = implementation_stands ds f i h in (inr r.0, r.1)
+implementation_stands (_ ∷ ds) f i h = let r = implementation_stands ds f i h in (inr r.0, r.1)
 
 -- ---- procedures
 
@@ -211,12 +201,7 @@ named_procedure (Procedure p ∷ ds) f = go (same_text f p.head.name) (named_pro
     go : (b : Bool) → named (procedures_in ds) f ≡ option_map callee_of (procedure_in ds f) → cond b (Some (callee_of p)) (named (procedures_in ds) f) ≡ option_map callee_of (if b then Some p else procedure_in ds f)
     go true h = refl
     go false h = h
-named_procedure (Types xs ∷ ds) f = named_procedure ds f
-named_procedure (Const u xs s ∷ ds) f = named_procedure ds f
-named_procedure (Function g xs s ∷ ds) f = named_procedure ds f
-named_procedure (Axiom a ∷ ds) f = named_procedure ds f
-named_procedure (Globals vs ∷ ds) f = named_procedure ds f
-named_procedure (Implementation i ∷ ds) f = named_procedure ds f
+named_procedure (_ ∷ ds) f = named_procedure ds f
 
 -- a procedure isn't declared twice
 pub no_more : (H G : Scope) (ds : List Decl) (f : Text) → enter_all H ds ≡ Ok G → is_some (named H.procedures f) ≡ true → procedure_in ds f ≡ None
@@ -233,12 +218,7 @@ no_more H G (d ∷ ds) f h s =
         go : (b : Bool) → same_text f p.head.name ≡ b → (if b then Some p else procedure_in ds f) ≡ None
         go false t = r
         go true t = absurd (let n = (procedure_enters H K p e).is_new in let m = ap (λ (y : Text). is_some (named H.procedures y)) ((bytes_decides f p.head.name).0 t) in cc)
-    here (Types xs) K e r = r
-    here (Const u xs s) K e r = r
-    here (Function g xs s) K e r = r
-    here (Axiom a) K e r = r
-    here (Globals vs) K e r = r
-    here (Implementation i) K e r = r
+    here _ K e r = r
 
 -- ---- bodies
 
@@ -302,12 +282,7 @@ some_implementation (Implementation q) ds f i h = go (same_text f q.head.name)
     go : (b : Bool) → (j : Impl) × ((if b then Some q else implementation_in ds f) ≡ Some j)
     go true = (q, refl)
     go false = (i, h)
-some_implementation (Types xs) ds f i h = (i, h)
-some_implementation (Const u xs s) ds f i h = (i, h)
-some_implementation (Function g xs s) ds f i h = (i, h)
-some_implementation (Axiom a) ds f i h = (i, h)
-some_implementation (Globals vs) ds f i h = (i, h)
-some_implementation (Procedure p) ds f i h = (i, h)
+some_implementation _ ds f i h = (i, h)
 
 -- a later procedure isn't hidden
 same_procedure : (H K : Scope) (d : Decl) (ds : List Decl) (f : Text) (p : Proc) → enter H d ≡ Ok K → (is_some (named K.procedures f) ≡ true → procedure_in ds f ≡ None) → procedure_in ds f ≡ Some p → procedure_in (d ∷ ds) f ≡ Some p
@@ -325,12 +300,7 @@ same_procedure H K (Procedure q) ds f p h none e = go (same_text f q.head.name) 
     go : (b : Bool) → same_text f q.head.name ≡ b → (if b then Some q else procedure_in ds f) ≡ Some p
     go true t = absurd (let n = none (hidden ((bytes_decides f q.head.name).0 t)) in cc)
     go false t = e
-same_procedure H K (Types xs) ds f p h none e = e
-same_procedure H K (Const u xs s) ds f p h none e = e
-same_procedure H K (Function g xs s) ds f p h none e = e
-same_procedure H K (Axiom a) ds f p h none e = e
-same_procedure H K (Globals vs) ds f p h none e = e
-same_procedure H K (Implementation i) ds f p h none e = e
+same_procedure H K _ ds f p h none e = e
 
 -- a body that a scope knows of is a new one or one of the text
 pub body_of : (H G : Scope) (ds : List Decl) (f : Text) → enter_all H ds ≡ Ok G → is_among G.bodies f ≡ true → (is_among H.bodies f ≡ true) ⊎ HasBody ds f
@@ -382,8 +352,4 @@ pub outer : (ds : List Decl) (x : Text) (v : Variable) → named (variables_in d
 outer [] x v h = absurd (cc)
 outer (Const u names s ∷ ds) x v h = outer_constant s names (variables_in ds) (globals_in ds) x v (outer ds x v) h
 outer (Globals us ∷ ds) x v h = outer_global us (variables_in ds) (globals_in ds) x v (outer ds x v) h
-outer (Types xs ∷ ds) x v h = outer ds x v h
-outer (Function g xs s ∷ ds) x v h = outer ds x v h
-outer (Axiom a ∷ ds) x v h = outer ds x v h
-outer (Procedure p ∷ ds) x v h = outer ds x v h
-outer (Implementation i ∷ ds) x v h = outer ds x v h
+outer (_ ∷ ds) x v h = outer ds x v h

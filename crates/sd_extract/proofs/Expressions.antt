@@ -110,8 +110,6 @@ value_binary I st bin.Mul a b = sym (value-both I st op.Mul a b)
 module _ (I : Interpretation) (st : Store Value) where
   mutual
     pub value_kept : (N : Names) (s : State) → Kept N s st → (e : ExprKind) → value I s e ≡ value_in I st (core_of N e)
-    value_kept N s k (Num n) = refl
-    value_kept N s k (Literal b) = refl
     value_kept N s k (Var x) = variable_kept I N s st k x
     value_kept N s k (Apply' f shape args) = ap (I.apply f) (values_kept N s k args) ∙ sym (value-Apply I st f (cores_of N args))
     value_kept N s k (OldOf p e) =
@@ -126,6 +124,7 @@ module _ (I : Interpretation) (st : Store Value) where
     value_kept N s k (StoreOf p m q j r v) =
         let f = value_kept N s k m in let g = value_kept N s k j in let h = value_kept N s k v in
         (λ i. write_map (f i) (index_of (g i)) (h i)) ∙ sym (value-Op I st op.Write (core_of N m ∷ core_of N j ∷ core_of N v ∷ []))
+    value_kept N s k _ = refl
 
     pub values_kept : (N : Names) (s : State) → Kept N s st → {m : _} → (es : Row_of-Expr m) → values I s es ≡ map (value_in I st) (cores_of N es)
     values_kept N s k end_of-Expr = refl

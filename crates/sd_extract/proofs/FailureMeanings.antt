@@ -78,11 +78,7 @@ module _ (P : Program) (M : Meaning) where
   functions_fit [] h = tt
   functions_fit (Function f args result ∷ ds) h = (fits_table args result (M.function f) h.0, functions_fit ds h.1)
   functions_fit (Const unique names sort ∷ ds) h = all_append (Fits M) (constants_named names sort) (functions_in ds) (constants_fit names sort h.0) (functions_fit ds h.1)
-  functions_fit (Types names ∷ ds) h = functions_fit ds h.1
-  functions_fit (Axiom e ∷ ds) h = functions_fit ds h.1
-  functions_fit (Globals vs ∷ ds) h = functions_fit ds h.1
-  functions_fit (Procedure p ∷ ds) h = functions_fit ds h.1
-  functions_fit (Implementation i ∷ ds) h = functions_fit ds h.1
+  functions_fit (_ ∷ ds) h = functions_fit ds h.1
 
   abbrev HoldsHere : Expr → Type 0
   HoldsHere e = IsTrue (truth_of (value (interpretation M) nowhere e.kind))
@@ -90,12 +86,7 @@ module _ (P : Program) (M : Meaning) where
   axioms_hold : (ds : List Decl) → AllByRecursion (IsTrueOf P M) ds → AllByRecursion HoldsHere (axioms_in ds)
   axioms_hold [] h = tt
   axioms_hold (Axiom e ∷ ds) h = (h.0, axioms_hold ds h.1)
-  axioms_hold (Function f args result ∷ ds) h = axioms_hold ds h.1
-  axioms_hold (Const unique names sort ∷ ds) h = axioms_hold ds h.1
-  axioms_hold (Types names ∷ ds) h = axioms_hold ds h.1
-  axioms_hold (Globals vs ∷ ds) h = axioms_hold ds h.1
-  axioms_hold (Procedure p ∷ ds) h = axioms_hold ds h.1
-  axioms_hold (Implementation i ∷ ds) h = axioms_hold ds h.1
+  axioms_hold (_ ∷ ds) h = axioms_hold ds h.1
 
   all_true : (ds : List Decl) → AllByRecursion (Fits M) (functions_in ds) → AllByRecursion HoldsHere (axioms_in ds) → AllByRecursion (IsTrueOf P M) ds
   all_true [] h k = tt
@@ -103,10 +94,7 @@ module _ (P : Program) (M : Meaning) where
   all_true (Const unique names sort ∷ ds) h k =
       (constants_have names sort (all_left (Fits M) (constants_named names sort) (functions_in ds) h), all_true ds (all_right (Fits M) (constants_named names sort) (functions_in ds) h) k)
   all_true (Axiom e ∷ ds) h k = (k.0, all_true ds h k.1)
-  all_true (Types names ∷ ds) h k = (tt, all_true ds h k)
-  all_true (Globals vs ∷ ds) h k = (tt, all_true ds h k)
-  all_true (Procedure p ∷ ds) h k = (tt, all_true ds h k)
-  all_true (Implementation i ∷ ds) h k = (tt, all_true ds h k)
+  all_true (_ ∷ ds) h k = (tt, all_true ds h k)
 
   -- ---- unique constants
 

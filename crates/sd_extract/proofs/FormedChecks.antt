@@ -144,8 +144,6 @@ call_checked R p xs f es u h =
 
 mutual
   stmt_checked : (R : Routine) (loop : Bool) (p : Place) (s : StmtKind) (u : Unit {0}) → stmt_rule R loop p s ≡ Ok u → IsChecked R s
-  stmt_checked R loop p (Assert e) u h = tt
-  stmt_checked R loop p (Assume e) u h = tt
   stmt_checked R loop p (Assign ls es) u h = assign_checked R p ls es u h
   stmt_checked R loop p (Call xs f es) u h = call_checked R p xs f es u h
   stmt_checked R loop p (If' e shape a shape' b) u h =
@@ -156,8 +154,7 @@ mutual
       let k = parts (is_truth R.context e) (λ _. both (each (true_invariant R.context) invs) (row_rule R true body)) u h in
       let l = parts (each (true_invariant R.context) invs) (λ _. row_rule R true body) u k.2 in
       row_checked R true body u l.2
-  stmt_checked R loop p Break u h = tt
-  stmt_checked R loop p Return u h = tt
+  stmt_checked R loop p _ u h = tt
 
   row_checked : (R : Routine) (loop : Bool) {n : _} (ks : Row_of-Stmt n) (u : Unit {0}) → row_rule R loop ks ≡ Ok u → AreChecked R ks
   row_checked R loop end_of-Stmt u h = tt

@@ -107,25 +107,16 @@ variable_sorts (v ∷ vs) es h k = (h.0, variable_sorts vs es h.1 k)
 
 entry_sorts : (G : Scope) (ds : List Decl) → AllByRecursion (λ d. decl_rule G d ≡ Ok tt) ds → AllByRecursion (λ e. IsSort e.1.sort) (global_entries ds)
 entry_sorts G [] h = tt
-entry_sorts G (Types xs ∷ ds) h = entry_sorts G ds h.1
 entry_sorts G (Const u xs s ∷ ds) h = constant_sorts s xs (global_entries ds) (known_fit G.types s tt h.0) (entry_sorts G ds h.1)
-entry_sorts G (Function g args r ∷ ds) h = entry_sorts G ds h.1
-entry_sorts G (Axiom a ∷ ds) h = entry_sorts G ds h.1
 entry_sorts G (Globals vs ∷ ds) h = variable_sorts vs (global_entries ds) (vars_fit G.types vs tt h.0) (entry_sorts G ds h.1)
-entry_sorts G (Procedure p ∷ ds) h = entry_sorts G ds h.1
-entry_sorts G (Implementation i ∷ ds) h = entry_sorts G ds h.1
+entry_sorts G (_ ∷ ds) h = entry_sorts G ds h.1
 
 result_sorts : (G : Scope) (ds : List Decl) → AllByRecursion (λ d. decl_rule G d ≡ Ok tt) ds → AllByRecursion (λ e. IsSort e.1.result) (function_entries ds)
 result_sorts G [] h = tt
-result_sorts G (Types xs ∷ ds) h = result_sorts G ds h.1
-result_sorts G (Const u xs s ∷ ds) h = result_sorts G ds h.1
 result_sorts G (Function g args r ∷ ds) h =
     let k = parts (known_sorts G.types args) (λ _. known_sort G.types r) tt h.0 in
     (known_fit G.types r tt k.2, result_sorts G ds h.1)
-result_sorts G (Axiom a ∷ ds) h = result_sorts G ds h.1
-result_sorts G (Globals vs ∷ ds) h = result_sorts G ds h.1
-result_sorts G (Procedure p ∷ ds) h = result_sorts G ds h.1
-result_sorts G (Implementation i ∷ ds) h = result_sorts G ds h.1
+result_sorts G (_ ∷ ds) h = result_sorts G ds h.1
 
 module _ (P : Program) (G : Scope) (typed : IsTyped P G) where
   pub is_scope : IsScope P G
@@ -152,23 +143,19 @@ truth_typed C e u h =
 
 requires_typed : (G : Scope) (locals : List (Text × Variable)) (specs : List Spec) (u : Unit {0}) → each (spec_rule G locals) specs ≡ Ok u → AllByRecursion (λ c. HasType (context G locals site.Requires) c.holds.kind Bool) (requires_of specs)
 requires_typed G locals [] u h = tt
-requires_typed G locals (Modifies xs ∷ specs) u h =
-    let k = parts (spec_rule G locals (Modifies xs)) (λ _. each (spec_rule G locals) specs) u h in requires_typed G locals specs u k.2
 requires_typed G locals (Requires free e ∷ specs) u h =
     let k = parts (spec_rule G locals (Requires free e)) (λ _. each (spec_rule G locals) specs) u h in
     (truth_typed (context G locals site.Requires) e k.0 k.1, requires_typed G locals specs u k.2)
-requires_typed G locals (Ensures free e ∷ specs) u h =
-    let k = parts (spec_rule G locals (Ensures free e)) (λ _. each (spec_rule G locals) specs) u h in requires_typed G locals specs u k.2
+requires_typed G locals (d ∷ specs) u h =
+    let k = parts (spec_rule G locals d) (λ _. each (spec_rule G locals) specs) u h in requires_typed G locals specs u k.2
 
 ensures_typed : (G : Scope) (locals : List (Text × Variable)) (specs : List Spec) (u : Unit {0}) → each (spec_rule G locals) specs ≡ Ok u → AllByRecursion (λ c. HasType (context G locals site.Ensures) c.holds.kind Bool) (ensures_of specs)
 ensures_typed G locals [] u h = tt
-ensures_typed G locals (Modifies xs ∷ specs) u h =
-    let k = parts (spec_rule G locals (Modifies xs)) (λ _. each (spec_rule G locals) specs) u h in ensures_typed G locals specs u k.2
-ensures_typed G locals (Requires free e ∷ specs) u h =
-    let k = parts (spec_rule G locals (Requires free e)) (λ _. each (spec_rule G locals) specs) u h in ensures_typed G locals specs u k.2
 ensures_typed G locals (Ensures free e ∷ specs) u h =
     let k = parts (spec_rule G locals (Ensures free e)) (λ _. each (spec_rule G locals) specs) u h in
     (truth_typed (context G locals site.Ensures) e k.0 k.1, ensures_typed G locals specs u k.2)
+ensures_typed G locals (d ∷ specs) u h =
+    let k = parts (spec_rule G locals d) (λ _. each (spec_rule G locals) specs) u h in ensures_typed G locals specs u k.2
 
 -- what the rules say of a declaration alone
 pub record ProcFine (G : Scope) (p : Proc) : Type 0 where

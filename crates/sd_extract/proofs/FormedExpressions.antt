@@ -136,8 +136,6 @@ two_sort bin.Mul t u s h = subst IsSort (sym h.2) tt
 
 module _ (F : List Function) (S : Store Sort) (C : Context) where
   pub fit_sort : (N : Names) → Sees F S C N → (e : ExprKind) (s : Sort) → HasType C e s → IsSort s
-  fit_sort N k (Num n) s h = subst IsSort (sym h) tt
-  fit_sort N k (Truth b) s h = subst IsSort (sym h) tt
   fit_sort N k (Var x) s h = subst IsSort h.2 (k.sorts x h.0 h.1)
   fit_sort N k (Apply' f shape args) s h = let g = k.functions f h.0 h.1 in subst IsSort h.3 g.4
   fit_sort N k (OldOf p e) s h = fit_sort N k e s h.1
@@ -145,11 +143,10 @@ module _ (F : List Function) (S : Store Sort) (C : Context) where
   fit_sort N k (BinaryOf o p a q b) s h = two_sort o h.0 h.1 s h.4
   fit_sort N k (SelectOf p m q i) s h = let m_sort = fit_sort N k m (MapOf h.0 s) h.1 in m_sort.1
   fit_sort N k (StoreOf p m q i r v) s h = subst IsSort (sym h.5) (fit_sort N k m (MapOf h.0 h.1) h.2)
+  fit_sort N k _ s h = subst IsSort (sym h) tt
 
   mutual
     pub core_typed : (N : Names) → Sees F S C N → (e : ExprKind) (s : Sort) → HasType C e s → HasCoreType F S (core_of N e) s
-    core_typed N k (Num n) s h = h
-    core_typed N k (Truth b) s h = h
     core_typed N k (Var x) s h = subst (HasCoreType F S (at_place (place_of N x) x)) h.2 (k.variables x h.0 h.1)
     core_typed N k (Apply' f shape args) s h =
         let g = k.functions f h.0 h.1 in
@@ -163,6 +160,7 @@ module _ (F : List Function) (S : Store Sort) (C : Context) where
     core_typed N k (StoreOf p m q i r v) s h =
         let index = fit_sort N k m (MapOf h.0 h.1) h.2 in
         subst (HasCoreType F S (core_of N (StoreOf p m q i r v))) (sym h.5) (write_typed F S (core_of N m) (core_of N i) (core_of N v) h.0 h.1 index.0 (core_typed N k m (MapOf h.0 h.1) h.2) (core_typed N k i h.0 h.3) (core_typed N k v h.1 h.4))
+    core_typed N k _ s h = h
 
     pub cores_typed : (N : Names) → Sees F S C N → {m : _} (es : Row_of-Expr m) (ss : List Sort) → HaveTypes C es ss → AllHaveTypes F S (cores_of N es) ss
     cores_typed N k end_of-Expr [] h = refl

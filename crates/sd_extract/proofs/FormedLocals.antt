@@ -33,12 +33,7 @@ mutual
   args-sorts P at (Call xs f es) = arg_vars-sorts (suc at.calls) 1 (ins_of (procedure_in P.decls f))
   args-sorts P at (If' e shape a shape' b) =
       sorts_append (all_args_in P at a) (all_args_in P (plus at (counts_all a)) b) ∙ (λ i. all_args-sorts P at a i ++ all_args-sorts P (plus at (counts_all a)) b i)
-  args-sorts P at (While' e invs shape body) = refl
-  args-sorts P at (Assert e) = refl
-  args-sorts P at (Assume e) = refl
-  args-sorts P at (Assign ls es) = refl
-  args-sorts P at Break = refl
-  args-sorts P at Return = refl
+  args-sorts P at _ = refl
 
   all_args-sorts : (P : Program) (at : Counts) {m : _} (ks : Row_of-Stmt m) → sorts_of (all_args_in P at ks) ≡ all_arg_sorts P ks
   all_args-sorts P at end_of-Stmt = refl
@@ -59,12 +54,7 @@ mutual
   lefts-sorts at (While' e invs shape body) = left_var-sorts (has_returns body) (decimal (suc at.loops) ++ codes "@left")
   lefts-sorts at (If' e shape a shape' b) =
       sorts_append (all_lefts_in at a) (all_lefts_in (plus at (counts_all a)) b) ∙ (λ i. all_lefts-sorts at a i ++ all_lefts-sorts (plus at (counts_all a)) b i)
-  lefts-sorts at (Assert e) = refl
-  lefts-sorts at (Assume e) = refl
-  lefts-sorts at (Assign ls es) = refl
-  lefts-sorts at (Call xs f es) = refl
-  lefts-sorts at Break = refl
-  lefts-sorts at Return = refl
+  lefts-sorts at _ = refl
 
   all_lefts-sorts : (at : Counts) {m : _} (ks : Row_of-Stmt m) → sorts_of (all_lefts_in at ks) ≡ all_left_sorts ks
   all_lefts-sorts at end_of-Stmt = refl
@@ -143,12 +133,7 @@ module _ (P : Program) (known : (f : Text) → AllByRecursion IsSort (sorts_of (
     args_fit (Call xs f es) = known f
     args_fit (If' e shape a shape' b) =
         all_join IsSort (all_arg_sorts P a) (all_arg_sorts P b) (all_args_fit a) (all_args_fit b)
-    args_fit (While' e invs shape body) = tt
-    args_fit (Assert e) = tt
-    args_fit (Assume e) = tt
-    args_fit (Assign ls es) = tt
-    args_fit Break = tt
-    args_fit Return = tt
+    args_fit _ = tt
 
     all_args_fit : {m : _} (ks : Row_of-Stmt m) → AllByRecursion IsSort (all_arg_sorts P ks)
     all_args_fit end_of-Stmt = tt
@@ -162,12 +147,7 @@ module _ (P : Program) (known : (f : Text) → AllByRecursion IsSort (sorts_of (
     lefts_fit : (k : StmtKind) → AllByRecursion IsSort (left_sorts k)
     lefts_fit (While' e invs shape body) = left_fit (has_returns body)
     lefts_fit (If' e shape a shape' b) = all_join IsSort (all_left_sorts a) (all_left_sorts b) (all_lefts_fit a) (all_lefts_fit b)
-    lefts_fit (Call xs f es) = tt
-    lefts_fit (Assert e) = tt
-    lefts_fit (Assume e) = tt
-    lefts_fit (Assign ls es) = tt
-    lefts_fit Break = tt
-    lefts_fit Return = tt
+    lefts_fit _ = tt
 
     all_lefts_fit : {m : _} (ks : Row_of-Stmt m) → AllByRecursion IsSort (all_left_sorts ks)
     all_lefts_fit end_of-Stmt = tt
@@ -210,12 +190,7 @@ mutual
   args_hidden P at (Call xs f es) = arg_vars_hidden (suc at.calls) 1 (ins_of (procedure_in P.decls f))
   args_hidden P at (If' e shape a shape' b) =
       join_hidden (all_args_in P at a) (all_args_in P (plus at (counts_all a)) b) (all_args_hidden P at a) (all_args_hidden P (plus at (counts_all a)) b)
-  args_hidden P at (While' e invs shape body) = tt
-  args_hidden P at (Assert e) = tt
-  args_hidden P at (Assume e) = tt
-  args_hidden P at (Assign ls es) = tt
-  args_hidden P at Break = tt
-  args_hidden P at Return = tt
+  args_hidden P at _ = tt
 
   all_args_hidden : (P : Program) (at : Counts) {m : _} (ks : Row_of-Stmt m) → AreHidden (all_args_in P at ks)
   all_args_hidden P at end_of-Stmt = tt
@@ -236,12 +211,7 @@ mutual
   lefts_hidden at (While' e invs shape body) = left_var_hidden (has_returns body) (suc at.loops)
   lefts_hidden at (If' e shape a shape' b) =
       join_hidden (all_lefts_in at a) (all_lefts_in (plus at (counts_all a)) b) (all_lefts_hidden at a) (all_lefts_hidden (plus at (counts_all a)) b)
-  lefts_hidden at (Call xs f es) = tt
-  lefts_hidden at (Assert e) = tt
-  lefts_hidden at (Assume e) = tt
-  lefts_hidden at (Assign ls es) = tt
-  lefts_hidden at Break = tt
-  lefts_hidden at Return = tt
+  lefts_hidden at _ = tt
 
   all_lefts_hidden : (at : Counts) {m : _} (ks : Row_of-Stmt m) → AreHidden (all_lefts_in at ks)
   all_lefts_hidden at end_of-Stmt = tt

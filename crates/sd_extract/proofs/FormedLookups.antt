@@ -41,7 +41,6 @@ pub record FoundFunction (gs : List CoreFunction) (f : Text) (sig : Signature) :
 
 pub function_found : (ds : List Decl) (f : Text) (sig : Signature) → named (function_entries ds) f ≡ Some sig → FoundFunction (functions_in ds) f sig
 function_found [] f sig h = absurd (none_is sig h)
-function_found (Types xs ∷ ds) f sig h = function_found ds f sig h
 function_found (Const u xs s ∷ ds) f sig h =
     let k = function_found ds f sig h in
     record { function = k.function; found = skip_constants s xs (functions_in ds) f ∙ k.found; args = k.args; result = k.result }
@@ -54,10 +53,7 @@ function_found (Function g args r ∷ ds) f sig h = go (same_text f g) refl h (f
     go false e k rec =
         let rest = rec k in
         record { function = rest.function; found = ap (λ (b : Bool). if b then Some (record { name = g; args = args; result = r; constant = false }) else declared_as false (functions_in ds) f) e ∙ rest.found; args = rest.args; result = rest.result }
-function_found (Axiom a ∷ ds) f sig h = function_found ds f sig h
-function_found (Globals vs ∷ ds) f sig h = function_found ds f sig h
-function_found (Procedure p ∷ ds) f sig h = function_found ds f sig h
-function_found (Implementation i ∷ ds) f sig h = function_found ds f sig h
+function_found (_ ∷ ds) f sig h = function_found ds f sig h
 
 pub record FoundConstant (gs : List CoreFunction) (c : Text) (s : Sort) : Type 0 where
   pub function : CoreFunction
@@ -95,16 +91,13 @@ not_constant v h = λ e. cc
 
 pub constant_found : (ds : List Decl) (x : Text) (v : Variable) → named (global_entries ds) x ≡ Some v → v.nature ≡ nature.Constant → FoundConstant (functions_in ds) x v.sort
 constant_found [] x v h n = absurd (none_is v h)
-constant_found (Types xs ∷ ds) x v h n = constant_found ds x v h n
 constant_found (Const u xs s ∷ ds) x v h n =
     constant_prefix s xs (global_entries ds) (functions_in ds) x v h (λ k. constant_found ds x v k n)
 constant_found (Function g args r ∷ ds) x v h n =
     let k = constant_found ds x v h n in record { function = k.function; found = k.found; result = k.result }
-constant_found (Axiom a ∷ ds) x v h n = constant_found ds x v h n
 constant_found (Globals vs ∷ ds) x v h n =
     constant_found ds x v (past_variables nature.Global vs (global_entries ds) x v (not_global v n) h) n
-constant_found (Procedure p ∷ ds) x v h n = constant_found ds x v h n
-constant_found (Implementation i ∷ ds) x v h n = constant_found ds x v h n
+constant_found (_ ∷ ds) x v h n = constant_found ds x v h n
 
 -- ---- globals
 
@@ -129,15 +122,11 @@ variables_prefix n (y ∷ vs) ws es x v h rest = go (same_text x y.name) h (λ k
 
 pub global_found : (ds : List Decl) (x : Text) (v : Variable) → named (global_entries ds) x ≡ Some v → v.nature ≡ nature.Global → named (globals_as ds) x ≡ Some v
 global_found [] x v h n = h
-global_found (Types xs ∷ ds) x v h n = global_found ds x v h n
 global_found (Const u xs s ∷ ds) x v h n =
     global_found ds x v (past_constants s xs (global_entries ds) x v (not_constant v n) h) n
-global_found (Function g args r ∷ ds) x v h n = global_found ds x v h n
-global_found (Axiom a ∷ ds) x v h n = global_found ds x v h n
 global_found (Globals vs ∷ ds) x v h n =
     variables_prefix nature.Global vs (globals_in ds) (global_entries ds) x v h (λ k. global_found ds x v k n)
-global_found (Procedure p ∷ ds) x v h n = global_found ds x v h n
-global_found (Implementation i ∷ ds) x v h n = global_found ds x v h n
+global_found (_ ∷ ds) x v h n = global_found ds x v h n
 
 none_past_constants : (s : Sort) (names : List Text) (es : List (Text × Variable)) (x : Text) → named (constants_of s names ++ es) x ≡ None → named es x ≡ None
 none_past_constants s [] es x h = h
@@ -158,13 +147,9 @@ none_prefix n (y ∷ vs) ws es x h rest = go (same_text x y.name) h (λ k. none_
 -- what isn't declared is no global
 pub no_global : (ds : List Decl) (x : Text) → named (global_entries ds) x ≡ None → named (globals_as ds) x ≡ None
 no_global [] x h = h
-no_global (Types xs ∷ ds) x h = no_global ds x h
 no_global (Const u xs s ∷ ds) x h = no_global ds x (none_past_constants s xs (global_entries ds) x h)
-no_global (Function g args r ∷ ds) x h = no_global ds x h
-no_global (Axiom a ∷ ds) x h = no_global ds x h
 no_global (Globals vs ∷ ds) x h = none_prefix nature.Global vs (globals_in ds) (global_entries ds) x h (no_global ds x)
-no_global (Procedure p ∷ ds) x h = no_global ds x h
-no_global (Implementation i ∷ ds) x h = no_global ds x h
+no_global (_ ∷ ds) x h = no_global ds x h
 
 pub once_past_constants : (s : Sort) (names : List Text) (es : List (Text × Variable)) → OnceEach (constants_of s names ++ es) → OnceEach es
 once_past_constants s [] es h = h
@@ -195,15 +180,11 @@ past_globals n (y ∷ vs) ws es x v other h rest = go (same_text x y.name) h (λ
 -- a constant is no global
 pub constant_no_global : (ds : List Decl) (x : Text) (v : Variable) → OnceEach (global_entries ds) → named (global_entries ds) x ≡ Some v → v.nature ≡ nature.Constant → named (globals_as ds) x ≡ None
 constant_no_global [] x v once h n = refl
-constant_no_global (Types xs ∷ ds) x v once h n = constant_no_global ds x v once h n
 constant_no_global (Const u xs s ∷ ds) x v once h n =
     among_constants s xs (global_entries ds) (globals_as ds) x v once h (no_global ds x) (λ k. constant_no_global ds x v (once_past_constants s xs (global_entries ds) once) k n)
-constant_no_global (Function g args r ∷ ds) x v once h n = constant_no_global ds x v once h n
-constant_no_global (Axiom a ∷ ds) x v once h n = constant_no_global ds x v once h n
 constant_no_global (Globals vs ∷ ds) x v once h n =
     past_globals nature.Global vs (globals_in ds) (global_entries ds) x v (not_global v n) h (λ k. constant_no_global ds x v (once_past_variables nature.Global vs (global_entries ds) once) k n)
-constant_no_global (Procedure p ∷ ds) x v once h n = constant_no_global ds x v once h n
-constant_no_global (Implementation i ∷ ds) x v once h n = constant_no_global ds x v once h n
+constant_no_global (_ ∷ ds) x v once h n = constant_no_global ds x v once h n
 
 -- what is declared is a global or a constant
 abbrev pub IsOuter : Variable → Type 0
@@ -227,13 +208,9 @@ outer_globals (y ∷ vs) es x v h rest = go (same_text x y.name) h (λ k. outer_
 
 pub is_outer : (ds : List Decl) (x : Text) (v : Variable) → named (global_entries ds) x ≡ Some v → IsOuter v
 is_outer [] x v h = absurd (none_is v h)
-is_outer (Types xs ∷ ds) x v h = is_outer ds x v h
 is_outer (Const u xs s ∷ ds) x v h = outer_constants s xs (global_entries ds) x v h (is_outer ds x v)
-is_outer (Function g args r ∷ ds) x v h = is_outer ds x v h
-is_outer (Axiom a ∷ ds) x v h = is_outer ds x v h
 is_outer (Globals vs ∷ ds) x v h = outer_globals vs (global_entries ds) x v h (is_outer ds x v)
-is_outer (Procedure p ∷ ds) x v h = is_outer ds x v h
-is_outer (Implementation i ∷ ds) x v h = is_outer ds x v h
+is_outer (_ ∷ ds) x v h = is_outer ds x v h
 
 -- ---- procedures
 
@@ -244,12 +221,6 @@ pub record FoundProcedure (ds : List Decl) (f : Text) (q : Callee) : Type 0 wher
 
 pub procedure_found : (ds : List Decl) (f : Text) (q : Callee) → named (procedure_entries ds) f ≡ Some q → FoundProcedure ds f q
 procedure_found [] f q h = absurd (none_is q h)
-procedure_found (Types xs ∷ ds) f q h = let k = procedure_found ds f q h in record { procedure = k.procedure; found = k.found; callee = k.callee }
-procedure_found (Const u xs s ∷ ds) f q h = let k = procedure_found ds f q h in record { procedure = k.procedure; found = k.found; callee = k.callee }
-procedure_found (Function g args r ∷ ds) f q h = let k = procedure_found ds f q h in record { procedure = k.procedure; found = k.found; callee = k.callee }
-procedure_found (Axiom a ∷ ds) f q h = let k = procedure_found ds f q h in record { procedure = k.procedure; found = k.found; callee = k.callee }
-procedure_found (Globals vs ∷ ds) f q h = let k = procedure_found ds f q h in record { procedure = k.procedure; found = k.found; callee = k.callee }
-procedure_found (Implementation i ∷ ds) f q h = let k = procedure_found ds f q h in record { procedure = k.procedure; found = k.found; callee = k.callee }
 procedure_found (Procedure p ∷ ds) f q h = go (same_text f p.head.name) refl h (procedure_found ds f q)
   where
     go : (b : Bool) → same_text f p.head.name ≡ b → cond b (Some (callee_of p)) (named (procedure_entries ds) f) ≡ Some q → (named (procedure_entries ds) f ≡ Some q → FoundProcedure ds f q) → FoundProcedure (Procedure p ∷ ds) f q
@@ -257,30 +228,20 @@ procedure_found (Procedure p ∷ ds) f q h = go (same_text f p.head.name) refl h
     go false e k rec =
         let rest = rec k in
         record { procedure = rest.procedure; found = ap (λ (b : Bool). if b then Some p else procedure_in ds f) e ∙ rest.found; callee = rest.callee }
+procedure_found (_ ∷ ds) f q h = let k = procedure_found ds f q h in record { procedure = k.procedure; found = k.found; callee = k.callee }
 
 pub procedure_named : (ds : List Decl) (f : Text) (p : Proc) → procedure_in ds f ≡ Some p → named (procedure_entries ds) f ≡ Some (callee_of p)
 procedure_named [] f p h = absurd (none_is p h)
-procedure_named (Types xs ∷ ds) f p h = procedure_named ds f p h
-procedure_named (Const u xs s ∷ ds) f p h = procedure_named ds f p h
-procedure_named (Function g args r ∷ ds) f p h = procedure_named ds f p h
-procedure_named (Axiom a ∷ ds) f p h = procedure_named ds f p h
-procedure_named (Globals vs ∷ ds) f p h = procedure_named ds f p h
-procedure_named (Implementation i ∷ ds) f p h = procedure_named ds f p h
 procedure_named (Procedure q ∷ ds) f p h = go (same_text f q.head.name) h (procedure_named ds f p)
   where
     go : (b : Bool) → (if b then Some q else procedure_in ds f) ≡ Some p → (procedure_in ds f ≡ Some p → named (procedure_entries ds) f ≡ Some (callee_of p)) → cond b (Some (callee_of q)) (named (procedure_entries ds) f) ≡ Some (callee_of p)
     go true k rec = ap (λ (x : Proc). Some (callee_of x)) (some_is _ _ k)
     go false k rec = rec k
+procedure_named (_ ∷ ds) f p h = procedure_named ds f p h
 
 -- the first declaration of this name has what all have
 pub procedure_has : (Q : Decl → Type 0) (ds : List Decl) (f : Text) (p : Proc) → AllByRecursion Q ds → procedure_in ds f ≡ Some p → Q (Procedure p) × (f ≡ p.head.name)
 procedure_has Q [] f p a h = absurd (none_is p h)
-procedure_has Q (Types xs ∷ ds) f p a h = procedure_has Q ds f p a.1 h
-procedure_has Q (Const u xs s ∷ ds) f p a h = procedure_has Q ds f p a.1 h
-procedure_has Q (Function g args r ∷ ds) f p a h = procedure_has Q ds f p a.1 h
-procedure_has Q (Axiom e ∷ ds) f p a h = procedure_has Q ds f p a.1 h
-procedure_has Q (Globals vs ∷ ds) f p a h = procedure_has Q ds f p a.1 h
-procedure_has Q (Implementation i ∷ ds) f p a h = procedure_has Q ds f p a.1 h
 procedure_has Q (Procedure q ∷ ds) f p a h = go (same_text f q.head.name) refl h (procedure_has Q ds f p a.1)
   where
     go : (b : Bool) → same_text f q.head.name ≡ b → (if b then Some q else procedure_in ds f) ≡ Some p → (procedure_in ds f ≡ Some p → Q (Procedure p) × (f ≡ p.head.name)) → Q (Procedure p) × (f ≡ p.head.name)
@@ -288,15 +249,10 @@ procedure_has Q (Procedure q ∷ ds) f p a h = go (same_text f q.head.name) refl
         let same : q ≡ p = some_is _ _ k in
         (subst (λ (x : Proc). Q (Procedure x)) same a.0, (bytes_decides f q.head.name).0 e ∙ ap (λ (x : Proc). x.head.name) same)
     go false e k rec = rec k
+procedure_has Q (_ ∷ ds) f p a h = procedure_has Q ds f p a.1 h
 
 pub implementation_has : (Q : Decl → Type 0) (ds : List Decl) (f : Text) (i : Impl) → AllByRecursion Q ds → implementation_in ds f ≡ Some i → Q (Implementation i) × (f ≡ i.head.name)
 implementation_has Q [] f i a h = absurd (none_is i h)
-implementation_has Q (Types xs ∷ ds) f i a h = implementation_has Q ds f i a.1 h
-implementation_has Q (Const u xs s ∷ ds) f i a h = implementation_has Q ds f i a.1 h
-implementation_has Q (Function g args r ∷ ds) f i a h = implementation_has Q ds f i a.1 h
-implementation_has Q (Axiom e ∷ ds) f i a h = implementation_has Q ds f i a.1 h
-implementation_has Q (Globals vs ∷ ds) f i a h = implementation_has Q ds f i a.1 h
-implementation_has Q (Procedure p ∷ ds) f i a h = implementation_has Q ds f i a.1 h
 implementation_has Q (Implementation j ∷ ds) f i a h = go (same_text f j.head.name) refl h (implementation_has Q ds f i a.1)
   where
     go : (b : Bool) → same_text f j.head.name ≡ b → (if b then Some j else implementation_in ds f) ≡ Some i → (implementation_in ds f ≡ Some i → Q (Implementation i) × (f ≡ i.head.name)) → Q (Implementation i) × (f ≡ i.head.name)
@@ -304,6 +260,7 @@ implementation_has Q (Implementation j ∷ ds) f i a h = go (same_text f j.head.
         let same : j ≡ i = some_is _ _ k in
         (subst (λ (x : Impl). Q (Implementation x)) same a.0, (bytes_decides f j.head.name).0 e ∙ ap (λ (x : Impl). x.head.name) same)
     go false e k rec = rec k
+implementation_has Q (_ ∷ ds) f i a h = implementation_has Q ds f i a.1 h
 
 -- a procedure that has a body has an implementation, or a body of its own
 abbrev pub HasBody : List Decl → Text → Type 0
@@ -311,11 +268,6 @@ HasBody ds f = ((i : Impl) × (implementation_in ds f ≡ Some i)) ⊎ ((p : Pro
 
 pub has_a_body : (ds : List Decl) (f : Text) → OnceEach (procedure_entries ds) → is_among (body_names ds) f ≡ true → HasBody ds f
 has_a_body [] f once h = absurd (cc)
-has_a_body (Types xs ∷ ds) f once h = has_a_body ds f once h
-has_a_body (Const u xs s ∷ ds) f once h = has_a_body ds f once h
-has_a_body (Function g args r ∷ ds) f once h = has_a_body ds f once h
-has_a_body (Axiom a ∷ ds) f once h = has_a_body ds f once h
-has_a_body (Globals vs ∷ ds) f once h = has_a_body ds f once h
 has_a_body (Implementation i ∷ ds) f once h = go (same_text f i.head.name) refl h (has_a_body ds f once)
   where
     go : (b : Bool) → same_text f i.head.name ≡ b → (b || is_among (body_names ds) f) ≡ true → (is_among (body_names ds) f ≡ true → HasBody ds f) → HasBody (Implementation i ∷ ds) f
@@ -345,3 +297,4 @@ has_a_body (Procedure p ∷ ds) f once h = go (same_text f p.head.name) refl p.b
     go true e None is k rec = only_impl e (rec k)
     go false e (Some b) is k rec = later e (rec (ap (λ (c : Bool). c || is_among (body_names ds) f) (sym e) ∙ k))
     go false e None is k rec = later e (rec k)
+has_a_body (_ ∷ ds) f once h = has_a_body ds f once h

@@ -212,9 +212,7 @@ names_modified (Modifies xs ∷ specs) seen =
       once = distinct_join xs (new_names xs seen) rest h.once k.once h.mentioned (all_map (λ y. (is_in y seen ≡ false) × (is_in y xs ≡ false)) (λ y. is_in y xs ≡ false) rest (λ y i. i.1) away);
       unseen = all_join (λ y. is_in y seen ≡ false) (new_names xs seen) rest h.unseen (all_map (λ y. (is_in y seen ≡ false) × (is_in y xs ≡ false)) (λ y. is_in y seen ≡ false) rest (λ y i. i.0) away);
     }
-names_modified (Requires free e ∷ specs) seen =
-    let k = names_modified specs seen in record { once = k.once; unseen = k.unseen }
-names_modified (Ensures free e ∷ specs) seen =
+names_modified (_ ∷ specs) seen =
     let k = names_modified specs seen in record { once = k.once; unseen = k.unseen }
 
 pub modified_once : (specs : List Spec) → IsDistinct same_text (modified_names specs [])
@@ -233,8 +231,7 @@ pub all_modified : (Q : Text → Type 0) (specs : List Spec) (seen : List Text) 
 all_modified Q [] seen h = tt
 all_modified Q (Modifies xs ∷ specs) seen h =
     all_join Q (new_names xs seen) (modified_names specs (seen ++ xs)) (all_new Q xs seen (all_left Q xs (modifies_of specs) h)) (all_modified Q specs (seen ++ xs) (all_right Q xs (modifies_of specs) h))
-all_modified Q (Requires free e ∷ specs) seen h = all_modified Q specs seen h
-all_modified Q (Ensures free e ∷ specs) seen h = all_modified Q specs seen h
+all_modified Q (_ ∷ specs) seen h = all_modified Q specs seen h
 
 -- what is mentioned is there
 new_has : (x : Text) (xs seen : List Text) → is_in x xs ≡ true → is_in x seen ≡ false → is_in x (new_names xs seen) ≡ true
@@ -262,8 +259,7 @@ modified_has x (Modifies xs ∷ specs) seen h k =
         in_append x (new_names xs seen) (modified_names specs (seen ++ xs)) ∙ or_left (is_in x (new_names xs seen)) (is_in x (modified_names specs (seen ++ xs))) (new_has x xs seen e k)
     go false e i r =
         in_append x (new_names xs seen) (modified_names specs (seen ++ xs)) ∙ or_right (is_in x (new_names xs seen)) (is_in x (modified_names specs (seen ++ xs))) (r (ap (λ (b : Bool). b || is_in x (modifies_of specs)) (sym e) ∙ i) (in_append x seen xs ∙ (λ j. k j || e j)))
-modified_has x (Requires free e ∷ specs) seen h k = modified_has x specs seen h k
-modified_has x (Ensures free e ∷ specs) seen h k = modified_has x specs seen h k
+modified_has x (_ ∷ specs) seen h k = modified_has x specs seen h k
 
 -- a mentioned global's number is among the numbers
 number_there : (vs : List Var) (x : Text) (i : ℕ) (names : List Text) → index_in vs x ≡ Some i → is_in x names ≡ true → Contains (filter_map (index_in vs) names) i

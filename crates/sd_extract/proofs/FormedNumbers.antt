@@ -57,12 +57,7 @@ module _ (P : Program) (number : Text → ℕ) (S : Source) where
         let h = all_loops_length n x in let i = all_loops_length (n + (counts_all x).loops) y in
         let j = length-append (all_loops_in P number S n x) (all_loops_in P number S (n + (counts_all x).loops) y) in
         omega (arith, h, i, j)
-    loops_length n (Assert e) = refl
-    loops_length n (Assume e) = refl
-    loops_length n (Assign ls es) = refl
-    loops_length n (Call xs g es) = refl
-    loops_length n Break = refl
-    loops_length n Return = refl
+    loops_length n _ = refl
 
     pub all_loops_length : (n : ℕ) {m : _} (ss : Row_of-Stmt m) → length (all_loops_in P number S n ss) ≡ (counts_all ss).loops
     all_loops_length n end_of-Stmt = refl
@@ -96,12 +91,7 @@ module _ (P : Program) (number : Text → ℕ) (S : Source) where
         let inside : procs ≡ pre ++ (xs ++ (ys ++ post)) = is ∙ ap (λ (ps : List CoreProc). pre ++ ps) (append_assoc xs ys post) in
         let l = length-append pre xs in let j = all_loops_length n x in
         (all_loops_placed procs pre (ys ++ post) n x inside long, all_loops_placed procs (pre ++ xs) post m y (inside ∙ sym (append_assoc pre xs (ys ++ post))) (omega (arith, l, j, long)))
-    loop_placed procs pre post n (Assert e) is long = tt
-    loop_placed procs pre post n (Assume e) is long = tt
-    loop_placed procs pre post n (Assign ls es) is long = tt
-    loop_placed procs pre post n (Call xs g es) is long = tt
-    loop_placed procs pre post n Break is long = tt
-    loop_placed procs pre post n Return is long = tt
+    loop_placed procs pre post n _ is long = tt
 
     pub all_loops_placed : (procs pre post : List CoreProc) (n : ℕ) {m : _} (ss : Row_of-Stmt m) → procs ≡ pre ++ (all_loops_in P number S n ss ++ post) → length pre ≡ n → AllLoopsAt (LoopIs procs) n ss
     all_loops_placed procs pre post n end_of-Stmt is long = tt
@@ -127,12 +117,7 @@ module _ (Q R : ℕ → StmtKind → Type 0) (f : (n : ℕ) (s : StmtKind) → Q
     pub loops_give : (n : ℕ) (s : StmtKind) → LoopsAt Q n s → LoopsAt R n s
     loops_give n (While' e invs shape body) h = (f n (While' e invs shape body) h.0, all_loops_give (suc n) body h.1)
     loops_give n (If' e shape x shape' y) h = (all_loops_give n x h.0, all_loops_give (n + (counts_all x).loops) y h.1)
-    loops_give n (Assert e) h = tt
-    loops_give n (Assume e) h = tt
-    loops_give n (Assign ls es) h = tt
-    loops_give n (Call xs g es) h = tt
-    loops_give n Break h = tt
-    loops_give n Return h = tt
+    loops_give n _ h = tt
 
     pub all_loops_give : (n : ℕ) {m : _} (ss : Row_of-Stmt m) → AllLoopsAt Q n ss → AllLoopsAt R n ss
     all_loops_give n end_of-Stmt h = tt
@@ -165,12 +150,6 @@ pub record StandsIn (P : Program) (all : List CoreProc) (r : Routine) (n : ℕ) 
 module _ (P : Program) (f : Text) (d : Proc) (r : Routine) (is : routine_named P f ≡ Some r) where
   pub stands_in : (ds : List Decl) (n : ℕ) (pre : List CoreProc) → length pre ≡ n → procedure_in ds f ≡ Some d → StandsIn P (pre ++ procs_from P n ds) r (number_from P n ds f)
   stands_in [] n pre long e = absurd (none_is d e)
-  stands_in (Types xs ∷ ds) n pre long e = stands_in ds n pre long e
-  stands_in (Const u xs s ∷ ds) n pre long e = stands_in ds n pre long e
-  stands_in (Function g xs s ∷ ds) n pre long e = stands_in ds n pre long e
-  stands_in (Axiom a ∷ ds) n pre long e = stands_in ds n pre long e
-  stands_in (Globals vs ∷ ds) n pre long e = stands_in ds n pre long e
-  stands_in (Implementation i ∷ ds) n pre long e = stands_in ds n pre long e
   stands_in (Procedure p ∷ ds) n pre long e =
       let mine = routine_procs P n (routine_named P p.head.name) in
       let next = n + size_of (routine_named P p.head.name) in
@@ -188,17 +167,12 @@ module _ (P : Program) (f : Text) (d : Proc) (r : Routine) (is : routine_named P
           let mine = routine_procs P n (routine_named P p.head.name) in
           let next = n + size_of (routine_named P p.head.name) in
           subst (λ (all : List CoreProc). StandsIn P all r (number_from P next ds f)) (append_assoc pre mine (procs_from P next ds)) (rec h)
+  stands_in (_ ∷ ds) n pre long e = stands_in ds n pre long e
 
 -- what holds of the procedures of each routine holds of all
 module _ (P : Program) (Q : ℕ → CoreProc → Type 0) (each : (f : Text) (r : Routine) → routine_named P f ≡ Some r → EachFrom Q (number_from P 0 P.decls f) (procs_of P (number_from P 0 P.decls) (source_of (globals_in P.decls) (number_from P 0 P.decls f) r))) where
   pub all_procs : (ds : List Decl) (n : ℕ) → OnceEach (procedure_entries ds) → ((f : Text) (d : Proc) → procedure_in ds f ≡ Some d → number_from P 0 P.decls f ≡ number_from P n ds f) → EachFrom Q n (procs_from P n ds)
   all_procs [] n once at = tt
-  all_procs (Types xs ∷ ds) n once at = all_procs ds n once at
-  all_procs (Const u xs s ∷ ds) n once at = all_procs ds n once at
-  all_procs (Function g xs s ∷ ds) n once at = all_procs ds n once at
-  all_procs (Axiom a ∷ ds) n once at = all_procs ds n once at
-  all_procs (Globals vs ∷ ds) n once at = all_procs ds n once at
-  all_procs (Implementation i ∷ ds) n once at = all_procs ds n once at
   all_procs (Procedure p ∷ ds) n once at =
       let name = p.head.name in
       let mine = routine_procs P n (routine_named P name) in
@@ -230,3 +204,4 @@ module _ (P : Program) (Q : ℕ → CoreProc → Type 0) (each : (f : Text) (r :
       later f d e =
           let away = other f d e in
           at f d (ap (λ (b : Bool). if b then Some p else procedure_in ds f) away ∙ e) ∙ ap (λ (b : Bool). if b then n else number_from P (n + size_of (routine_named P p.head.name)) ds f) away
+  all_procs (_ ∷ ds) n once at = all_procs ds n once at

@@ -425,12 +425,7 @@ module _ (P : Program) (G : Scope) (typed : IsTyped P G) (global_sorts : AllByRe
         let xs = all_loops_in P number S n x in let ys = all_loops_in P number S (n + (counts_all x).loops) y in
         let long = all_loops_length P number S n x in
         each_append (IsProc K) n xs ys (all_loops_are_procs b n x h.1 c.0 at.0 past) (subst (λ (m : ℕ). EachFrom (IsProc K) (n + m) ys) (sym long) (all_loops_are_procs b (n + (counts_all x).loops) y h.2 c.1 at.1 (omega (arith, past))))
-    loops_are_procs b n (Assert e) h c at past = tt
-    loops_are_procs b n (Assume e) h c at past = tt
-    loops_are_procs b n (Assign ls es) h c at past = tt
-    loops_are_procs b n (Call xs g es) h c at past = tt
-    loops_are_procs b n Break h c at past = tt
-    loops_are_procs b n Return h c at past = tt
+    loops_are_procs b n _ h c at past = tt
 
     all_loops_are_procs : (b : Bool) (n : ℕ) {m : _} (ss : Row_of-Stmt m) → AreTypedStmts R b ss → AreChecked R ss → AllLoopsAt Placed n ss → suc S.number ≤ n → EachFrom (IsProc K) n (all_loops_in P number S n ss)
     all_loops_are_procs b n end_of-Stmt h c at past = tt

@@ -66,13 +66,9 @@ once_variables n (y ∷ vs) ws es h absent rest =
 
 globals_once : (ds : List Decl) → OnceEach (global_entries ds) → OnceEach (globals_as ds)
 globals_once [] h = tt
-globals_once (Types xs ∷ ds) h = globals_once ds h
 globals_once (Const u xs s ∷ ds) h = globals_once ds (once_past_constants s xs (global_entries ds) h)
-globals_once (Function g args r ∷ ds) h = globals_once ds h
-globals_once (Axiom a ∷ ds) h = globals_once ds h
 globals_once (Globals vs ∷ ds) h = once_variables nature.Global vs (globals_in ds) (global_entries ds) h (no_global ds) (globals_once ds)
-globals_once (Procedure p ∷ ds) h = globals_once ds h
-globals_once (Implementation i ∷ ds) h = globals_once ds h
+globals_once (_ ∷ ds) h = globals_once ds h
 
 global_keys : (vs : List Var) → keys (variables_as nature.Global vs) ≡ names_of vs
 global_keys [] = refl
@@ -86,13 +82,9 @@ no_functions s (c ∷ names) gs = no_functions s names gs
 
 function_keys : (ds : List Decl) → functions_as false (functions_in ds) ≡ keys (function_entries ds)
 function_keys [] = refl
-function_keys (Types xs ∷ ds) = function_keys ds
 function_keys (Const u xs s ∷ ds) = no_functions s xs (functions_in ds) ∙ function_keys ds
 function_keys (Function g args r ∷ ds) = ap (λ (l : List Text). g ∷ l) (function_keys ds)
-function_keys (Axiom a ∷ ds) = function_keys ds
-function_keys (Globals vs ∷ ds) = function_keys ds
-function_keys (Procedure p ∷ ds) = function_keys ds
-function_keys (Implementation i ∷ ds) = function_keys ds
+function_keys (_ ∷ ds) = function_keys ds
 
 -- the constants alone
 abbrev constants_in : List Decl → List (Text × Variable)
@@ -106,13 +98,8 @@ constant_names s (c ∷ names) gs es h = ap (λ (l : List Text). c ∷ l) (const
 
 constant_keys : (ds : List Decl) → functions_as true (functions_in ds) ≡ keys (constants_in ds)
 constant_keys [] = refl
-constant_keys (Types xs ∷ ds) = constant_keys ds
 constant_keys (Const u xs s ∷ ds) = constant_names s xs (functions_in ds) (constants_in ds) (constant_keys ds)
-constant_keys (Function g args r ∷ ds) = constant_keys ds
-constant_keys (Axiom a ∷ ds) = constant_keys ds
-constant_keys (Globals vs ∷ ds) = constant_keys ds
-constant_keys (Procedure p ∷ ds) = constant_keys ds
-constant_keys (Implementation i ∷ ds) = constant_keys ds
+constant_keys (_ ∷ ds) = constant_keys ds
 
 absent_constants : (s : Sort) (names : List Text) (es fs : List (Text × Variable)) (x : Text) → named (constants_of s names ++ es) x ≡ None → (named es x ≡ None → named fs x ≡ None) → named (constants_of s names ++ fs) x ≡ None
 absent_constants s [] es fs x h rest = rest h
@@ -132,13 +119,9 @@ past_variables n (y ∷ vs) es x h = go (same_text x y.name) h (past_variables n
 
 no_constant : (ds : List Decl) (x : Text) → named (global_entries ds) x ≡ None → named (constants_in ds) x ≡ None
 no_constant [] x h = h
-no_constant (Types xs ∷ ds) x h = no_constant ds x h
 no_constant (Const u xs s ∷ ds) x h = absent_constants s xs (global_entries ds) (constants_in ds) x h (no_constant ds x)
-no_constant (Function g args r ∷ ds) x h = no_constant ds x h
-no_constant (Axiom a ∷ ds) x h = no_constant ds x h
 no_constant (Globals vs ∷ ds) x h = no_constant ds x (past_variables nature.Global vs (global_entries ds) x h)
-no_constant (Procedure p ∷ ds) x h = no_constant ds x h
-no_constant (Implementation i ∷ ds) x h = no_constant ds x h
+no_constant (_ ∷ ds) x h = no_constant ds x h
 
 once_constants : (s : Sort) (names : List Text) (es fs : List (Text × Variable)) → OnceEach (constants_of s names ++ es) → ((x : Text) → named es x ≡ None → named fs x ≡ None) → (OnceEach es → OnceEach fs) → OnceEach (constants_of s names ++ fs)
 once_constants s [] es fs h absent rest = rest h
@@ -147,26 +130,17 @@ once_constants s (c ∷ names) es fs h absent rest =
 
 constants_once : (ds : List Decl) → OnceEach (global_entries ds) → OnceEach (constants_in ds)
 constants_once [] h = tt
-constants_once (Types xs ∷ ds) h = constants_once ds h
 constants_once (Const u xs s ∷ ds) h = once_constants s xs (global_entries ds) (constants_in ds) h (no_constant ds) (constants_once ds)
-constants_once (Function g args r ∷ ds) h = constants_once ds h
-constants_once (Axiom a ∷ ds) h = constants_once ds h
 constants_once (Globals vs ∷ ds) h = constants_once ds (once_past_variables nature.Global vs (global_entries ds) h)
-constants_once (Procedure p ∷ ds) h = constants_once ds h
-constants_once (Implementation i ∷ ds) h = constants_once ds h
+constants_once (_ ∷ ds) h = constants_once ds h
 
 -- ---- types
 
 global_sorts : (G : Scope) (ds : List Decl) → AllByRecursion (λ d. decl_rule G d ≡ Ok tt) ds → AllByRecursion IsSort (sorts_of (globals_in ds))
 global_sorts G [] h = tt
-global_sorts G (Types xs ∷ ds) h = global_sorts G ds h.1
-global_sorts G (Const u xs s ∷ ds) h = global_sorts G ds h.1
-global_sorts G (Function g args r ∷ ds) h = global_sorts G ds h.1
-global_sorts G (Axiom a ∷ ds) h = global_sorts G ds h.1
 global_sorts G (Globals vs ∷ ds) h =
     subst (AllByRecursion IsSort) (sym (map-append (λ v. v.sort) vs (globals_in ds))) (all_join IsSort (sorts_of vs) (sorts_of (globals_in ds)) (vars_fit G.types vs tt h.0) (global_sorts G ds h.1))
-global_sorts G (Procedure p ∷ ds) h = global_sorts G ds h.1
-global_sorts G (Implementation i ∷ ds) h = global_sorts G ds h.1
+global_sorts G (_ ∷ ds) h = global_sorts G ds h.1
 
 constant_signatures : (s : Sort) (names : List Text) (gs : List CoreFunction) → IsSort s → AllByRecursion IsSignature gs → AllByRecursion IsSignature (constants_named names s ++ gs)
 constant_signatures s [] gs h k = k
@@ -174,15 +148,11 @@ constant_signatures s (c ∷ names) gs h k = ((tt, h), constant_signatures s nam
 
 signatures : (G : Scope) (ds : List Decl) → AllByRecursion (λ d. decl_rule G d ≡ Ok tt) ds → AllByRecursion IsSignature (functions_in ds)
 signatures G [] h = tt
-signatures G (Types xs ∷ ds) h = signatures G ds h.1
 signatures G (Const u xs s ∷ ds) h = constant_signatures s xs (functions_in ds) (known_fit G.types s tt h.0) (signatures G ds h.1)
 signatures G (Function g args r ∷ ds) h =
     let k = parts (known_sorts G.types args) (λ _. known_sort G.types r) tt h.0 in
     ((sorts_fit G.types args k.0 k.1, known_fit G.types r tt k.2), signatures G ds h.1)
-signatures G (Axiom a ∷ ds) h = signatures G ds h.1
-signatures G (Globals vs ∷ ds) h = signatures G ds h.1
-signatures G (Procedure p ∷ ds) h = signatures G ds h.1
-signatures G (Implementation i ∷ ds) h = signatures G ds h.1
+signatures G (_ ∷ ds) h = signatures G ds h.1
 
 -- ---- unique constants
 
@@ -214,15 +184,11 @@ module _ (all : List Decl) where
 
   uniques_are : (ds : List Decl) → AllByRecursion Found (global_entries ds) → AllByRecursion (IsConstant (functions_in all)) (uniques_in ds)
   uniques_are [] h = tt
-  uniques_are (Types xs ∷ ds) h = uniques_are ds h
   uniques_are (Const true xs s ∷ ds) h =
       uniques_prefix s xs (global_entries ds) (uniques_in ds) h (uniques_are ds (all_right Found (constants_of s xs) (global_entries ds) h))
   uniques_are (Const false xs s ∷ ds) h = uniques_are ds (all_right Found (constants_of s xs) (global_entries ds) h)
-  uniques_are (Function g args r ∷ ds) h = uniques_are ds h
-  uniques_are (Axiom a ∷ ds) h = uniques_are ds h
   uniques_are (Globals vs ∷ ds) h = uniques_are ds (all_right Found (variables_as nature.Global vs) (global_entries ds) h)
-  uniques_are (Procedure p ∷ ds) h = uniques_are ds h
-  uniques_are (Implementation i ∷ ds) h = uniques_are ds h
+  uniques_are (_ ∷ ds) h = uniques_are ds h
 
 -- ---- axioms and procedures
 
@@ -255,14 +221,9 @@ module _ (P : Program) (G : Scope) (typed : IsTyped P G) where
 
   axioms_typed : (ds : List Decl) → AllByRecursion (λ d. decl_rule G d ≡ Ok tt) ds → AllByRecursion (λ e. HasCoreType K.functions no_state e BoolSort) (map core_axiom (axioms_in ds))
   axioms_typed [] h = tt
-  axioms_typed (Types xs ∷ ds) h = axioms_typed ds h.1
-  axioms_typed (Const u xs s ∷ ds) h = axioms_typed ds h.1
-  axioms_typed (Function g args r ∷ ds) h = axioms_typed ds h.1
   axioms_typed (Axiom e ∷ ds) h =
       (core_typed K.functions no_state (context G [] site.Axiom) no_names axiom_sees e.kind BoolSort (truth_typed (context G [] site.Axiom) e tt h.0), axioms_typed ds h.1)
-  axioms_typed (Globals vs ∷ ds) h = axioms_typed ds h.1
-  axioms_typed (Procedure p ∷ ds) h = axioms_typed ds h.1
-  axioms_typed (Implementation i ∷ ds) h = axioms_typed ds h.1
+  axioms_typed (_ ∷ ds) h = axioms_typed ds h.1
 
   pub procs_formed : (n : ℕ) (p : CoreProc) → slice_get K.procs n ≡ Some p → IsProc K n p
   procs_formed n p e =
@@ -277,12 +238,7 @@ module _ (P : Program) (G : Scope) (typed : IsTyped P G) where
     loops_no_roots S n (While' e invs shape body) = all_loops_no_roots S (suc n) body
     loops_no_roots S n (If' e shape x shape' y) =
         filter_append (λ p. is_none p.parent) (all_loops_in P (number_from P 0 P.decls) S n x) (all_loops_in P (number_from P 0 P.decls) S (n + (counts_all x).loops) y) ∙ (λ i. all_loops_no_roots S n x i ++ all_loops_no_roots S (n + (counts_all x).loops) y i)
-    loops_no_roots S n (Assert e) = refl
-    loops_no_roots S n (Assume e) = refl
-    loops_no_roots S n (Assign ls es) = refl
-    loops_no_roots S n (Call xs g es) = refl
-    loops_no_roots S n Break = refl
-    loops_no_roots S n Return = refl
+    loops_no_roots S n _ = refl
 
     all_loops_no_roots : (S : Source) (n : ℕ) {m : _} (ss : Row_of-Stmt m) → roots (all_loops_in P (number_from P 0 P.decls) S n ss) ≡ []
     all_loops_no_roots S n end_of-Stmt = refl
@@ -314,26 +270,15 @@ module _ (P : Program) (G : Scope) (typed : IsTyped P G) where
 
   all_root_names : (ds : List Decl) (n : ℕ) → names (roots (procs_from P n ds)) ≡ root_names ds
   all_root_names [] n = refl
-  all_root_names (Types xs ∷ ds) n = all_root_names ds n
-  all_root_names (Const u xs s ∷ ds) n = all_root_names ds n
-  all_root_names (Function g args r ∷ ds) n = all_root_names ds n
-  all_root_names (Axiom a ∷ ds) n = all_root_names ds n
-  all_root_names (Globals vs ∷ ds) n = all_root_names ds n
-  all_root_names (Implementation i ∷ ds) n = all_root_names ds n
   all_root_names (Procedure p ∷ ds) n =
       let o = routine_named P p.head.name in
       let mine = routine_procs P n o in
       let rest = procs_from P (n + size_of o) ds in
       ap names (filter_append (λ p. is_none p.parent) mine rest) ∙ map-append (λ p. p.name) (roots mine) (roots rest) ∙ (λ i. routine_roots n o i ++ all_root_names ds (n + size_of o) i)
+  all_root_names (_ ∷ ds) n = all_root_names ds n
 
   absent_names : (ds : List Decl) (x : Text) → named (procedure_entries ds) x ≡ None → AllByRecursion (λ y. same_text x y ≡ false) (root_names ds)
   absent_names [] x h = tt
-  absent_names (Types xs ∷ ds) x h = absent_names ds x h
-  absent_names (Const u xs s ∷ ds) x h = absent_names ds x h
-  absent_names (Function g args r ∷ ds) x h = absent_names ds x h
-  absent_names (Axiom a ∷ ds) x h = absent_names ds x h
-  absent_names (Globals vs ∷ ds) x h = absent_names ds x h
-  absent_names (Implementation i ∷ ds) x h = absent_names ds x h
   absent_names (Procedure p ∷ ds) x h = go (same_text x p.head.name) refl h (absent_names ds x)
     where
       mine : same_text x p.head.name ≡ false → (o : Option Routine) → routine_named P p.head.name ≡ o → AllByRecursion (λ y. same_text x y ≡ false) (name_if o)
@@ -344,22 +289,18 @@ module _ (P : Program) (G : Scope) (typed : IsTyped P G) where
       go true t k rec = absurd (cc)
       go false t k rec =
           all_join (λ y. same_text x y ≡ false) (name_if (routine_named P p.head.name)) (root_names ds) (mine t (routine_named P p.head.name) refl) (rec k)
+  absent_names (_ ∷ ds) x h = absent_names ds x h
 
   names_once : (ds : List Decl) → OnceEach (procedure_entries ds) → IsDistinct same_text (root_names ds)
   unfolding IsDistinct
   names_once [] h = tt
-  names_once (Types xs ∷ ds) h = names_once ds h
-  names_once (Const u xs s ∷ ds) h = names_once ds h
-  names_once (Function g args r ∷ ds) h = names_once ds h
-  names_once (Axiom a ∷ ds) h = names_once ds h
-  names_once (Globals vs ∷ ds) h = names_once ds h
-  names_once (Implementation i ∷ ds) h = names_once ds h
   names_once (Procedure p ∷ ds) h = go (routine_named P p.head.name) refl (names_once ds h.1)
     where
       go : (o : Option Routine) → routine_named P p.head.name ≡ o → IsDistinct same_text (root_names ds) → IsDistinct same_text (name_if o ++ root_names ds)
       go None e k = k
       go (Some r) e k =
           (absent_names ds r.head.name (subst (λ (x : Text). named (procedure_entries ds) x ≡ None) (routine_fine P G typed p.head.name r e).name h.0), k)
+  names_once (_ ∷ ds) h = names_once ds h
 
   pub program_formed : WellFormed K
   program_formed = record {

@@ -184,12 +184,7 @@ mutual
   lefts_counted (While' e invs shape body) = left_if-length (has_returns body)
   lefts_counted (If' e shape a shape' b) =
       let i = all_lefts_counted a in let j = all_lefts_counted b in let l = length-append (all_left_sorts a) (all_left_sorts b) in omega (arith, i, j, l)
-  lefts_counted (Assert e) = refl
-  lefts_counted (Assume e) = refl
-  lefts_counted (Assign ls es) = refl
-  lefts_counted (Call xs f es) = refl
-  lefts_counted Break = refl
-  lefts_counted Return = refl
+  lefts_counted _ = refl
 
   pub all_lefts_counted : {m : _} (ks : Row_of-Stmt m) → length (all_left_sorts ks) ≡ (counts_all ks).lefts
   all_lefts_counted end_of-Stmt = refl
@@ -399,12 +394,7 @@ module _ (P : Program) (number : Text → ℕ) (K : CoreProgram) (p : CoreProc) 
         let i = all_args_counted b x h.1 c.0 in let j = all_args_counted b y h.2 c.1 in
         let l = length-append (all_arg_sorts P x) (all_arg_sorts P y) in
         omega (arith, i, j, l)
-    args_counted b (While' e invs shape body) h c = refl
-    args_counted b (Assert e) h c = refl
-    args_counted b (Assume e) h c = refl
-    args_counted b (Assign ls es) h c = refl
-    args_counted b Break h c = refl
-    args_counted b Return h c = refl
+    args_counted b _ h c = refl
 
     pub all_args_counted : (b : Bool) {m : _} (ks : Row_of-Stmt m) → AreTypedStmts R b ks → AreChecked R ks → length (all_arg_sorts P ks) ≡ (counts_all ks).args
     all_args_counted b end_of-Stmt h c = refl

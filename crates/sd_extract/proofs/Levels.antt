@@ -61,13 +61,7 @@ frame_agrees T IsLoop S I lower calls same_calls same_loops a c leave R laid G G
   where
     of_loop : (at : Counts) (k : StmtKind) → LoopAt IsLoop S R (frame_at S a c leave) at k → StmtAgrees I calls R (frame_at S a c leave) T.program T.number lower laid leaves (CallReady T R (frame_at S a c leave)) (LoopAt IsLoop S R (frame_at S a c leave)) at k
     of_loop at (While' e invs shape body) r = loop_agrees IsLoop T S I lower calls same_loops a c leave R G at e invs shape body r
-    of_loop at (Assert e) r = absurd r
-    of_loop at (Assume e) r = absurd r
-    of_loop at (Assign ls es) r = absurd r
-    of_loop at (Call xs f es) r = absurd r
-    of_loop at (If' e shape x shape' y) r = absurd r
-    of_loop at Break r = absurd r
-    of_loop at Return r = absurd r
+    of_loop at _ r = absurd r
 
 abbrev pub slots_of : CoreProc → ℕ
 slots_of p = length p.ins + (length p.outs + length p.locals)
@@ -212,24 +206,12 @@ module _ (T : Setting) (procs : List CoreProc) (IsLoop : Source → ℕ → Stmt
   -- with no step left, each loop is unfinished on both sides
   loops_at_zero : (S : Source) → SameLoops (IsLoop S) T S I None (calls_within I procs 0)
   loops_at_zero S k (While' e invs shape body) is s ins state copies globals a b held = refl
-  loops_at_zero S k (Assert e) is s ins state copies globals a b held = absurd (stands.is_while S k _ is)
-  loops_at_zero S k (Assume e) is s ins state copies globals a b held = absurd (stands.is_while S k _ is)
-  loops_at_zero S k (Assign ls es) is s ins state copies globals a b held = absurd (stands.is_while S k _ is)
-  loops_at_zero S k (Call xs f es) is s ins state copies globals a b held = absurd (stands.is_while S k _ is)
-  loops_at_zero S k (If' e shape x shape' y) is s ins state copies globals a b held = absurd (stands.is_while S k _ is)
-  loops_at_zero S k Break is s ins state copies globals a b held = absurd (stands.is_while S k _ is)
-  loops_at_zero S k Return is s ins state copies globals a b held = absurd (stands.is_while S k _ is)
+  loops_at_zero S k _ is s ins state copies globals a b held = absurd (stands.is_while S k _ is)
 
   loops_above : (n : ℕ) → Same n → (S : Source) → SameLoops (IsLoop S) T S I (Some (level T.program I n)) (calls_within I procs (suc n))
   loops_above n same S k (While' e invs shape body) is s ins state copies globals a b held =
       loop_same n same S k e invs shape body is s ins state copies globals a b held
-  loops_above n same S k (Assert e) is s ins state copies globals a b held = absurd (stands.is_while S k _ is)
-  loops_above n same S k (Assume e) is s ins state copies globals a b held = absurd (stands.is_while S k _ is)
-  loops_above n same S k (Assign ls es) is s ins state copies globals a b held = absurd (stands.is_while S k _ is)
-  loops_above n same S k (Call xs f es) is s ins state copies globals a b held = absurd (stands.is_while S k _ is)
-  loops_above n same S k (If' e shape x shape' y) is s ins state copies globals a b held = absurd (stands.is_while S k _ is)
-  loops_above n same S k Break is s ins state copies globals a b held = absurd (stands.is_while S k _ is)
-  loops_above n same S k Return is s ins state copies globals a b held = absurd (stands.is_while S k _ is)
+  loops_above n same S k _ is s ins state copies globals a b held = absurd (stands.is_while S k _ is)
 
   calls_above : (n : ℕ) → Same n → SameCalls T I (Some (level T.program I n)) (calls_within I procs (suc n))
   calls_above n same f d S e is ins globals a b holds =

@@ -59,12 +59,6 @@ none_some x e = cc
 module _ (P : Program) (f : Text) (d : Proc) (r : Routine) (is : routine_named P f ≡ Some r) where
   stands_at : (ds : List Decl) (n : ℕ) (pre : List CoreProc) → length pre ≡ n → procedure_in ds f ≡ Some d → At P (pre ++ procs_from P n ds) r (number_from P n ds f)
   stands_at [] n pre long e = absurd (none_some d e)
-  stands_at (Types xs ∷ ds) n pre long e = stands_at ds n pre long e
-  stands_at (Const u xs s ∷ ds) n pre long e = stands_at ds n pre long e
-  stands_at (Function g xs s ∷ ds) n pre long e = stands_at ds n pre long e
-  stands_at (Axiom a ∷ ds) n pre long e = stands_at ds n pre long e
-  stands_at (Globals vs ∷ ds) n pre long e = stands_at ds n pre long e
-  stands_at (Implementation i ∷ ds) n pre long e = stands_at ds n pre long e
   stands_at (Procedure p ∷ ds) n pre long e =
       let mine = routine_procs P n (routine_named P p.head.name) in
       let next = n + size_of (routine_named P p.head.name) in
@@ -82,6 +76,7 @@ module _ (P : Program) (f : Text) (d : Proc) (r : Routine) (is : routine_named P
           let mine = routine_procs P n (routine_named P p.head.name) in
           let next = n + size_of (routine_named P p.head.name) in
           subst (λ (all : List CoreProc). At P all r (number_from P next ds f)) (append_assoc pre mine (procs_from P next ds)) (rec h)
+  stands_at (_ ∷ ds) n pre long e = stands_at ds n pre long e
 
 -- ---- sources
 
@@ -171,13 +166,7 @@ module _ (P : Program) (fine : ProgramFine P) where
   loop_procs_ready S k (While' e invs shape body) p h eq ins copies globals =
       let same : loop_proc P (number_from P 0 P.decls) S k e (clauses_of invs) (has_returns body) (kinds_in body) ≡ p = cc in
       subst (λ (q : CoreProc). LoopProcReady T (IsLoopOf P S) S q k (has_returns body) (kinds_in body) ins copies globals) same (loop_ready T (IsLoopOf P S) S (copied_at h.procedure S h.is_source) k e (clauses_of invs) body (loop_is_fine S k (While' e invs shape body) h) (λ n l i. record { procedure = h.procedure; is_source = h.is_source; among = each_inner (suc S.number) (kinds S) k (While' e invs shape body) h.among n l (kinds_loops (suc k) body n l i) }) ins copies globals)
-  loop_procs_ready S k (Assert e) p h eq ins copies globals = absurd (loop_is_fine S k (Assert e) h)
-  loop_procs_ready S k (Assume e) p h eq ins copies globals = absurd (loop_is_fine S k (Assume e) h)
-  loop_procs_ready S k (Assign ls es) p h eq ins copies globals = absurd (loop_is_fine S k (Assign ls es) h)
-  loop_procs_ready S k (Call xs f es) p h eq ins copies globals = absurd (loop_is_fine S k (Call xs f es) h)
-  loop_procs_ready S k (If' e shape x shape' y) p h eq ins copies globals = absurd (loop_is_fine S k (If' e shape x shape' y) h)
-  loop_procs_ready S k Break p h eq ins copies globals = absurd (loop_is_fine S k Break h)
-  loop_procs_ready S k Return p h eq ins copies globals = absurd (loop_is_fine S k Return h)
+  loop_procs_ready S k loop p h eq ins copies globals = absurd (loop_is_fine S k loop h)
 
   declared_is : (f : Text) (S : Source) (d : Proc) → source_named P f ≡ Some S → procedure_in P.decls f ≡ Some d → d ≡ S.routine.declared
   declared_is f S d is e =

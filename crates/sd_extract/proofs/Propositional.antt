@@ -55,23 +55,17 @@ MaybeImpl (Some i) = IsPropositionalDecl (Implementation i)
 
 found-proc : (ds : List Decl) (f : Text) → AllDecls ds → MaybeProc (procedure_in ds f)
 found-proc [] f h = tt
-found-proc (Types names ∷ ds) f h = absurd h.0
-found-proc (Const unique names sort ∷ ds) f h = absurd h.0
-found-proc (Function g args result ∷ ds) f h = absurd h.0
-found-proc (Axiom e ∷ ds) f h = absurd h.0
 found-proc (Globals vs ∷ ds) f h = found-proc ds f h.1
 found-proc (Procedure p ∷ ds) f h = either MaybeProc (same_text f p.head.name) (Some p) (procedure_in ds f) h.0 (found-proc ds f h.1)
 found-proc (Implementation i ∷ ds) f h = found-proc ds f h.1
+found-proc (_ ∷ ds) f h = absurd h.0
 
 found-impl : (ds : List Decl) (f : Text) → AllDecls ds → MaybeImpl (implementation_in ds f)
 found-impl [] f h = tt
-found-impl (Types names ∷ ds) f h = absurd h.0
-found-impl (Const unique names sort ∷ ds) f h = absurd h.0
-found-impl (Function g args result ∷ ds) f h = absurd h.0
-found-impl (Axiom e ∷ ds) f h = absurd h.0
 found-impl (Globals vs ∷ ds) f h = found-impl ds f h.1
 found-impl (Procedure p ∷ ds) f h = found-impl ds f h.1
 found-impl (Implementation i ∷ ds) f h = either MaybeImpl (same_text f i.head.name) (Some i) (implementation_in ds f) h.0 (found-impl ds f h.1)
+found-impl (_ ∷ ds) f h = absurd h.0
 
 own-body : (p : Proc) (b : Option Body) → IsPropositionalHead p.head → AllByRecursion IsPropositionalSpec p.specs → MaybePropositionalBody b → MaybeRoutine (option_map (λ b. record { declared = p; head = p.head; body = b }) b)
 own-body p None h s k = tt
@@ -89,27 +83,22 @@ routine-propositional P f h = with_body-propositional (procedure_in P.decls f) (
 
 requires-numberless : (specs : List Spec) → AllByRecursion IsPropositionalSpec specs → AllByRecursion IsNumberless (requires_of specs)
 requires-numberless [] h = tt
-requires-numberless (Modifies names ∷ specs) h = requires-numberless specs h.1
 requires-numberless (Requires free e ∷ specs) h = (h.0, requires-numberless specs h.1)
-requires-numberless (Ensures free e ∷ specs) h = requires-numberless specs h.1
+requires-numberless (_ ∷ specs) h = requires-numberless specs h.1
 
 ensures-numberless : (specs : List Spec) → AllByRecursion IsPropositionalSpec specs → AllByRecursion IsNumberless (ensures_of specs)
 ensures-numberless [] h = tt
-ensures-numberless (Modifies names ∷ specs) h = ensures-numberless specs h.1
-ensures-numberless (Requires free e ∷ specs) h = ensures-numberless specs h.1
 ensures-numberless (Ensures free e ∷ specs) h = (h.0, ensures-numberless specs h.1)
+ensures-numberless (_ ∷ specs) h = ensures-numberless specs h.1
 
 -- ---- globals
 
 pub globals-truths : (ds : List Decl) → AllDecls ds → AreTruths (globals_in ds)
 globals-truths [] h = tt
-globals-truths (Types names ∷ ds) h = absurd h.0
-globals-truths (Const unique names sort ∷ ds) h = absurd h.0
-globals-truths (Function g args result ∷ ds) h = absurd h.0
-globals-truths (Axiom e ∷ ds) h = absurd h.0
 globals-truths (Globals vs ∷ ds) h = all_append IsTruth vs (globals_in ds) h.0 (globals-truths ds h.1)
 globals-truths (Procedure p ∷ ds) h = globals-truths ds h.1
 globals-truths (Implementation i ∷ ds) h = globals-truths ds h.1
+globals-truths (_ ∷ ds) h = absurd h.0
 
 abbrev MaybeTruth : Option Var → Type 0
 MaybeTruth None = Unit {0}
@@ -173,44 +162,30 @@ procs-propositional P h n (Procedure p ∷ ds) =
     all_append propositional.IsPropositionalProc (routine_procs P n (routine_named P p.head.name)) _
     (maybe-procs P h n (routine_named P p.head.name) (routine-propositional P p.head.name h))
     (procs-propositional P h (n + size_of (routine_named P p.head.name)) ds)
-procs-propositional P h n (Types names ∷ ds) = procs-propositional P h n ds
-procs-propositional P h n (Const unique names sort ∷ ds) = procs-propositional P h n ds
-procs-propositional P h n (Function g args result ∷ ds) = procs-propositional P h n ds
-procs-propositional P h n (Axiom e ∷ ds) = procs-propositional P h n ds
-procs-propositional P h n (Globals vs ∷ ds) = procs-propositional P h n ds
-procs-propositional P h n (Implementation i ∷ ds) = procs-propositional P h n ds
+procs-propositional P h n (_ ∷ ds) = procs-propositional P h n ds
 
 -- ---- what there is none of
 
 no_functions : (ds : List Decl) → AllDecls ds → functions_in ds ≡ []
 no_functions [] h = refl
-no_functions (Types names ∷ ds) h = absurd h.0
-no_functions (Const unique names sort ∷ ds) h = absurd h.0
-no_functions (Function g args result ∷ ds) h = absurd h.0
-no_functions (Axiom e ∷ ds) h = absurd h.0
 no_functions (Globals vs ∷ ds) h = no_functions ds h.1
 no_functions (Procedure p ∷ ds) h = no_functions ds h.1
 no_functions (Implementation i ∷ ds) h = no_functions ds h.1
+no_functions (_ ∷ ds) h = absurd h.0
 
 no_axioms : (ds : List Decl) → AllDecls ds → map core_axiom (axioms_in ds) ≡ []
 no_axioms [] h = refl
-no_axioms (Types names ∷ ds) h = absurd h.0
-no_axioms (Const unique names sort ∷ ds) h = absurd h.0
-no_axioms (Function g args result ∷ ds) h = absurd h.0
-no_axioms (Axiom e ∷ ds) h = absurd h.0
 no_axioms (Globals vs ∷ ds) h = no_axioms ds h.1
 no_axioms (Procedure p ∷ ds) h = no_axioms ds h.1
 no_axioms (Implementation i ∷ ds) h = no_axioms ds h.1
+no_axioms (_ ∷ ds) h = absurd h.0
 
 no_uniques : (ds : List Decl) → AllDecls ds → uniques_in ds ≡ []
 no_uniques [] h = refl
-no_uniques (Types names ∷ ds) h = absurd h.0
-no_uniques (Const unique names sort ∷ ds) h = absurd h.0
-no_uniques (Function g args result ∷ ds) h = absurd h.0
-no_uniques (Axiom e ∷ ds) h = absurd h.0
 no_uniques (Globals vs ∷ ds) h = no_uniques ds h.1
 no_uniques (Procedure p ∷ ds) h = no_uniques ds h.1
 no_uniques (Implementation i ∷ ds) h = no_uniques ds h.1
+no_uniques (_ ∷ ds) h = absurd h.0
 
 pub propositional_kept : PropositionalIsKept
 propositional_kept P w h = record {

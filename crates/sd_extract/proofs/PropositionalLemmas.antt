@@ -166,12 +166,11 @@ module _ (P : Program) (number : Text → ℕ) (F : Frame) (leave : AllPropositi
     extracted-propositional at (Assert e) h = (checked-propositional false (core_of F.names e.kind) (core-numberless F.names e.kind h), tt)
     extracted-propositional at (Assume e) h = (core-numberless F.names e.kind h, tt)
     extracted-propositional at (Assign ls es) h = (all_stored-numberless F.names ls es h.0 h.1, tt)
-    extracted-propositional at (Call xs f es) h = absurd h
     extracted-propositional at (If' e shape a shape' b) h =
         (propositional-If (core_of F.names e.kind) (all_extracted P number F at a) (all_extracted P number F (plus at (counts_all a)) b) (core-numberless F.names e.kind h.0) (row_extracted-propositional at a h.1) (row_extracted-propositional (plus at (counts_all a)) b h.2), tt)
-    extracted-propositional at (While' e invs shape body) h = absurd h
     extracted-propositional at Break h = (tt, tt)
     extracted-propositional at Return h = leave
+    extracted-propositional at _ h = absurd h
 
     row_extracted-propositional : (at : Counts) {m : _} (r : Row_of-Stmt m) → ArePropositional r → AllPropositional (all_extracted P number F at r)
     row_extracted-propositional at end_of-Stmt h = tt
@@ -188,15 +187,11 @@ module _ (P : Program) (number : Text → ℕ) (F : Frame) (leave : AllPropositi
 module _ (P : Program) where
   mutual
     args-none : (at : Counts) (k : StmtKind) → IsPropositional k → AreTruths (args_in P at k)
-    args-none at (Assert e) h = tt
-    args-none at (Assume e) h = tt
-    args-none at (Assign ls es) h = tt
     args-none at (Call xs f es) h = absurd h
     args-none at (If' e shape a shape' b) h =
         all_append _ (all_args_in P at a) (all_args_in P (plus at (counts_all a)) b) (row_args-none at a h.1) (row_args-none (plus at (counts_all a)) b h.2)
     args-none at (While' e invs shape body) h = absurd h
-    args-none at Break h = tt
-    args-none at Return h = tt
+    args-none at _ h = tt
 
     row_args-none : (at : Counts) {m : _} (r : Row_of-Stmt m) → ArePropositional r → AreTruths (all_args_in P at r)
     row_args-none at end_of-Stmt h = tt
@@ -210,15 +205,11 @@ module _ (P : Program) where
 
   mutual
     lefts-none : (at : Counts) (k : StmtKind) → IsPropositional k → AreTruths (lefts_in at k)
-    lefts-none at (Assert e) h = tt
-    lefts-none at (Assume e) h = tt
-    lefts-none at (Assign ls es) h = tt
     lefts-none at (Call xs f es) h = absurd h
     lefts-none at (If' e shape a shape' b) h =
         all_append _ (all_lefts_in at a) (all_lefts_in (plus at (counts_all a)) b) (row_lefts-none at a h.1) (row_lefts-none (plus at (counts_all a)) b h.2)
     lefts-none at (While' e invs shape body) h = absurd h
-    lefts-none at Break h = tt
-    lefts-none at Return h = tt
+    lefts-none at _ h = tt
 
     row_lefts-none : (at : Counts) {m : _} (r : Row_of-Stmt m) → ArePropositional r → AreTruths (all_lefts_in at r)
     row_lefts-none at end_of-Stmt h = tt
@@ -236,14 +227,10 @@ module _ (P : Program) where
 module _ (P : Program) (number : Text → ℕ) (S : Source) (Q : CoreProc → Type 0) where
   mutual
     loops-none : (n : ℕ) (k : StmtKind) → IsPropositional k → AllByRecursion Q (loops_in P number S n k)
-    loops-none n (Assert e) h = tt
-    loops-none n (Assume e) h = tt
-    loops-none n (Assign ls es) h = tt
     loops-none n (Call xs f es) h = absurd h
     loops-none n (If' e shape a shape' b) h = all_append Q (all_loops_in P number S n a) _ (row_loops-none n a h.1) (row_loops-none _ b h.2)
     loops-none n (While' e invs shape body) h = absurd h
-    loops-none n Break h = tt
-    loops-none n Return h = tt
+    loops-none n _ h = tt
 
     row_loops-none : (n : ℕ) {m : _} (r : Row_of-Stmt m) → ArePropositional r → AllByRecursion Q (all_loops_in P number S n r)
     row_loops-none n end_of-Stmt h = tt

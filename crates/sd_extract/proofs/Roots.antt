@@ -46,12 +46,7 @@ module _ (P : Program) (number : Text → ℕ) (S : Source) where
     are_loops n (If' e shape x shape' y) =
         let m = n + (counts_all x).loops in
         loops_append (all_loops_in P number S n x) (all_loops_in P number S m y) (all_are_loops n x) (all_are_loops m y)
-    are_loops n (Assert e) = tt
-    are_loops n (Assume e) = tt
-    are_loops n (Assign ls es) = tt
-    are_loops n (Call xs f es) = tt
-    are_loops n Break = tt
-    are_loops n Return = tt
+    are_loops n _ = tt
 
     all_are_loops : (n : ℕ) {m : _} (ss : Row_of-Stmt m) → AreLoops (all_loops_in P number S n ss)
     all_are_loops n end_of-Stmt = tt
@@ -146,18 +141,8 @@ module _ (P : Program) where
       (λ (b : (k : ℕ) × (i ≡ length here + k) × (slice_get (procs_from P after ds) k ≡ Some p)).
       is_later q ds n i p once b.0 b.1 (roots k.0 G ds after b.0 p k.2 b.2 root))
       (either_list here (procs_from P after ds) i p g)
-  roots H G (Types xs ∷ ds) n i p h g root =
-      let k = parts (enter H (Types xs)) (λ K. enter_all K ds) G h in roots k.0 G ds n i p k.2 g root
-  roots H G (Const u xs s ∷ ds) n i p h g root =
-      let k = parts (enter H (Const u xs s)) (λ K. enter_all K ds) G h in roots k.0 G ds n i p k.2 g root
-  roots H G (Function f xs s ∷ ds) n i p h g root =
-      let k = parts (enter H (Function f xs s)) (λ K. enter_all K ds) G h in roots k.0 G ds n i p k.2 g root
-  roots H G (Axiom a ∷ ds) n i p h g root =
-      let k = parts (enter H (Axiom a)) (λ K. enter_all K ds) G h in roots k.0 G ds n i p k.2 g root
-  roots H G (Globals vs ∷ ds) n i p h g root =
-      let k = parts (enter H (Globals vs)) (λ K. enter_all K ds) G h in roots k.0 G ds n i p k.2 g root
-  roots H G (Implementation j ∷ ds) n i p h g root =
-      let k = parts (enter H (Implementation j)) (λ K. enter_all K ds) G h in roots k.0 G ds n i p k.2 g root
+  roots H G (d ∷ ds) n i p h g root =
+      let k = parts (enter H d) (λ K. enter_all K ds) G h in roots k.0 G ds n i p k.2 g root
 
 pub roots_are_procedures : RootsAreProcedures
 roots_are_procedures P i p w g root =

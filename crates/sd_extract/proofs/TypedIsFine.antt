@@ -116,10 +116,8 @@ modifies_globals G locals (Modifies xs ∷ specs) u y h m =
     ⊎_elim (λ (a : Found y xs). global_named G.globals y (each_at (names_global G.globals) xs k.0 y k.1 a))
     (λ (b : Found y (modifies_of specs)). modifies_globals G locals specs u y k.2 b)
     (found_either y xs (modifies_of specs) m)
-modifies_globals G locals (Requires free e ∷ specs) u y h m =
-    let k = parts (spec_rule G locals (Requires free e)) (λ _. each (spec_rule G locals) specs) u h in modifies_globals G locals specs u y k.2 m
-modifies_globals G locals (Ensures free e ∷ specs) u y h m =
-    let k = parts (spec_rule G locals (Ensures free e)) (λ _. each (spec_rule G locals) specs) u h in modifies_globals G locals specs u y k.2 m
+modifies_globals G locals (d ∷ specs) u y h m =
+    let k = parts (spec_rule G locals d) (λ _. each (spec_rule G locals) specs) u h in modifies_globals G locals specs u y k.2 m
 
 -- ---- a procedure with a body
 
@@ -282,8 +280,6 @@ module _ (P : Program) (G : Scope) (entered : enter_all nothing P.decls ≡ Ok G
 
     mutual
       stmt_fine : (loop : Bool) (p : Place) (s : StmtKind) (u : Unit {0}) → stmt_rule R loop p s ≡ Ok u → IsFine T S loop s
-      stmt_fine loop p (Assert e) u h = tt
-      stmt_fine loop p (Assume e) u h = tt
       stmt_fine loop p (Assign ls es) u h = assign_fine p ls es u h
       stmt_fine loop p (Call xs f es) u h = call_fine p xs f es u h
       stmt_fine loop p (If' e shape a shape' b) u h =
@@ -295,7 +291,7 @@ module _ (P : Program) (G : Scope) (entered : enter_all nothing P.decls ≡ Ok G
           let l = parts (each (true_invariant R.context) invs) (λ _. row_rule R true body) u k.2 in
           row_fine true body u l.2
       stmt_fine loop p Break u h = in_loop loop p u h
-      stmt_fine loop p Return u h = tt
+      stmt_fine loop p _ u h = tt
 
       row_fine : (loop : Bool) {n : _} (ks : Row_of-Stmt n) (u : Unit {0}) → row_rule R loop ks ≡ Ok u → AreFine T S loop ks
       row_fine loop end_of-Stmt u h = tt

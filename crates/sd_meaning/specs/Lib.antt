@@ -4,5 +4,4 @@ pub mod Routine
 pub mod Run
 pub mod Inputs
 pub mod NewFailure
-pub mod Propositional
 pub mod Laws
