@@ -1,39 +1,36 @@
-//! The relative verifier: its words, its report, and the top call.
+//! The program: `run` on the words of the command line, the file system and the standard output.
 #![tactic(auto)]
 
-mod answering;
-mod certificate_error;
-mod comparing;
-#[cfg(test)]
-mod integer_tests;
-mod judge;
-mod line;
-mod match_error;
-mod matching;
+ghost use Rattle.std.specs.Prelude.{◌≡◌, ◌×◌, [], ◌∷◌, Err, Contains};
+
 mod real;
-mod replaying;
-mod reply;
-mod report;
-mod run;
-#[cfg(test)]
-mod settling_tests;
-#[cfg(test)]
-mod tests;
-mod text;
-mod text_error;
-mod verdict;
-mod words;
 
 use real::{RealFiles, RealSink};
-use run::run;
-use sd_base::OpenGate;
+use sd_base::{Files, OpenGate, Sink};
+use sd_run::run;
 use std::alloc::Global;
 use std::process::ExitCode;
 use std::rt::Env;
+use std::thread::Threads;
 use std::{env, io};
 
-/// The words after the program's name, or none where they aren't text.
-fn words_of<R: Env + Alloc<A = Global>>(rt: &R) -> io::Result<Vec<String>> {
+/// Why there are no words.
+#[derive(Clone, Copy, Debug, PartialEq, Eq)]
+enum NoWords {
+    /// A word isn't text.
+    NotText,
+    Memory,
+}
+
+/// Why the words couldn't be collected.
+fn why(error: &io::Error) -> NoWords {
+    match error.kind() {
+        io::ErrorKind::InvalidData => NoWords::NotText,
+        _ => NoWords::Memory,
+    }
+}
+
+fn collect<R: Env + Alloc<A = Global>>(rt: &R) -> io::Result<Vec<String>> {
     let mut words = Vec::new(rt.alloc());
     for word in env::args(rt)?.skip(1) {
         words.push(word)?;
@@ -41,12 +38,38 @@ fn words_of<R: Env + Alloc<A = Global>>(rt: &R) -> io::Result<Vec<String>> {
     Ok(words)
 }
 
-fn main(rt: HostRuntime) -> ExitCode {
-    let alloc = rt.alloc();
-    let words = match words_of(&rt) {
+/// The words after the program's name.
+fn words_of<R: Env + Alloc<A = Global>>(rt: &R) -> Result<Vec<String>, NoWords> {
+    match collect(rt) {
+        Ok(words) => Ok(words),
+        Err(error) => Err(why(&error)),
+    }
+}
+
+/// The exit status of a run on these words. Without memory for them it is 8 and nothing is written. A word that isn't text makes
+/// a command line that names no job.
+fn status_of<R: Threads + Sync, F: Files, S: Sink>(
+    rt: &R,
+    alloc: Global,
+    words: Result<Vec<String>, NoWords>,
+    files: &mut F,
+    out: &mut S,
+) -> u8
+    ensures known { Contains (0 ∷ 1 ∷ 2 ∷ 3 ∷ 4 ∷ 5 ∷ 6 ∷ 7 ∷ 8 ∷ 9 ∷ []) result }
+    ensures memory { words ≡ Err NoWords.Memory → (result ≡ 8) × (S.written out.new ≡ S.written out.old) }
+{
+    let words = match words {
         Ok(words) => words,
-        Err(_) => Vec::new(alloc),
+        Err(NoWords::NotText) => Vec::new(alloc),
+        Err(NoWords::Memory) => return 8,
     };
+    run(rt, alloc, words.as_slice(), files, out, &OpenGate)
+        .status
+        .code
+}
+
+fn main(rt: HostRuntime) -> ExitCode {
+    let words = words_of(&rt);
     let mut files = RealFiles {
         rt: &rt,
         read_faults: 0,
@@ -57,13 +80,5 @@ fn main(rt: HostRuntime) -> ExitCode {
         inner: io::writer(&rt),
         faults: 0,
     };
-    let ended = run(
-        &rt,
-        alloc,
-        words.as_slice(),
-        &mut files,
-        &mut out,
-        &OpenGate,
-    );
-    ExitCode::from(ended.status.code)
+    ExitCode::from(status_of(&rt, rt.alloc(), words, &mut files, &mut out))
 }

@@ -1,0 +1,12 @@
+pub mod Reports
+pub mod Texts
+pub mod Tables
+pub mod Settling
+pub mod VerdictLemmas
+pub mod Comparison
+pub mod Certified
+pub mod Rows
+pub mod Endings
+pub mod ComparedExprs
+pub mod ComparedStmts
+pub mod TestLemmas

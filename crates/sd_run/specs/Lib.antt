@@ -1,0 +1,14 @@
+pub mod Words
+pub mod Jobs
+pub mod Texts
+pub mod Report
+pub mod Compared
+pub mod TextRefusals
+pub mod MatchErrors
+pub mod CertificateErrors
+pub mod Verdicts
+pub mod Taking
+pub mod Outcome
+pub mod Replies
+pub mod Answer
+pub mod Writing

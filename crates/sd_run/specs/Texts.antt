@@ -1,0 +1,48 @@
+-- The texts of a job.
+use Rattle.std.specs.Prelude.{◌≡◌, ℕ, List, [], Option, None}
+use Rattle.sha2.specs.Sha256.{sha256}
+use Rattle.sd_base.specs.Outside.{WhereKnown}
+use Rattle.sd_ast.specs.declared.Program.{Program}
+use Rattle.sd_extract.specs.Programs.{core_program}
+use Rattle.sd_match.specs.Refusals.{Refusal, refusal_of}
+use Rattle.sd_product.specs.Work.{Held, IsHeld}
+use Rattle.sd_cert.specs.declared.digest.Digests.{Digests}
+use Rattle.sd_run.specs.Words.{JobNames}
+use Rattle.sd_run.specs.TextRefusals.{IsTaken}
+
+-- these bytes are what is held, where that is told
+abbrev pub Holds : Option (List ℕ) → List ℕ → Type 0
+Holds told bytes = WhereKnown told (λ b. b ≡ bytes)
+
+-- two texts, and the programs that they spell
+pub record Texts : Type 0 where
+  pub old_bytes : List ℕ
+  pub new_bytes : List ℕ
+  pub old : Program
+  pub new : Program
+
+-- why their core programs can't be compared
+abbrev pub clash_of : Texts → Option Refusal
+clash_of t = refusal_of (core_program t.old) (core_program t.new)
+
+-- what they give to judge
+pub record IsWorkOf (t : Texts) (h : Held) : Type 0 where
+  pub old : h.old ≡ core_program t.old
+  pub new : h.new ≡ core_program t.new
+  pub held : IsHeld h
+
+-- the digests of the texts and of absent settings
+abbrev pub digests_of : Texts → Digests
+digests_of t = record { old = sha256 t.old_bytes; new = sha256 t.new_bytes; settings = sha256 [] }
+
+-- the two files of the job hold these texts, where that is told
+pub record AreRead (held : List ℕ → Option (List ℕ)) (job : JobNames) (t : Texts) : Type 0 where
+  pub old_held : Holds (held job.old) t.old_bytes
+  pub new_held : Holds (held job.new) t.new_bytes
+  pub old_read : IsTaken t.old_bytes t.old
+  pub new_read : IsTaken t.new_bytes t.new
+
+-- they can be compared
+pub record AreMatched (held : List ℕ → Option (List ℕ)) (job : JobNames) (t : Texts) : Type 0 where
+  pub are_read : AreRead held job t
+  pub no_clash : clash_of t ≡ None

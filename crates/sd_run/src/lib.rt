@@ -1,0 +1,22 @@
+//! The relative verifier: what the words of its command line ask for, its report, and the top call.
+#![tactic(auto)]
+
+mod answering;
+mod certificate_error;
+mod compared;
+mod comparing;
+mod judge;
+mod line;
+mod match_error;
+mod matching;
+mod replaying;
+mod reply;
+mod report;
+mod run;
+mod text;
+mod text_error;
+mod verdict;
+mod words;
+
+pub use run::{CertificateFile, Ended, Status, run};
+pub use verdict::{PairVerdict, VerdictState};

@@ -1,3 +1,0 @@
-pub mod TestLemmas
-pub mod ExprLemmas
-pub mod FormLemmas

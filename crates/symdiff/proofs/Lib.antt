@@ -1,9 +1,0 @@
-pub mod Reports
-pub mod Texts
-pub mod Tables
-pub mod Settling
-pub mod VerdictLemmas
-pub mod Comparison
-pub mod Certified
-pub mod Rows
-pub mod Endings
