@@ -70,12 +70,7 @@ fn status_of<R: Threads + Sync, F: Files, S: Sink>(
 
 fn main(rt: HostRuntime) -> ExitCode {
     let words = words_of(&rt);
-    let mut files = RealFiles {
-        rt: &rt,
-        read_faults: 0,
-        start_faults: 0,
-        append_faults: 0,
-    };
+    let mut files = RealFiles::new(&rt);
     let mut out = RealSink {
         inner: io::writer(&rt),
         faults: 0,
