@@ -18,15 +18,12 @@ use Rattle.sd_types.specs.Answer.{and_then, both, each}
 use Rattle.sd_types.specs.Tables.{named}
 use Rattle.sd_types.specs.Scopes.{declared_as}
 use Rattle.sd_types.specs.Phrases.{same_sort}
-use Rattle.sd_types.specs.Declarations.{callee_of, nothing, enter_all, head_rule, body_rule, have_sorts, same_types, decl_rule, program_rule, refusal, WellTyped}
+use Rattle.sd_types.specs.Declarations.{callee_of, nothing, head_rule, body_rule, have_sorts, same_types, decl_rule, WellTyped}
 use Rattle.sd_types.proofs.TypingLemmas.{parts, ok_is}
+use Rattle.sd_types.proofs.TypedBodyLemmas.{typed_scope}
 use Rattle.sd_types.proofs.SortTests.{sort_is}
 use Rattle.sd_core.specs.Formed.{sorts_of}
 use Rattle.sd_extract.proofs.Declared.{all_enter, holds_of, implementation_stands, named_procedure}
-
-none_broken : (d : Result (Unit {0}) TypeError) → refusal d ≡ None → d ≡ Ok tt
-none_broken (Ok u) h = refl
-none_broken (Err e) h = absurd (cc)
 
 declared-as : {X : Type 0} (x : Text) (o : Option X) (v : X) → declared_as x o ≡ Ok v → o ≡ Some v
 declared-as x None v h = absurd (cc)
@@ -59,7 +56,7 @@ same_ins h q u = go (have_sorts q.ins h.ins) refl (have_sorts q.outs h.outs)
 module _ (P : Program) (typed : WellTyped P) (f : Text) where
   implemented : (p : Proc) (i : Impl) → procedure_in P.decls f ≡ Some p → implementation_in P.decls f ≡ Some i → sorts_of p.head.ins ≡ sorts_of i.head.ins
   implemented p i hp hi =
-      let k = parts (enter_all nothing P.decls) (λ G. each (decl_rule G) P.decls) tt (none_broken (program_rule P) typed) in
+      let k = typed_scope P typed in
       let G = k.0 in
       let at = implementation_stands P.decls f i hi in
       let rule = holds_of (decl_rule G) (Implementation i) P.decls tt k.2 at.0 in

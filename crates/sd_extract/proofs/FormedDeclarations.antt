@@ -32,12 +32,12 @@ use Rattle.sd_types.specs.Scopes.{Context, context, declared_as}
 use Rattle.sd_types.specs.Phrases.{known_sort, same_sort, is_of, sort_of, is_truth}
 use Rattle.sd_types.specs.Phrases.{index_sort}
 use Rattle.sd_types.specs.Statements.{routine}
-use Rattle.sd_types.specs.Declarations.{variables_as, constants_of, parameters, modifies_of, callee_of, locals_of, own_names, nothing, enter_all, known_sorts, known_vars, head_rule, spec_rule, body_variables, body_stmts_rule, body_rule, own_body_rule, procedure_rule, have_sorts, same_types, decl_rule, program_rule, refusal, WellTyped}
+use Rattle.sd_types.specs.Declarations.{variables_as, constants_of, parameters, modifies_of, callee_of, locals_of, own_names, nothing, known_sorts, known_vars, head_rule, spec_rule, body_variables, body_stmts_rule, body_rule, own_body_rule, procedure_rule, have_sorts, same_types, decl_rule, WellTyped}
 use Rattle.sd_types.specs.Typing.{HasType}
 use Rattle.sd_types.specs.TypedBodies.{IsTypedBody, IsTypedOwnBody, HasTypedBody, HaveTypedBodies}
 use Rattle.sd_types.proofs.TypingLemmas.{parts, ok_is, fits-same, types_exact}
 use Rattle.sd_types.proofs.SortTests.{sort_is}
-use Rattle.sd_types.proofs.TypedBodyLemmas.{bodies_typed}
+use Rattle.sd_types.proofs.TypedBodyLemmas.{typed_scope, bodies_typed}
 use Rattle.sd_core.specs.Formed.{sorts_of, IsIndexSort, IsSort}
 use Rattle.sd_extract.proofs.FormedChecks.{is_declared, each_all, EachChecked, EachTyped, stmts_checked, all_typed}
 use Rattle.sd_extract.proofs.FormedTables.{OnceEach, entries_names, entries_once, global_entries, function_entries, procedure_entries, OwnNames, Entered, entered, own_distinct}
@@ -79,10 +79,6 @@ pub record IsTyped (P : Program) (G : Scope) : Type 0 where
   pub rules : AllByRecursion (λ d. decl_rule G d ≡ Ok tt) P.decls
   pub bodies : AllByRecursion (HasTypedBody G) P.decls
 
-none_broken : (d : Result (Unit {0}) TypeError) → refusal d ≡ None → d ≡ Ok tt
-none_broken (Ok u) h = refl
-none_broken (Err e) h = absurd (cc)
-
 all_bodies : (G : Scope) (ds : List Decl) → HaveTypedBodies G ds → AllByRecursion (HasTypedBody G) ds
 all_bodies G [] h = tt
 all_bodies G (d ∷ ds) h = (h.0, all_bodies G ds h.1)
@@ -90,7 +86,7 @@ all_bodies G (d ∷ ds) h = (h.0, all_bodies G ds h.1)
 pub is_typed : (P : Program) → WellTyped P → (G : Scope) × IsTyped P G
 is_typed P w =
     let b = bodies_typed P w in
-    let k = parts (enter_all nothing P.decls) (λ G. each (decl_rule G) P.decls) tt (none_broken (program_rule P) w) in
+    let k = typed_scope P w in
     let same : k.0 ≡ b.0 = ok_is (sym k.1 ∙ b.1) in
     let rules = each_all (decl_rule b.0) P.decls tt (subst (λ (G : Scope). each (decl_rule G) P.decls ≡ Ok tt) same k.2) in
     (b.0, record { entered = entered P.decls nothing b.0 b.1; rules = rules; bodies = all_bodies b.0 P.decls b.2 })

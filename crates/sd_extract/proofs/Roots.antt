@@ -22,7 +22,7 @@ use Rattle.sd_extract.proofs.Assigned.{some_is}
 use Rattle.sd_extract.proofs.Declared.{procedure_enters, no_more, first_of, named-append}
 use Rattle.sd_extract.proofs.LawLemmas.{name_kept}
 use Rattle.sd_extract.proofs.Programs.{routine_length}
-use Rattle.sd_extract.proofs.TypedIsFine.{typed_scope}
+use Rattle.sd_types.proofs.TypedBodyLemmas.{typed_scope}
 
 -- ---- loops have a parent
 

@@ -33,8 +33,9 @@ use Rattle.sd_types.specs.Tables.{named, with_names}
 use Rattle.sd_types.specs.Scopes.{Context, declared_as}
 use Rattle.sd_types.specs.Phrases.{same_sort, agree, same_number, given, all_given, is_truth}
 use Rattle.sd_types.specs.Statements.{Routine as Rules, routine, distinct, targets, left_sort, left_names, typed_indices, assignable, assignment, assign_rule, is_global, modified_rule, has_body, same_numbers, fits_callee, callee_rule, call_rule, true_invariant, break_rule, stmt_rule, row_rule, each_stmt}
-use Rattle.sd_types.specs.Declarations.{modifies_of, callee_of, locals_of, own_names, body_variables, nothing, enter_all, parameters, known_vars, head_rule, names_global, spec_rule, body_stmts_rule, body_rule, own_body_rule, have_sorts, same_types, decl_rule, program_rule, refusal, WellTyped}
+use Rattle.sd_types.specs.Declarations.{modifies_of, callee_of, locals_of, own_names, body_variables, nothing, enter_all, parameters, known_vars, head_rule, names_global, spec_rule, body_stmts_rule, body_rule, own_body_rule, have_sorts, same_types, decl_rule, WellTyped}
 use Rattle.sd_types.proofs.TypingLemmas.{parts, ok_of, ok_is, numbers-same}
+use Rattle.sd_types.proofs.TypedBodyLemmas.{typed_scope}
 use Rattle.sd_extract.specs.Extract.{Source, source_of, number_from}
 use Rattle.sd_extract.specs.Law.{Setting, Among, MayAssign, CallFine, IsFine, AreFine, EachFine, AreNamed, SourceFine, source_named, modified_by, setting_of, ProgramFine}
 use Rattle.sd_extract.proofs.Declared.{all_named, Enters, all_enter, procedures_in, variables_in, holds_of, entered_at, procedure_stands, implementation_stands, procedure_enters, implementation_enters, named_procedure, HasBody, body_of}
@@ -321,14 +322,6 @@ module _ (P : Program) (G : Scope) (entered : enter_all nothing P.decls ≡ Ok G
   }
 
 -- ---- programs
-
-none_broken : (d : Result (Unit {0}) TypeError) → refusal d ≡ None → d ≡ Ok tt
-none_broken (Ok u) h = refl
-none_broken (Err e) h = absurd (cc)
-
--- the scope of a well-typed program, and its rules
-pub typed_scope : (P : Program) → WellTyped P → (G : Scope) × (enter_all nothing P.decls ≡ Ok G) × (each (decl_rule G) P.decls ≡ Ok tt)
-typed_scope P w = parts (enter_all nothing P.decls) (λ G. each (decl_rule G) P.decls) tt (none_broken (program_rule P) w)
 
 pub typed_is_fine : (P : Program) → WellTyped P → ProgramFine P
 typed_is_fine P w = let k = typed_scope P w in program_fine P k.0 k.1 k.2

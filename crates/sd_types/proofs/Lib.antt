@@ -7,4 +7,5 @@ pub mod TypingLemmas
 pub mod ScopeLemmas
 pub mod TableLemmas
 pub mod SortTests
+pub mod DeclaredLemmas
 pub mod TypedBodyLemmas

@@ -9,6 +9,7 @@ use Rattle.sd_ast.specs.declared.tree.Head.{Head}
 use Rattle.sd_ast.specs.declared.tree.Body.{Body}
 use Rattle.sd_ast.specs.declared.tree.Decl.{Decl}
 use Rattle.sd_ast.specs.declared.tree.Decl.TheVariants.{Procedure, Implementation}
+use Rattle.sd_ast.specs.declared.tree.Program.{Program}
 use Rattle.sd_ast.specs.declared.tree.Invariant.{Invariant}
 use Rattle.sd_ast.specs.declared.tree.Stmt.{Stmt}
 use Rattle.sd_ast.specs.declared.tree.StmtKind.{StmtKind, Assert, Assume, Assign, Call, If', While', Break, Return, Row_of-Stmt, end_of-Stmt, more_of-Stmt}
@@ -20,9 +21,10 @@ use Rattle.sd_types.specs.Tables.{named}
 use Rattle.sd_types.specs.Scopes.{Context, declared_as}
 use Rattle.sd_types.specs.Phrases.{is_of, agree, same_number, selected, sort_in, at_place, sort_of, given, all_given, is_truth}
 use Rattle.sd_types.specs.Statements.{Routine, routine, distinct, target, targets, assignable, modified_rule, has_body, indexed, left_sort, left_names, typed_indices, assignment, assign_rule, same_numbers, fits_callee, callee_rule, call_rule, true_invariant, break_rule, stmt_rule, row_rule, each_stmt}
-use Rattle.sd_types.specs.Declarations.{modifies_of, body_variables, nothing, enter_all, known_vars, head_rule, spec_rule, parameters, body_stmts_rule, body_rule, own_body_rule, same_types, decl_rule, program_rule, refusal}
+use Rattle.sd_types.specs.Declarations.{modifies_of, body_variables, nothing, enter_all, known_vars, head_rule, spec_rule, parameters, body_stmts_rule, body_rule, own_body_rule, same_types, decl_rule, scope_of, program_rule, refusal, WellTyped}
 use Rattle.sd_types.specs.Typing.{HasType}
 use Rattle.sd_types.specs.TypedBodies.{AllHave, IsVariableOf, AreVariablesOf, Leads, LeftHasType, Assigns, Calls, AllTruths, IsTypedStmt, AreTypedStmts, AllTypedStmts, IsTypedBody, IsTypedOwnBody, HasTypedBody, HaveTypedBodies, BodiesAreTyped}
+use Rattle.sd_types.proofs.DeclaredLemmas.{entered-all}
 use Rattle.sd_types.proofs.TypingLemmas.{ok_of, ok_is, parts, fits-same, selected-map, sorts_given, agree-sorts, numbers-same, named-as, has_type}
 
 -- ---- expressions
@@ -186,7 +188,11 @@ none_broken : (d : Result (Unit {0}) TypeError) → refusal d ≡ None → d ≡
 none_broken (Ok u) h = refl
 none_broken (Err e) h = absurd (cc)
 
+-- what a well-typed program declares, and its rules
+pub typed_scope : (P : Program) → WellTyped P → (G : Scope) × (enter_all nothing P.decls ≡ Ok G) × (each (decl_rule G) P.decls ≡ Ok tt)
+typed_scope P w =
+    let k = parts (scope_of P.decls) (λ G. each (decl_rule G) P.decls) tt (none_broken (program_rule P) w) in
+    (k.0, entered-all P.decls nothing k.0 refl k.1 (decls-typed k.0 P.decls tt k.2), k.2)
+
 pub bodies_typed : BodiesAreTyped
-bodies_typed P w =
-    let k = parts (enter_all nothing P.decls) (λ G. each (decl_rule G) P.decls) tt (none_broken (program_rule P) w) in
-    (k.0, k.1, decls-typed k.0 P.decls tt k.2)
+bodies_typed P w = let k = typed_scope P w in (k.0, k.1, decls-typed k.0 P.decls tt k.2)

@@ -22,6 +22,7 @@ use Rattle.sd_types.specs.declared.scope.Site.TheVariants as site
 use Rattle.sd_types.specs.declared.scope.Variable.{Variable}
 use Rattle.sd_types.specs.declared.scope.Callee.{Callee}
 use Rattle.sd_types.specs.declared.scope.Scope.{Scope}
+use Rattle.sd_types.specs.Names.{is_among}
 use Rattle.sd_types.specs.Answer.{and_then, both, each}
 use Rattle.sd_types.specs.Tables.{named, with_name, with_names, with_entry, with_entries}
 use Rattle.sd_types.specs.Scopes.{context, declared_as}
@@ -75,25 +76,50 @@ enter_procedure G p =
     and_then (own_names p.head (locals_of p.body)) (λ _.
     Ok (record G { procedures = ps; bodies = bs }))))
 
-abbrev pub enter_implementation : Scope → Impl → Result Scope TypeError
-enter_implementation G i =
-    and_then (with_name G.bodies i.head.name) (λ bs.
+-- The names of the procedures that are declared.
+abbrev pub procedure_names : List Decl → List Text
+procedure_names [] = []
+procedure_names (Procedure p ∷ ds) = p.head.name ∷ procedure_names ds
+procedure_names (_ ∷ ds) = procedure_names ds
+
+-- one more body in an implementation, which counts where its procedure is declared
+abbrev pub with_implementation : (declared : Bool) → List Text → Text → Result (List Text) TypeError
+with_implementation true bodies f = with_name bodies f
+with_implementation false bodies f = Ok bodies
+
+abbrev pub enter_implementation_of : (declared : Text → Bool) → Scope → Impl → Result Scope TypeError
+enter_implementation_of declared G i =
+    and_then (with_implementation (declared i.head.name) G.bodies i.head.name) (λ bs.
     and_then (own_names i.head i.body.locals) (λ _.
     Ok (record G { bodies = bs })))
 
--- what is declared after one more declaration
+-- What is declared after one more declaration, where the text declares these procedures. A body belongs to a declared
+-- procedure: other implementations are refused later, by the first of their names, and not as second bodies.
+abbrev pub enter_of : (declared : Text → Bool) → Scope → Decl → Result Scope TypeError
+enter_of declared G (Types names) = and_then (with_names G.types names) (λ ts. Ok (record G { types = ts }))
+enter_of declared G (Const unique names s) =
+    and_then (with_entries G.globals (constants_of s names)) (λ es. Ok (record G { globals = es }))
+enter_of declared G (Function f args r) =
+    and_then (with_entry G.functions f (record { args = args; result = r })) (λ es. Ok (record G { functions = es }))
+enter_of declared G (Axiom e) = Ok G
+enter_of declared G (Globals vars) =
+    and_then (with_entries G.globals (variables_as nature.Global vars)) (λ es. Ok (record G { globals = es }))
+enter_of declared G (Procedure p) = enter_procedure G p
+enter_of declared G (Implementation i) = enter_implementation_of declared G i
+
+abbrev pub enter_all_of : (declared : Text → Bool) → Scope → List Decl → Result Scope TypeError
+enter_all_of declared G [] = Ok G
+enter_all_of declared G (d ∷ ds) = and_then (enter_of declared G d) (λ H. enter_all_of declared H ds)
+
+-- the same where each implementation has its procedure
+abbrev pub enter_implementation : Scope → Impl → Result Scope TypeError
+enter_implementation = enter_implementation_of (λ _. true)
+
 abbrev pub enter : Scope → Decl → Result Scope TypeError
-enter G (Types names) = and_then (with_names G.types names) (λ ts. Ok (record G { types = ts }))
-enter G (Const unique names s) = and_then (with_entries G.globals (constants_of s names)) (λ es. Ok (record G { globals = es }))
-enter G (Function f args r) = and_then (with_entry G.functions f (record { args = args; result = r })) (λ es. Ok (record G { functions = es }))
-enter G (Axiom e) = Ok G
-enter G (Globals vars) = and_then (with_entries G.globals (variables_as nature.Global vars)) (λ es. Ok (record G { globals = es }))
-enter G (Procedure p) = enter_procedure G p
-enter G (Implementation i) = enter_implementation G i
+enter = enter_of (λ _. true)
 
 abbrev pub enter_all : Scope → List Decl → Result Scope TypeError
-enter_all G [] = Ok G
-enter_all G (d ∷ ds) = and_then (enter G d) (λ H. enter_all H ds)
+enter_all = enter_all_of (λ _. true)
 
 abbrev pub nothing : Scope
 nothing = record { types = []; globals = []; functions = []; procedures = []; bodies = [] }
@@ -173,9 +199,13 @@ decl_rule G (Implementation i) = implementation_rule G i
 
 -- ---- programs
 
+-- what a text declares
+abbrev pub scope_of : List Decl → Result Scope TypeError
+scope_of ds = enter_all_of (is_among (procedure_names ds)) nothing ds
+
 -- names that are declared twice come before the other rules
 abbrev pub program_rule : Program → Result (Unit {0}) TypeError
-program_rule P = and_then (enter_all nothing P.decls) (λ G. each (decl_rule G) P.decls)
+program_rule P = and_then (scope_of P.decls) (λ G. each (decl_rule G) P.decls)
 
 abbrev pub refusal : Result (Unit {0}) TypeError → Option TypeError
 refusal (Ok done) = None

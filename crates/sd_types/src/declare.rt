@@ -1,15 +1,16 @@
 //! What a text declares, where no name is declared twice in its space.
-ghost use Rattle.std.specs.Prelude.{◌≡◌, [], IfOk};
+ghost use Rattle.std.specs.Prelude.{◌≡◌, IfOk};
 ghost use Rattle.sd_ast.specs.Tree.{names_of};
 ghost use Rattle.sd_types.specs.declared.scope.Nature.TheVariants as nature;
+ghost use Rattle.sd_types.specs.Names.{is_among};
 ghost use Rattle.sd_types.specs.Answer.{Answers, Leaves};
 ghost use Rattle.sd_types.specs.Tables.{with_entry, with_entries};
 ghost use Rattle.sd_types.specs.Declarations as spec;
-ghost use Rattle.sd_types.specs.Declarations.{sorts_of_vars, variables_as, constants_of, own_names, with_body, enter_all, nothing};
+ghost use Rattle.sd_types.specs.Declarations.{sorts_of_vars, variables_as, constants_of, own_names, with_body, with_implementation, enter_implementation_of, enter_of, enter_all_of, nothing};
 
 use crate::refusal::TypeError;
 use crate::scope::{Callee, Nature, Scope, Signature, Variable};
-use crate::table::{NameList, Table};
+use crate::table::{NameList, Table, name_set};
 use sd_ast::{Body, Decl, Head, Impl, Proc, Spec};
 use sd_base::{CloneOf, Name, NoMemory, Sort, Var, clone_items};
 use sqlite_items::Items;
@@ -134,15 +135,32 @@ fn declare_procedure(alloc: Global, scope: &mut Scope, procedure: &Proc) -> Resu
     Ok(())
 }
 
+/// Adds the body of an implementation, where its procedure is declared.
+fn declare_other_body(
+    alloc: Global,
+    bodies: &mut NameList,
+    procedures: &NameList,
+    name: &Name,
+) -> Result<(), TypeError>
+    ensures { Leaves (with_implementation (is_among procedures.now name.now) bodies.old name.now) bodies.new result }
+{
+    if procedures.has(name) {
+        bodies.add(alloc, name)
+    } else {
+        Ok(())
+    }
+}
+
 fn declare_implementation(
     alloc: Global,
     scope: &mut Scope,
+    procedures: &NameList,
     implementation: &Impl,
 ) -> Result<(), TypeError>
-    ensures { Leaves (spec.enter_implementation scope.old implementation.now) scope.new result }
+    ensures { Leaves (enter_implementation_of (is_among procedures.now) scope.old implementation.now) scope.new result }
 {
     let head = &implementation.head;
-    scope.bodies.add(alloc, &head.name)?;
+    declare_other_body(alloc, &mut scope.bodies, procedures, &head.name)?;
     check_own_names(alloc, head, &implementation.body.locals)?;
     Ok(())
 }
@@ -164,8 +182,14 @@ fn declare_function(
     functions.add(alloc, name, signature)
 }
 
-fn declare(alloc: Global, scope: &mut Scope, decl: &Decl) -> Result<(), TypeError>
-    ensures { Leaves (spec.enter scope.old decl.now) scope.new result }
+/// Declares what one declaration says, in a text with these procedures.
+fn declare(
+    alloc: Global,
+    scope: &mut Scope,
+    procedures: &NameList,
+    decl: &Decl,
+) -> Result<(), TypeError>
+    ensures { Leaves (enter_of (is_among procedures.now) scope.old decl.now) scope.new result }
 {
     match decl {
         Decl::Types(names) => scope.types.add_all(alloc, names),
@@ -179,23 +203,45 @@ fn declare(alloc: Global, scope: &mut Scope, decl: &Decl) -> Result<(), TypeErro
         Decl::Globals(vars) => declare_globals(alloc, &mut scope.globals, vars),
         Decl::Procedure(procedure) => declare_procedure(alloc, scope, procedure),
         Decl::Implementation(implementation) => {
-            declare_implementation(alloc, scope, implementation)
+            declare_implementation(alloc, scope, procedures, implementation)
         }
     }
 }
 
-fn declare_all(alloc: Global, scope: &mut Scope, decls: &Items<Decl>) -> Result<(), TypeError>
-    ensures { Leaves (enter_all scope.old decls.now) scope.new result }
+fn declare_all(
+    alloc: Global,
+    scope: &mut Scope,
+    procedures: &NameList,
+    decls: &Items<Decl>,
+) -> Result<(), TypeError>
+    ensures { Leaves (enter_all_of (is_among procedures.now) scope.old decls.now) scope.new result }
 {
     for decl in decls.as_slice() {
-        declare(alloc, scope, decl)?;
+        declare(alloc, scope, procedures, decl)?;
     }
     Ok(())
 }
 
-/// What the text declares, or the first name that is declared twice in its space.
-pub(crate) fn scope_of(alloc: Global, decls: &Items<Decl>) -> Result<Scope, TypeError>
-    ensures { Answers (enter_all nothing decls.now) result }
+/// The names of the procedures that are declared.
+fn procedure_names(alloc: Global, decls: &Items<Decl>) -> Result<Items<Name>, NoMemory>
+    ensures { IfOk result (λ names. names ≡ spec.procedure_names decls.now) }
+{
+    let mut names = Items::new(alloc);
+    for decl in decls.as_slice() {
+        if let Decl::Procedure(procedure) = decl {
+            names.push(procedure.head.name.clone_of(alloc)?)?;
+        }
+    }
+    Ok(names)
+}
+
+/// What a text with these procedures declares.
+fn scope_among(
+    alloc: Global,
+    procedures: &NameList,
+    decls: &Items<Decl>,
+) -> Result<Scope, TypeError>
+    ensures { Answers (enter_all_of (is_among procedures.now) nothing decls.now) result }
 {
     let mut scope = Scope {
         types: NameList::new(alloc),
@@ -204,6 +250,15 @@ pub(crate) fn scope_of(alloc: Global, decls: &Items<Decl>) -> Result<Scope, Type
         procedures: Table::new(alloc),
         bodies: NameList::new(alloc),
     };
-    declare_all(alloc, &mut scope, decls)?;
+    declare_all(alloc, &mut scope, procedures, decls)?;
     Ok(scope)
+}
+
+/// What the text declares, or the first name that is declared twice in its space.
+pub(crate) fn scope_of(alloc: Global, decls: &Items<Decl>) -> Result<Scope, TypeError>
+    ensures { Answers (spec.scope_of decls.now) result }
+{
+    let names = procedure_names(alloc, decls)?;
+    let procedures = name_set(alloc, &names)?;
+    scope_among(alloc, &procedures, decls)
 }
