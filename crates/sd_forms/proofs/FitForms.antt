@@ -9,7 +9,6 @@ use Rattle.sd_rows.specs.declared.form.Form.{Form}
 use Rattle.sd_rows.specs.Rows.{IsProper}
 use Rattle.sd_rows.specs.Forms.{IsFit, constant, plus, less, scaled}
 use Rattle.sd_rows.proofs.FormLemmas.{IsFit-column, IsFit-number, IsFit-bounded, IsFit-product, IsProper-plus, IsProper-less, IsProper-times_by, less-near}
-use Rattle.sd_forms.specs.FactRows.{part_at, below_row, back_row, above_row}
 use Rattle.sd_forms.specs.LinearForms.{place_of, form_at, form_by, form_of}
 
 abbrev pub AllFit : List Form → Type 0

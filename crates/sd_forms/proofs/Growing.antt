@@ -1,12 +1,10 @@
 -- forms stay as they are where terms are appended
-use Rattle.std.proofs.Common.{◌≡◌, List, [], ◌∷◌, ◌++◌, map, refl, true}
+use Rattle.std.proofs.Common.{◌≡◌, List, [], ◌∷◌, ◌++◌, refl, true}
 use Rattle.sd_term.specs.Tree.{Tree, leaf, call, head_of, at_parts, below, subterms}
 use Rattle.sd_term.specs.Numbering.{has, AllIn}
 use Rattle.sd_term.proofs.Numbers.{AllIn-left, AllIn-right}
 use Rattle.sd_forms.specs.LinearForms.{place_of, form_by, form_of}
-use Rattle.sd_term.specs.Closed.{IsClosed}
 use Rattle.sd_forms.proofs.Places.{place_of-append}
-use Rattle.sd_term.proofs.ClosedTerms.{all-self}
 
 at_parts-append : (terms more : List Tree) (t : Tree) → AllIn terms (below t)
     → at_parts (λ u fs. form_by (head_of u) (place_of (terms ++ more) u) fs) t ≡ at_parts (λ u fs. form_by (head_of u) (place_of terms u) fs) t

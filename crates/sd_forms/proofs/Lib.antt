@@ -1,7 +1,7 @@
 pub mod Places
-pub mod FormNodes
 pub mod FitForms
 pub mod TwoParts
 pub mod Growing
 pub mod FormMeaning
+pub mod FormNodes
 pub mod RowsHold

@@ -1,7 +1,8 @@
 ghost use Rattle.std.specs.Prelude.{◌≡◌, ℕ, ◌<◌, ◌≤◌, pos, IfOk, [], ◌∷◌, ◌++◌, length, map, take};
 ghost use Rattle.sd_term.specs.Bank.{tree_at, PartsBelow};
+ghost use Rattle.sd_term.specs.Distinct.{AreDistinct};
 ghost use Rattle.sd_rows.specs.Forms.{IsFit, constant};
-ghost use Rattle.sd_forms.specs.LinearForms.{place_of, form_at, form_by, form_of};
+ghost use Rattle.sd_forms.specs.LinearForms.{form_at, form_by, form_of};
 ghost use Rattle.sd_forms.specs.Laws.{KeepsValue};
 
 use sd_base::NoMemory;
@@ -12,9 +13,14 @@ use std::alloc::Global;
 
 /// The linear forms of all terms, by their numbers.
 pub fn forms_of(alloc: Global, terms: &Bank) -> Result<Items<Form>, NoMemory>
-    ensures { IfOk result (λ fs. fs ≡ map (form_of terms.now) terms.now) }
+    ensures forms { IfOk result (λ fs. fs ≡ map (form_of terms.now) terms.now) }
+    ensures values { IfOk result (λ fs. (k : ℕ) → k < length terms.now → KeepsValue terms.now (tree_at terms.now k) (form_at fs k)) }
 {
-    let forms = forms_below(alloc, terms, terms.len() as u32)?;
+    let mut forms = Items::new(alloc);
+    for number in 0..terms.len() as u32 {
+        let form = next_form(alloc, terms, forms.as_slice(), TermId::new(number))?;
+        forms.push(form)?;
+    }
     Ok(forms)
 }
 
@@ -24,46 +30,22 @@ pub fn linear_form(alloc: Global, terms: &Bank, id: TermId) -> Result<Form, NoMe
     ensures form { IfOk result (λ f. f ≡ form_of terms.now (tree_at terms.now id)) }
     ensures value { IfOk result (λ f. KeepsValue terms.now (tree_at terms.now id) f) }
 {
-    terms.is_closed();
-    let forms = forms_below(alloc, terms, id.number())?;
-    let form = next_form(alloc, terms, forms.as_slice(), id)?;
-    Ok(form)
+    let forms = forms_of(alloc, terms)?;
+    forms.as_slice()[id.number() as usize].copy(alloc)
 }
 
-/// The linear forms of the terms with numbers below a bound.
-fn forms_below(alloc: Global, terms: &Bank, count: u32) -> Result<Items<Form>, NoMemory>
-    requires { count ≤ length terms.now }
-    ensures { IfOk result (λ fs. fs ≡ map (form_of terms.now) (take count terms.now)) }
-{
-    let mut forms = Items::new(alloc);
-    for number in 0..count {
-        let form = next_form(alloc, terms, forms.as_slice(), TermId::new(number))?;
-        forms.push(form)?;
-    }
-    Ok(forms)
-}
-
-/// The linear form of a term from those of the terms with smaller numbers.
+/// The linear form of a term from those of the terms with smaller numbers. Its column is its number.
 fn next_form(alloc: Global, terms: &Bank, forms: &[Form], id: TermId) -> Result<Form, NoMemory>
     requires id { id < length terms.now }
+    requires distinct { AreDistinct terms.now }
     requires forms { forms.now ≡ map (form_of terms.now) (take id terms.now) }
     ensures { IfOk result (λ f. f ≡ form_of terms.now (tree_at terms.now id)) }
 {
-    let column = column_of(terms, id);
     let node = terms.node(id);
     let zero = Form::of_number(alloc, 0);
     let first = part_form(&zero, forms, node, 0);
     let second = part_form(&zero, forms, node, 1);
-    form_with(alloc, &node.head, column, first, second)
-}
-
-/// The column of a term: the least number with the same tree.
-#[tactic(auto, using(crate::proofs::Places::least_place))]
-fn column_of(terms: &Bank, id: TermId) -> u32
-    requires { id < length terms.now }
-    ensures { result ≡ place_of terms.now (tree_at terms.now id) }
-{
-    terms.first(id).number()
+    form_with(alloc, &node.head, id.number(), first, second)
 }
 
 /// The form of one of a node's parts, or the form of 0 where there is no such part.

@@ -297,7 +297,6 @@ pub fn proves(query: &Query, proof: &Proof) -> Result<Verdict, NoMemory>
     ensures exact { IfOk result (λ r. (r ≡ Verdict.Accepted) ↔ Proves query.now proof.now.steps) }
     ensures sound { IfOk result (λ r. r ≡ Verdict.Accepted → IsUnsatisfiable query.now) }
 {
-    query.is_well_sorted();
     let numbered = query.numbered()?;
     let Numbered { terms, facts } = numbered;
     let answer = judge(

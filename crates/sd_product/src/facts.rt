@@ -188,14 +188,6 @@ fn put_facts(
 
 // ---- the query
 
-/// No terms, whatever the bank.
-fn no_facts(alloc: Global, bank: &Bank) -> Items<TermId>
-    ensures { DenoteAll bank.now result [] }
-{
-    let _ = bank;
-    Items::new(alloc)
-}
-
 /// The facts of the query of a candidate, over the bodies of its pair. Where there are no bodies, there are none.
 fn put_question(
     alloc: Global,
@@ -209,7 +201,7 @@ fn put_question(
 {
     match sides {
         Some(sides) => put_facts(bank, question, &sides.old, &sides.new),
-        None => Ok(no_facts(alloc, bank)),
+        None => Ok(Items::new(alloc)),
     }
 }
 

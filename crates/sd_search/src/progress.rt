@@ -40,7 +40,6 @@ impl Search {
         ensures search { IfOk result (λ s. IsSearch query.now s) }
         ensures cubes { IfOk result (λ s. s.cubes ≡ []) }
     {
-        query.is_well_sorted();
         let numbered = query.numbered()?;
         let Numbered { terms, facts } = numbered;
         let walk = Walk::new(alloc, terms, facts.as_slice())?;

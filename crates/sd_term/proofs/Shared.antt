@@ -1,5 +1,5 @@
 -- the nodes of a bank in which each tree has one number
-use Rattle.std.proofs.Common.{◌≡◌, ◌≢◌, ℕ, zero, suc, ◌+◌, ◌<◌, ◌≤◌, ◌^◌, List, [], ◌∷◌, ◌++◌, map, length, get_or, All, refl, sym, ap, ◌∙◌, subst, arith, length-append, suc-le-suc, Bool, true, false, cond, ◌||◌, if◌then◌else◌, Option, Some, None, IfNone, take, below_more, ◌⊎◌}
+use Rattle.std.proofs.Common.{◌≡◌, ◌≢◌, ℕ, zero, suc, ◌+◌, ◌<◌, ◌^◌, List, [], ◌∷◌, ◌++◌, map, length, get_or, All, refl, sym, ap, ◌∙◌, subst, arith, length-append, suc-le-suc, Bool, true, false, cond, ◌||◌, if◌then◌else◌, Option, Some, None, IfNone, take, below_more}
 use Rattle.std.proofs.lemmas.Grind.{common_steps}
 use Rattle.std.proofs.lemmas.List.Folds.{list_any_at, list_any_none}
 use Rattle.std.proofs.lemmas.Map.Keys.{IsDistinct-head, IsDistinct-tail}
@@ -9,17 +9,19 @@ use Rattle.indexmap.specs.IndexSet.{insert_key}
 use Rattle.sd_term.specs.declared.node.TermNode.{TermNode}
 use Rattle.sd_term.specs.Tree.{Tree, same_tree, same_tree-true}
 use Rattle.sd_term.specs.Bank.{tree_at, tree_of, trees, PartsBelow}
-use Rattle.sd_term.specs.BankInvariant.{AreShared}
+use Rattle.sd_term.specs.BankInvariant.{AreShared, IsBank}
+use Rattle.sd_base.specs.declared.sort.Sort.{Sort}
 use Rattle.sd_term.specs.Build.{Extends}
 use Rattle.sd_term.specs.Distinct.{AreDistinct, with_tree}
 use Rattle.sd_term.specs.Keys.{same_node, same_node-true, same_node-same, same_node-equivalence}
 use Rattle.sd_term.specs.Numbering.{has, IsFirst}
 use Rattle.sd_term.proofs.Trees.{length-trees, trees-append, tree_at-append, tree_at-last, tree-head, tree-parts, trees-node}
-use Rattle.sd_term.proofs.Numbers.{has-at, lacks-at}
+use Rattle.sd_term.proofs.Numbers.{has-at}
 
 -- where equal trees have equal numbers, lists of numbers with equal trees are equal
 numbers-same : (bank : List Tree) → AreDistinct bank → (xs ys : List ℕ) → All (λ p. p < length bank) xs → All (λ p. p < length bank) ys
     → map (λ n. tree_at bank n) xs ≡ map (λ n. tree_at bank n) ys → xs ≡ ys
+unfolding AreDistinct
 numbers-same bank d [] [] a b e = refl
 numbers-same bank d [] (y ∷ ys) a b e = let f : 0 ≡ length (map (λ n. tree_at bank n) (y ∷ ys)) = ap length e in absurd (omega (arith, f))
 numbers-same bank d (x ∷ xs) [] a b e = let f : length (map (λ n. tree_at bank n) (x ∷ xs)) ≡ 0 = ap length e in absurd (omega (arith, f))
@@ -62,8 +64,23 @@ if-none (Some x) p = tt
 pub Extends-self : (bank : List Tree) → Extends bank bank
 Extends-self bank = record { longer = omega arith; kept = λ i lt. refl }
 
+pub IsBank-none : (nodes : List TermNode) (sorts : List Sort) → nodes ≡ [] → sorts ≡ [] → IsBank nodes sorts 0
+unfolding AreDistinct
+IsBank-none nodes sorts e f =
+    subst (λ l. IsBank l sorts 0) (sym e)
+    (subst (λ l. IsBank [] l 0) (sym f)
+    (record {
+      shared = record { ascends = λ i d lt. absurd (omega arith); short = omega arith; distinct = λ i j a b s. absurd (omega arith) };
+      sorts_are = refl;
+      above = refl;
+    }))
+
+pub same-number : (bank : List Tree) (i j : ℕ) → AreDistinct bank → i < length bank → j < length bank → tree_at bank i ≡ tree_at bank j → i ≡ j
+unfolding AreDistinct
+same-number bank i j d a b e = d i j a b e
+
 pub first-itself : (bank : List Tree) (i : ℕ) → AreDistinct bank → i < length bank → IsFirst bank i
-first-itself bank i d lt = λ j a e. omega (arith, d j i a lt e)
+first-itself bank i d lt = λ j a e. omega (arith, same-number bank j i d a lt e)
 
 -- sets of nodes
 
@@ -165,14 +182,14 @@ module _ (nodes : List TermNode) (h : AreShared nodes) where
     all-distinct i j a b =
         each (λ m. P m j)
         (λ m lt. each (λ n. P m n)
-        (λ n le e. h.distinct m n (omega (arith, length-trees nodes)) (omega (arith, length-trees nodes)) (sym (old-tree m lt) ∙ e ∙ old-tree n le))
+        (λ n le e. same-number (trees nodes) m n h.distinct (omega (arith, length-trees nodes)) (omega (arith, length-trees nodes)) (sym (old-tree m lt) ∙ e ∙ old-tree n le))
         (λ e. absurd (lacks m lt (sym (old-tree m lt) ∙ e ∙ new-tree))) j b)
         (each (λ n. P (length nodes) n)
         (λ n le e. absurd (lacks n le (sym (old-tree n le) ∙ sym e ∙ new-tree)))
         (λ e. refl) j b) i a
 
     pub grows : AreShared (nodes ++ node ∷ [])
-    unfolding P
+    unfolding P AreDistinct
     grows = record {
       ascends = λ i d lt. each (λ m. PartsBelow m (get_or (nodes ++ node ∷ []) m d)) (λ m le. subst (λ n. PartsBelow m n) (sym (old-node m d le)) (h.ascends m d le)) (subst (λ n. PartsBelow (length nodes) n) (sym (new-node d)) p) i (omega (arith, long));
       short = subst (λ n. n < 2 ^ 32) (sym long) room;

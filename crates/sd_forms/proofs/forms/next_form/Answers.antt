@@ -14,6 +14,6 @@ form_with-requires-clause-second c = IsFit-part c.args.terms.now c.args.forms.no
 pub returns : goal.returns
 returns c =
     subst (λ (g : Form). IfOk c.form_with.result (λ f. f ≡ g))
-    ((λ i. form_by c.node-node.result.now.head c.column_of-column.result (c.part_form-first.ensures i ∷ c.part_form-second.ensures i ∷ []))
-    ∙ sym (form_of-next c.args.terms.now c.args.forms.now c.node-node.result.now c.args.id c.column_of-column.result c.requires.id c.node-node.ensures.tree c.node-node.ensures.parts c.requires.forms c.column_of-column.ensures))
+    ((λ i. form_by c.node-node.result.now.head (c.number.ensures i) (c.part_form-first.ensures i ∷ c.part_form-second.ensures i ∷ []))
+    ∙ sym (form_of-next c.args.terms.now c.args.forms.now c.node-node.result.now c.args.id c.requires.id c.requires.distinct c.node-node.ensures.tree c.node-node.ensures.parts c.requires.forms))
     c.form_with.ensures

@@ -15,7 +15,7 @@ pub returns-clause-exact : goal.returns-clause-exact
 returns-clause-exact c = verdict-exact c.args.query.now c.args.proof.now.steps c.in_ok-answer.answer (returns-clause-verdict c)
 
 pub returns-clause-sound : goal.returns-clause-sound
-returns-clause-sound c = λ a. verdict-sound c.args.query.now c.args.proof.now.steps c.in_ok-answer.answer (returns-clause-verdict c) a c.is_well_sorted.ensures
+returns-clause-sound c = λ a. verdict-sound c.args.query.now c.args.proof.now.steps c.in_ok-answer.answer (returns-clause-verdict c) a c.in_ok-numbered.ensures.sorted
 
 pub judge-requires-clause-sorted : goal.judge-requires-clause-sorted
-judge-requires-clause-sorted c = subst AllWellSorted (sym c.in_ok-numbered.ensures.terms) (numbered-sorted c.args.query.now c.is_well_sorted.ensures)
+judge-requires-clause-sorted c = subst AllWellSorted (sym c.in_ok-numbered.ensures.terms) (numbered-sorted c.args.query.now c.in_ok-numbered.ensures.sorted)

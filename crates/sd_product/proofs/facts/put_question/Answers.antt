@@ -1,9 +1,11 @@
-use Rattle.std.proofs.Common.{List, subst}
-use Rattle.std.specs.Prelude.{IfOk, slice_get}
+use Rattle.std.proofs.Common.{ℕ, ◌<◌, List, length, sym, ap, subst}
+use Rattle.std.specs.Prelude.{IfOk, slice_get, All, map}
 use Rattle.sd_term.specs.Tree.{Tree}
+use Rattle.sd_term.specs.Bank.{tree_at}
 use Rattle.sd_vcgen.specs.Numbers.{DenoteAll, context_of}
 use Rattle.sd_product.specs.Query.{query_of}
 use Rattle.sd_product.specs.Questions.{work_in, infallibles_in, asked, AreSidesFor}
+use Rattle.sd_product.proofs.FactLemmas.{all_none}
 use Rattle.sd_product.proofs.BodyLemmas.{sides_within, query_over, query_without}
 use Rattle.sd_product.proofs.facts.put_question.Goals as goal
 
@@ -32,5 +34,9 @@ unfolding query_of
 returns-in-None c =
     let q = c.args.question.now in
     let sides = subst (AreSidesFor q c.args.bank.now) c.in-None.is c.requires.sides in
-    subst (DenoteAll c.args.bank.now c.no_facts.result)
-    (query_without (work_in q) (infallibles_in q) q.table.now (asked q) c.args.bank.now (context_of q.old) (context_of q.new) (slice_get q.old.program.now.procs q.pair.now.old) (slice_get q.new.program.now.procs q.pair.now.new) sides) c.no_facts.ensures
+    let a = c.args.bank.now in
+    subst (DenoteAll a c.new.result)
+    (query_without (work_in q) (infallibles_in q) q.table.now (asked q) c.args.bank.now (context_of q.old) (context_of q.new) (slice_get q.old.program.now.procs q.pair.now.old) (slice_get q.new.program.now.procs q.pair.now.new) sides) (record {
+      within = subst (All (λ id. id < length a)) (sym c.new.ensures) (all_none (λ id. id < length a));
+      trees = ap (λ (l : List ℕ). map (tree_at a) l) c.new.ensures;
+    })
