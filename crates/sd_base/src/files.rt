@@ -1,8 +1,8 @@
-ghost use Rattle.std.specs.Prelude.{◌≡◌, ◌≢◌, ◌<◌, ◌≤◌, ◌+◌, ◌-◌, ◌⊎◌, ◌↔◌, [], ◌++◌, None, Some, ℕ, List, All, AllPairs, map, length, take, drop, min, nat_le, position, Contains, IsNone, IsSome, IfOk, IfSome, OnOk, OnErr, IsErr, IsSomeAnd, MatchResult, IsTrue, IsOk, is_some};
-ghost use Rattle.std.specs.Bool.{OnTrue, OnFalse};
-ghost use Rattle.sd_base.specs.Causes.{HasCause, NeverFall, AllSame};
-ghost use Rattle.sd_base.specs.Outside.{WhereKnown, CopiesPiece, appended, emptied, AllStay, OthersStay};
-ghost use Rattle.sd_base.specs.Memory.{counted, is_named, file_in, content_in, file_with};
+ghost use Rattle.std.specs.Prelude.{◌≡◌, ◌≢◌, ◌≤◌, ◌+◌, ◌-◌, ℕ, List, All, AllPairs, map, length, take, min, nat_le, position, IfOk, IfSome, OnOk, OnErr, is_ok, is_some};
+ghost use Rattle.std.specs.Bool.{OnTrue};
+ghost use Rattle.sd_base.specs.Causes.{HasCause};
+ghost use Rattle.sd_base.specs.Outside.{WhereKnown, CopiesPiece, appended, emptied, OthersStay};
+ghost use Rattle.sd_base.specs.Memory.{is_named, file_in, content_in, file_with, changed, without_bytes, with_piece, has_room, is_reached, is_added, after_read, after_start, after_append};
 
 use crate::{Failed, Files, Name, NoMemory};
 use std::alloc::Global;
@@ -54,7 +54,7 @@ impl MemFile {
     }
 
     fn clear(&mut self)
-        ensures { self.new ≡ record self.old { bytes = [] } }
+        ensures { self.new ≡ without_bytes self.old }
     {
         self.bytes.clear();
     }
@@ -62,7 +62,7 @@ impl MemFile {
     /// Adds what fits of the piece, and answers whether all of it did.
     fn append(&mut self, piece: &[u8]) -> bool
         ensures fits { result ≡ nat_le (length self.old.bytes + length piece.now) self.old.room }
-        ensures added { self.new ≡ record self.old { bytes = self.old.bytes ++ take (self.old.room - length self.old.bytes) piece.now } }
+        ensures added { self.new ≡ with_piece piece.now self.old }
     {
         let left = self.room - self.bytes.len();
         let count = piece.len().min(left);
@@ -166,11 +166,10 @@ impl Files for MemFiles {
             × ((other : List ℕ) → self.new.append_faults ≡ self.old.append_faults)) }
 
         // Exactly what it does.
-        ensures succeeds { IsOk result ↔ ((¬ Contains self.old.failing self.old.calls) × IsSome (content_in self.old.files name.now)) }
-        ensures count { IfOk result (λ count. WhereKnown (content_in self.old.files name.now) (λ bytes. count ≡ min (length into.new) (length bytes - at))) }
-        ensures after { MatchResult result
-            (λ _. self.new ≡ record self.old { calls = counted self.old.calls })
-            (λ _. self.new ≡ record self.old { calls = counted self.old.calls; read_faults = counted self.old.read_faults }) }
+        ensures succeeds { is_ok result ≡ is_reached self.old name.now }
+        ensures count { IfOk result (λ count. WhereKnown (content_in self.old.files name.now)
+            (λ bytes. count ≡ min (length into.new) (length bytes - at))) }
+        ensures after { self.new ≡ after_read self.old name.now }
     {
         let failing = self.failing.contains(&self.calls);
         self.calls = self.calls.saturating_add(1);
@@ -188,8 +187,10 @@ impl Files for MemFiles {
     }
 
     fn start(&mut self, name: &str) -> Result<(), Failed>
-        ensures emptied { OnOk result (content_in self.new.files name.now ≡ emptied (content_in self.old.files name.now)) }
-        ensures stay { (other : List ℕ) → other ≢ name.now → content_in self.new.files other ≡ content_in self.old.files other }
+        ensures emptied { OnOk result
+            (content_in self.new.files name.now ≡ emptied (content_in self.old.files name.now)) }
+        ensures stay { (other : List ℕ) → other ≢ name.now
+            → content_in self.new.files other ≡ content_in self.old.files other }
         ensures cause { HasCause self.old.start_faults self.new.start_faults result }
         ensures reads { (other : List ℕ) → self.old.read_faults ≤ self.new.read_faults }
         ensures starts { (other : List ℕ) → self.old.start_faults ≤ self.new.start_faults }
@@ -199,8 +200,8 @@ impl Files for MemFiles {
             × ((other : List ℕ) → self.new.append_faults ≡ self.old.append_faults)) }
 
         // Exactly what it does.
-        ensures succeeds { IsOk result ↔ ((¬ Contains self.old.failing self.old.calls) × IsSome (content_in self.old.files name.now)) }
-        ensures unchanged { OnErr result (self.new ≡ record self.old { calls = counted self.old.calls; start_faults = counted self.old.start_faults }) }
+        ensures succeeds { is_ok result ≡ is_reached self.old name.now }
+        ensures after { self.new ≡ after_start self.old name.now }
     {
         let failing = self.failing.contains(&self.calls);
         self.calls = self.calls.saturating_add(1);
@@ -216,9 +217,12 @@ impl Files for MemFiles {
     }
 
     fn append(&mut self, name: &str, piece: &[u8]) -> Result<(), Failed>
-        ensures added { OnOk result (content_in self.new.files name.now ≡ appended (content_in self.old.files name.now) piece.now) }
-        ensures part { OnErr result ((count : ℕ) × (content_in self.new.files name.now ≡ appended (content_in self.old.files name.now) (take count piece.now))) }
-        ensures stay { (other : List ℕ) → other ≢ name.now → content_in self.new.files other ≡ content_in self.old.files other }
+        ensures added { OnOk result
+            (content_in self.new.files name.now ≡ appended (content_in self.old.files name.now) piece.now) }
+        ensures part { OnErr result ((count : ℕ) × (content_in self.new.files name.now
+            ≡ appended (content_in self.old.files name.now) (take count piece.now))) }
+        ensures stay { (other : List ℕ) → other ≢ name.now
+            → content_in self.new.files other ≡ content_in self.old.files other }
         ensures cause { HasCause self.old.append_faults self.new.append_faults result }
         ensures reads { (other : List ℕ) → self.old.read_faults ≤ self.new.read_faults }
         ensures starts { (other : List ℕ) → self.old.start_faults ≤ self.new.start_faults }
@@ -227,10 +231,9 @@ impl Files for MemFiles {
             × ((other : List ℕ) → self.new.start_faults ≡ self.old.start_faults)
             × ((other : List ℕ) → self.new.append_faults ≡ self.old.append_faults)) }
 
-        // Exactly when it fails.
-        ensures succeeds { IsOk result ↔ ((¬ Contains self.old.failing self.old.calls)
-            × IsSomeAnd (file_in self.old.files name.now) (λ file. length file.bytes + length piece.now ≤ file.room)) }
-        ensures refused { Contains self.old.failing self.old.calls ⊎ IsNone (file_in self.old.files name.now) → self.new.files ≡ self.old.files }
+        // Exactly what it does.
+        ensures succeeds { is_ok result ≡ is_added self.old name.now piece.now }
+        ensures after { self.new ≡ after_append self.old name.now piece.now }
     {
         let failing = self.failing.contains(&self.calls);
         self.calls = self.calls.saturating_add(1);
@@ -248,9 +251,11 @@ impl Files for MemFiles {
 
 /// Reads from the file of this name.
 fn read_from(files: &[MemFile], name: &str, at: u64, into: &mut [u8]) -> Option<usize>
-    ensures found { is_some result ≡ is_some (content_in files.now name.now) }
-    ensures piece { IfSome result (λ count. WhereKnown (content_in files.now name.now) (λ bytes. CopiesPiece bytes at into.new count)) }
-    ensures count { IfSome result (λ count. WhereKnown (content_in files.now name.now) (λ bytes. count ≡ min (length into.new) (length bytes - at))) }
+    ensures found { is_some result ≡ is_some (file_in files.now name.now) }
+    ensures piece { IfSome result (λ count.
+        WhereKnown (content_in files.now name.now) (λ bytes. CopiesPiece bytes at into.new count)) }
+    ensures count { IfSome result (λ count. WhereKnown (content_in files.now name.now)
+        (λ bytes. count ≡ min (length into.new) (length bytes - at))) }
     ensures within { IfSome result (λ count. count ≤ length into.new) }
 {
     match place_of(files, name) {
@@ -262,11 +267,11 @@ fn read_from(files: &[MemFile], name: &str, at: u64, into: &mut [u8]) -> Option<
     }
 }
 
-/// Empties the file of this name, if there is one.
+/// Empties the file of this name, and answers whether there is one.
 fn clear_in(files: &mut [MemFile], name: &str) -> bool
-    ensures found { result ≡ is_some (content_in files.old name.now) }
+    ensures found { result ≡ is_some (file_in files.old name.now) }
+    ensures changed { files.new ≡ changed without_bytes name.now files.old }
     ensures emptied { content_in files.new name.now ≡ emptied (content_in files.old name.now) }
-    ensures none { OnFalse result (files.new ≡ files.old) }
     ensures stay { OthersStay content_in files.old files.new name.now }
 {
     match place_of(files, name) {
@@ -281,10 +286,12 @@ fn clear_in(files: &mut [MemFile], name: &str) -> bool
 
 /// Adds what fits of the piece to the file of this name, and answers whether all of it did.
 fn append_in(files: &mut [MemFile], name: &str, piece: &[u8]) -> bool
-    ensures all { IsTrue result ↔ IsSomeAnd (file_in files.old name.now) (λ file. length file.bytes + length piece.now ≤ file.room) }
-    ensures added { OnTrue result (content_in files.new name.now ≡ appended (content_in files.old name.now) piece.now) }
-    ensures part { (count : ℕ) × (content_in files.new name.now ≡ appended (content_in files.old name.now) (take count piece.now)) }
-    ensures absent { IsNone (file_in files.old name.now) → files.new ≡ files.old }
+    ensures all { result ≡ has_room piece.now (file_in files.old name.now) }
+    ensures changed { files.new ≡ changed (with_piece piece.now) name.now files.old }
+    ensures added { OnTrue result
+        (content_in files.new name.now ≡ appended (content_in files.old name.now) piece.now) }
+    ensures part { (count : ℕ)
+        × (content_in files.new name.now ≡ appended (content_in files.old name.now) (take count piece.now)) }
     ensures stay { OthersStay content_in files.old files.new name.now }
 {
     match place_of(files, name) {

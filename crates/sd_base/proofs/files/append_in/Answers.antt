@@ -1,31 +1,24 @@
-use Rattle.std.proofs.Common.{rules, sym, ap}
-use Rattle.sd_base.proofs.FileLists.{content_in-set, content_in-set_other, file_in-none, joined, fits_is, joined_part}
+use Rattle.std.proofs.Common.{◌≡◌, refl, sym, ap, ◌∙◌, set, Some}
+use Rattle.sd_base.specs.Memory.{changed, with_piece, has_room, file_in}
+use Rattle.sd_base.proofs.FileLists.{file_in-at, file_in-none, set-position, changed-none, others-stay, with_piece-adds, with_piece-adds_part}
 use Rattle.sd_base.proofs.files.append_in.Goals as goal
 
-pub returns-in-Some-clause-all : goal.returns-in-Some-clause-all
-returns-in-Some-clause-all c =
-    let h = content_in-set c.args.files.now c.args.name.now c.in-Some.place c.index-files-place.result c.append.new.self (sym c.in-Some.ensures) c.index-files-place.is (rw c.append.ensures.added (sym (ap (λ f. f.name) c.index-files-place.is))) in
-    rw h.0 (fits_is _ _ _ _ c.index-files-place.is c.append.ensures.fits)
+pub returns-in-Some : goal.returns-in-Some
+returns-in-Some c =
+    let files = c.args.files.now in let name = c.args.name.now in let piece = c.args.piece.now in let file = c.index-files-place in let place = c.in-Some.place in
+    let is : set files place c.append.new.self ≡ changed (with_piece piece) name files = ap (set files place) (c.append.ensures.added ∙ ap (with_piece piece) (sym file.is)) ∙ set-position (with_piece piece) name files place file.result (sym c.in-Some.ensures) file.is in
+    let all : c.append.result ≡ has_room piece (file_in files name) = c.append.ensures.fits ∙ ap (λ f. has_room piece (Some f)) (sym file.is) ∙ sym (ap (has_room piece) (file_in-at files name place file.result (sym c.in-Some.ensures) file.is)) in
+    record {
+      all = all;
+      changed = is;
+      added = with_piece-adds files _ name piece c.append.result all is;
+      part = with_piece-adds_part files _ name piece is;
+      stay = others-stay files _ name (with_piece piece) (λ f. refl) is;
+    }
 
-pub returns-in-Some-clause-added : goal.returns-in-Some-clause-added
-returns-in-Some-clause-added c =
-    let h = content_in-set c.args.files.now c.args.name.now c.in-Some.place c.index-files-place.result c.append.new.self (sym c.in-Some.ensures) c.index-files-place.is (rw c.append.ensures.added (sym (ap (λ f. f.name) c.index-files-place.is))) in
-    rw (h.0, h.1) (joined _ _ _ _ _ c.index-files-place.is c.append.ensures.fits c.append.ensures.added)
-
-pub returns-in-Some-clause-part : goal.returns-in-Some-clause-part
-returns-in-Some-clause-part c =
-    let h = content_in-set c.args.files.now c.args.name.now c.in-Some.place c.index-files-place.result c.append.new.self (sym c.in-Some.ensures) c.index-files-place.is (rw c.append.ensures.added (sym (ap (λ f. f.name) c.index-files-place.is))) in
-    joined_part c.args.files.now _ c.args.name.now _ _ _ _ h.0 h.1 c.index-files-place.is c.append.ensures.added
-
-pub returns-in-Some-clause-stay : goal.returns-in-Some-clause-stay
-returns-in-Some-clause-stay c other differ =
-    content_in-set_other c.args.files.now c.args.name.now other c.in-Some.place c.index-files-place.result c.append.new.self (sym c.in-Some.ensures) c.index-files-place.is (rw c.append.ensures.added (sym (ap (λ f. f.name) c.index-files-place.is))) differ
-
-pub returns-in-None-clause-all : goal.returns-in-None-clause-all
-returns-in-None-clause-all c =
-    let h = file_in-none c.args.files.now c.args.name.now (sym c.in-None.ensures) in rw h (search rules)
-
-pub returns-in-Some-clause-absent : goal.returns-in-Some-clause-absent
-returns-in-Some-clause-absent c none =
-    let h = content_in-set c.args.files.now c.args.name.now c.in-Some.place c.index-files-place.result c.append.new.self (sym c.in-Some.ensures) c.index-files-place.is (rw c.append.ensures.added (sym (ap (λ f. f.name) c.index-files-place.is))) in
-    let never = rw h.0 at none in absurd (cc never)
+pub returns-in-None : goal.returns-in-None
+returns-in-None c =
+    let files = c.args.files.now in let name = c.args.name.now in let piece = c.args.piece.now in
+    let none = file_in-none files name (sym c.in-None.ensures) in
+    let is : files ≡ changed (with_piece piece) name files = sym (changed-none (with_piece piece) name files none) in
+    record { all = rw none refl; changed = is; added = tt; part = with_piece-adds_part files _ name piece is; stay = others-stay files _ name (with_piece piece) (λ f. refl) is }
