@@ -22,7 +22,8 @@ pattern abbrev pub SelectOf : Place → ExprKind → Place → ExprKind → Expr
 SelectOf p m q i = Select' tt (more_of-Expr p m end_of-Expr) tt (more_of-Expr q i end_of-Expr)
 
 pattern abbrev pub StoreOf : Place → ExprKind → Place → ExprKind → Place → ExprKind → ExprKind
-StoreOf p m q i r v = Store' tt (more_of-Expr p m end_of-Expr) tt (more_of-Expr q i end_of-Expr) tt (more_of-Expr r v end_of-Expr)
+StoreOf p m q i r v =
+    Store' tt (more_of-Expr p m end_of-Expr) tt (more_of-Expr q i end_of-Expr) tt (more_of-Expr r v end_of-Expr)
 
 abbrev pub names_of : List Var → List Text
 names_of = map (λ x. x.name)

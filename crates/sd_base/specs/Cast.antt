@@ -11,7 +11,8 @@ is_index_of _ _ = false
 
 abbrev pub are_entries : Sort → (Value → Bool) → Value → Entries → Bool
 are_entries i p d no_entry = true
-are_entries i p d (entry j v es) = is_index_of i j && (is_before j es && (p v && (not (same_value v d) && are_entries i p d es)))
+are_entries i p d (entry j v es) =
+    is_index_of i j && (is_before j es && (p v && (not (same_value v d) && are_entries i p d es)))
 
 abbrev pub has_sort : Sort → Value → Bool
 has_sort Int (Number a) = true

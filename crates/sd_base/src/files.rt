@@ -205,11 +205,7 @@ impl Files for MemFiles {
     {
         let failing = self.failing.contains(&self.calls);
         self.calls = self.calls.saturating_add(1);
-        if failing {
-            self.start_faults = self.start_faults.saturating_add(1);
-            return Err(Failed);
-        }
-        if !clear_in(&mut self.files, name) {
+        if failing || !clear_in(&mut self.files, name) {
             self.start_faults = self.start_faults.saturating_add(1);
             return Err(Failed);
         }
