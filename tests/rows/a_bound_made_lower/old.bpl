@@ -1,0 +1,1 @@
+procedure p(x: int) { assert x >= 1; }

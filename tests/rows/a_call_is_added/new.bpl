@@ -1,0 +1,2 @@
+procedure c(k: int) { assert k <= 10; }
+procedure p(x: int) { call c(x); }

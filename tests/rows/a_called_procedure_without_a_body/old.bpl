@@ -1,0 +1,1 @@
+procedure q(); procedure p() { call q(); }

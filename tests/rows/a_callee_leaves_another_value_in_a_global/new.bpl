@@ -1,0 +1,7 @@
+var g: int;
+procedure q()
+  modifies g;
+{ g := 2; }
+procedure p()
+  modifies g;
+{ call q(); assert g == 1; }

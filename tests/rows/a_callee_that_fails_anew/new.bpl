@@ -1,0 +1,1 @@
+procedure c() { assert false; } procedure p() { call c(); }

@@ -1,0 +1,1 @@
+procedure c() { assert true; } procedure p() { call c(); }

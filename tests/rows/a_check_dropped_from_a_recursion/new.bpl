@@ -1,0 +1,6 @@
+procedure down(n: int)
+{
+  if (n > 0) {
+    call down(n - 1);
+  }
+}

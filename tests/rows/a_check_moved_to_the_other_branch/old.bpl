@@ -1,0 +1,1 @@
+procedure p(a: bool, b: bool) { if (b) { assert a; } }

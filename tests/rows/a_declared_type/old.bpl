@@ -1,0 +1,1 @@
+type t; procedure p() { }

@@ -1,0 +1,1 @@
+procedure p() { call q(); } procedure q() { call r(); } procedure r() { }

@@ -1,0 +1,3 @@
+procedure p(x: int) returns (r: int)
+  free ensures r > x;
+{ r := x; }

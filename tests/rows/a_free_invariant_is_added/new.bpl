@@ -1,0 +1,10 @@
+procedure p(n: int)
+{
+  var i: int;
+  i := 0;
+  while (i < n)
+    free invariant i <= n;
+  {
+    i := i + 1;
+  }
+}

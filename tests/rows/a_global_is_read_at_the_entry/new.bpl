@@ -1,0 +1,1 @@
+var g: bool; procedure p() modifies g; { g := !g; assert old(g); }

@@ -1,0 +1,1 @@
+var g: bool; procedure p() modifies g; { assert g; g := !g; }

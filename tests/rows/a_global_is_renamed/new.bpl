@@ -1,0 +1,2 @@
+var h: int;
+procedure p() { assert h > 0; }

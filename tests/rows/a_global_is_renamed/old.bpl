@@ -1,0 +1,2 @@
+var g: int;
+procedure p() { assert g > 0; }

@@ -1,0 +1,1 @@
+var g: int; procedure p() { }

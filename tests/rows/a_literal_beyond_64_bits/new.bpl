@@ -1,0 +1,1 @@
+procedure p(x: int) { assert x <= 18446744073709551616; }

@@ -1,0 +1,1 @@
+procedure p(x: int) { var i: int; i := 0; while (i < x) { i := i; } assert x <= 9; }

@@ -1,0 +1,8 @@
+procedure fill(count: int, room: int)
+{
+  var done: int;
+  done := 0;
+  while (done < count) {
+    done := done + 1;
+  }
+}

@@ -1,0 +1,1 @@
+var m: [int]int; procedure p() { }

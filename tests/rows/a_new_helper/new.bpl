@@ -1,0 +1,1 @@
+procedure helper(b: bool) { } procedure f(b: bool) { call helper(b); assert b; }

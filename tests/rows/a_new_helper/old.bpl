@@ -1,0 +1,1 @@
+procedure f(b: bool) { assert b; }

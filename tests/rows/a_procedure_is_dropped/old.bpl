@@ -1,0 +1,2 @@
+procedure f() { }
+procedure p(b: bool) { assert b; }

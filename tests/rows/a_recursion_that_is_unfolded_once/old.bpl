@@ -1,0 +1,5 @@
+procedure down(n: int)
+{
+  assert n >= 0;
+  if (n > 0) { call down(n - 1); }
+}

@@ -1,0 +1,1 @@
+procedure p(b: bool) returns (r: bool) ensures r == b; { r := b; }

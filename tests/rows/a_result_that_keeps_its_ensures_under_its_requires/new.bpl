@@ -1,0 +1,1 @@
+procedure p(b: bool) returns (r: bool) requires b; ensures r == b; { r := true; }

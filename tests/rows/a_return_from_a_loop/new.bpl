@@ -1,0 +1,10 @@
+procedure p(n: int)
+{
+  var i: int;
+  i := 0;
+  while (i < n) {
+    if (i > 5) { break; }
+    i := i + 1;
+  }
+  assert n <= 5;
+}

@@ -1,0 +1,1 @@
+procedure p(x: int, y: int, z: int) { assert x + y < z; }

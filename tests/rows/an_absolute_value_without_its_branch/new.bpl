@@ -1,0 +1,4 @@
+procedure p(x: int) returns (y: int) {
+  y := x;
+  assert y >= 0;
+}

@@ -1,0 +1,1 @@
+procedure p(a: bool) { a := true; }

@@ -1,0 +1,1 @@
+procedure p(x: int) { assume x > 5; assert x > 5; }

@@ -1,0 +1,3 @@
+procedure p(x: int) returns (r: int)
+  ensures r >= 0;
+{ r := 0; if (x < 0) { r := -1; return; } r := 1; }

@@ -1,0 +1,3 @@
+procedure p(x: int) returns (r: int)
+  ensures r > x;
+{ r := x; if (r < 0) { r := 0; } }

@@ -1,0 +1,2 @@
+procedure p(x: int) returns (r: int)
+{ r := x; if (r < 0) { r := 0; } }

@@ -1,0 +1,5 @@
+var g: int;
+procedure p()
+  modifies g;
+  ensures g == old(g) + 1;
+{ g := g + 1; }

@@ -1,0 +1,1 @@
+procedure {:kept true} p(a: bool, b: bool) { assert !(a != b); }

@@ -1,0 +1,1 @@
+procedure p(b: bool); implementation p(c: bool) { assume c; assert c; }

@@ -1,0 +1,1 @@
+procedure p(a: bool, b: bool) { assert !b ==> !a; }

@@ -1,0 +1,1 @@
+procedure p(x: int, y: int) { assert x < y || x > y; }

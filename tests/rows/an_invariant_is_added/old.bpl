@@ -1,0 +1,9 @@
+procedure p(n: int)
+{
+  var i: int;
+  i := 0;
+  while (i < n)
+  {
+    i := i + 1;
+  }
+}

@@ -1,0 +1,3 @@
+procedure p(x: int)
+  requires x > 5;
+{ assert x > 5; }

@@ -1,0 +1,1 @@
+procedure p(a: bool, b: bool, c: bool) { assert a && b || c; }

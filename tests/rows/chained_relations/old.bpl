@@ -1,0 +1,1 @@
+procedure p(a: int) { assert 0 < a < 9; }

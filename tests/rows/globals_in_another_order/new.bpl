@@ -1,0 +1,3 @@
+var h: int;
+var g: int;
+procedure p() { assert h > g; }

@@ -1,0 +1,2 @@
+var g: int, h: int;
+procedure p() { assert g < h; }

@@ -1,0 +1,1 @@
+procedure p() { var a: int; var b: int; assert a == b; }

@@ -1,0 +1,11 @@
+var g: int;
+procedure p(n: int)
+  modifies g;
+{
+  g := g + 1;
+  while (g < n)
+    invariant !(g <= old(g));
+  {
+    g := g + 1;
+  }
+}

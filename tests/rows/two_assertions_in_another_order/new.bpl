@@ -1,0 +1,1 @@
+procedure p(c: bool, d: bool) { assert d; assert c; }
