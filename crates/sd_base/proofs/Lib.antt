@@ -1,6 +1,7 @@
 pub mod Lists
 pub mod Options
 pub mod Texts
+pub mod Places
 pub mod SortLemmas
 pub mod ValueLemmas
 pub mod MapLemmas

@@ -1,5 +1,7 @@
 pub mod Value
 pub mod Sorts
+pub mod Names
+pub mod FirstPlaces
 pub mod Cast
 pub mod Meaning
 pub mod Causes
