@@ -96,12 +96,10 @@ module _ (r : Partners) where
 
   mutual
     expr_made : (e : CoreExpr) → Reads r e → BecomesExpr r.globals e (rename_expr r e)
-    expr_made (Num m) w = refl
-    expr_made (Literal a) w = refl
     expr_made (At p) w = spot_made p w
-    expr_made (Const c) w = refl
     expr_made (Apply' f n es) w = (refl, row_made es w)
     expr_made (Op' o n es) w = (refl, row_made es w)
+    expr_made _ w = refl
 
     row_made : {n : _} (es : Row_of-CoreExpr n) → ReadRow r es → BecomeExprs r.globals es (items-the_row-CoreExpr n (rename_exprs r es))
     row_made end_of-CoreExpr w = tt
@@ -172,8 +170,7 @@ module _ (r : Partners) where
     stmt_made (If' c n x m y) w = (expr_made c w.0, stmts_made x w.1, stmts_made y w.2)
     stmt_made (Call ps q es) w = (spots_made ps w.1, partner_replaced r.procs q w.0, exprs_made es w.2)
     stmt_made (Assume c) w = expr_made c w
-    stmt_made Fail w = tt
-    stmt_made Return w = tt
+    stmt_made _ w = tt
 
     stmts_made : {n : _} (ks : Row_of-CoreStmt n) → SpeakRow r ks → BecomeStmts r ks (items-the_row-CoreStmt n (rename_row r ks))
     stmts_made end_of-CoreStmt w = tt

@@ -150,7 +150,7 @@ module _ (S : Source) (I : Interpretation) (p : CoreProc) (size width : ℕ) (in
     verdict_ends : (v : Verdict) (s : State) (st : Store Value) (outs : List Value) → TiedIn R F s st → outs ≡ outs_of p st → Ends (if_ensured v (Ended outs s.globals)) (after_verdict v st (Stops st false))
     verdict_ends Holds s st outs t e =
         let entry : set_all st.globals S.modifies (at_all st F.copies) ≡ globals =
-        sym (map-set_all (read nothing st) F.names.now S.modifies F.copies ∙ ap (λ gs. set_all gs S.modifies (at_all st F.copies)) (G.reads st t.shape.1)) ∙ (fixed_parts s st t).1 in
+        sym (map-set_all (read nothing st) F.names.globals S.modifies F.copies ∙ ap (λ gs. set_all gs S.modifies (at_all st F.copies)) (G.reads st t.shape.1)) ∙ (fixed_parts s st t).1 in
         (st.globals, ap (λ vs. CoreEnded vs st.globals false) (sym e), t.kept.globals ∙ ap (named (names_of S.globals)) (G.reads st t.shape.1), t.shape.1 ∙ sym far.same_size ∙ sym globals_long, (λ i h. sym (set_all-other st.globals S.modifies (at_all st F.copies) i h) ∙ ap (λ gs. get_or gs i nothing) entry))
     verdict_ends Fails s st outs t e = (outs_of p st, st.globals, refl)
     verdict_ends FreeFails s st outs t e = refl
@@ -203,13 +203,13 @@ module _ (S : Source) (I : Interpretation) (p : CoreProc) (size width : ℕ) (in
             let shape0 : HasShape size width st0 = (size0, wide) in
             let shape1 = write_all_shape size width st0 F.copies copies shape0 in
             let globals1 : st1.globals ≡ globals = globals_stay st0 F.copies copies (only_slots (body_copies S) S.copied) in
-            let now1 : at_all st1 F.names.now ≡ globals = G.reads st1 shape1.1 ∙ globals1 in
+            let now1 : at_all st1 F.names.globals ≡ globals = G.reads st1 shape1.1 ∙ globals1 in
             let copies1 : at_all st1 F.copies ≡ copies = written_all size width st0 F.copies copies shape0 far.copies_range far.copies_distinct (slots_length (body_copies S) S.copied ∙ far.copied_length ∙ sym (length-map S.modifies (λ i. get_or globals i nothing))) in
             let ins1 : at_all st1 F.ins ≡ ins = at_all-written st0 F.copies copies F.ins far.copies_ins ∙ ins0 in
             let state1 : at_all st1 F.state ≡ starts I (state_of S) = at_all-written st0 F.copies copies F.state far.copies_state ∙ state0 in
-            let entry1 : at_all st1 F.names.entry ≡ globals = map-set_all (read nothing st1) F.names.now S.modifies F.copies ∙ (λ i. set_all (now1 i) S.modifies (copies1 i)) ∙ set_all-own globals S.modifies in
+            let entry1 : at_all st1 F.names.entry ≡ globals = map-set_all (read nothing st1) F.names.globals S.modifies F.copies ∙ (λ i. set_all (now1 i) S.modifies (copies1 i)) ∙ set_all-own globals S.modifies in
             let values : starting I r.head.outs ++ starting I r.body.locals ≡ named (names_of (state_of S)) (starts I (state_of S)) = sym (map-append (λ v. (v.name, I.start v.sort)) r.head.outs r.body.locals) ∙ starting-named I (state_of S) in
-            let places1 : at_all st1 F.names.places ≡ ins ++ starts I (state_of S) = map-append (read nothing st1) F.ins F.state ∙ (λ i. ins1 i ++ state1 i) in
+            let places1 : at_all st1 F.names.locals ≡ ins ++ starts I (state_of S) = map-append (read nothing st1) F.ins F.state ∙ (λ i. ins1 i ++ state1 i) in
             let tied : TiedIn R F s st1 = record {
               kept = record {
                 locals = ap (λ t. named (names_of r.head.ins) ins ++ t) values ∙ sym (named-append (names_of r.head.ins) (names_of (state_of S)) ins (starts I (state_of S)) (length-map r.head.ins (λ v. v.name) ∙ sym ins_long)) ∙ ap (named (names_in S)) (sym places1);

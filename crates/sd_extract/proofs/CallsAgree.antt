@@ -30,8 +30,8 @@ use Rattle.sd_extract.proofs.Agree.{Room, TiedIn, CanSet, tied_set_all, Agrees}
 -- no spot of the body, so that writing there changes nothing
 pub record Hidden (R : Room) (N : Names) (p : Spot) : Type 0 where
   pub in_range : IsSpot R.size R.width p
-  pub not_place : Apart p N.places
-  pub not_now : Apart p N.now
+  pub not_local : Apart p N.locals
+  pub not_global : Apart p N.globals
   pub not_entry : Apart p N.entry
   pub not_fixed : Apart p R.fixed
 
@@ -42,9 +42,9 @@ AllHidden R N (p ∷ ps) = Hidden R N p × AllHidden R N ps
 pub tied_hidden : (R : Room) (F : Frame) (s : State) (st : Store Value) (p : Spot) (v : Value) → Hidden R F.names p → TiedIn R F s st → TiedIn R F s (write st p v)
 tied_hidden R F s st p v h t = record {
   kept = record {
-    locals = t.kept.locals ∙ ap (named F.names.locals) (sym (at_all-write st p v F.names.places h.not_place));
-    globals = t.kept.globals ∙ ap (named F.names.globals) (sym (at_all-write st p v F.names.now h.not_now));
-    entry = t.kept.entry ∙ ap (named F.names.globals) (sym (at_all-write st p v F.names.entry h.not_entry));
+    locals = t.kept.locals ∙ ap (named F.names.local_names) (sym (at_all-write st p v F.names.locals h.not_local));
+    globals = t.kept.globals ∙ ap (named F.names.global_names) (sym (at_all-write st p v F.names.globals h.not_global));
+    entry = t.kept.entry ∙ ap (named F.names.global_names) (sym (at_all-write st p v F.names.entry h.not_entry));
   };
   shape = write_shape R.size R.width st p v t.shape;
   same = at_all-write st p v R.fixed h.not_fixed ∙ t.same;
@@ -85,11 +85,11 @@ Outside ms [] = Unit {0}
 Outside ms (Slot i ∷ ps) = Outside ms ps
 Outside ms (Global i ∷ ps) = NotIn i ms × Outside ms ps
 
-pub at_all-taken : (ms : List ℕ) (st : Store Value) (gs : List Value) (ps : List Spot) → Keeps ms st.globals gs → Outside ms ps → at_all (record { slots = st.slots; globals = gs }) ps ≡ at_all st ps
-at_all-taken ms st gs [] k o = refl
-at_all-taken ms st gs (Slot i ∷ ps) k o = ap (λ vs. get_or st.slots i nothing ∷ vs) (at_all-taken ms st gs ps k o)
-at_all-taken ms st gs (Global i ∷ ps) k o =
-    let f = k i o.0 in let g = at_all-taken ms st gs ps k o.1 in λ j. f j ∷ g j
+pub at_all-kept : (ms : List ℕ) (st : Store Value) (gs : List Value) (ps : List Spot) → Keeps ms st.globals gs → Outside ms ps → at_all (record { slots = st.slots; globals = gs }) ps ≡ at_all st ps
+at_all-kept ms st gs [] k o = refl
+at_all-kept ms st gs (Slot i ∷ ps) k o = ap (λ vs. get_or st.slots i nothing ∷ vs) (at_all-kept ms st gs ps k o)
+at_all-kept ms st gs (Global i ∷ ps) k o =
+    let f = k i o.0 in let g = at_all-kept ms st gs ps k o.1 in λ j. f j ∷ g j
 
 -- ---- ends
 
@@ -114,15 +114,15 @@ pub record CallReady (T : Setting) (R : Room) (F : Frame) (at : Counts) (xs : Li
   pub in_range : AllSpots R.size R.width (slots_from at.args es)
   pub distinct : Distinct (slots_from at.args es)
   pub receivers : CanSet R F.names xs
-  pub places_kept : Outside (T.modifies f) F.names.places
+  pub places_kept : Outside (T.modifies f) F.names.locals
   pub entry_kept : Outside (T.modifies f) F.names.entry
   pub fixed_kept : Outside (T.modifies f) R.fixed
 
 -- the globals of a body are all globals, each at its number
 pub record HasGlobals (names : List Text) (R : Room) (N : Names) : Type 0 where
-  pub same_names : N.globals ≡ names
+  pub same_names : N.global_names ≡ names
   pub width : length names ≡ R.width
-  pub reads : (st : Store Value) → length st.globals ≡ R.width → at_all st N.now ≡ st.globals
+  pub reads : (st : Store Value) → length st.globals ≡ R.width → at_all st N.globals ≡ st.globals
 
 pub slots_length : {A : Type 0} (k : ℕ) (xs : List A) → length (slots_from k xs) ≡ length xs
 slots_length k [] = refl
@@ -134,23 +134,23 @@ map-At I st (p ∷ ps) = ap (λ vs. read nothing st p ∷ vs) (map-At I st ps)
 
 module _ (T : Setting) (I : Interpretation) (calls : Calls) (R : Room) (F : Frame) (G : HasGlobals T.globals R F.names) (laid : IsLaidOut F.names) where
   -- the globals of a call are taken over, and its outs received
-  taken : (ms : List ℕ) (s : State) (st : Store Value) (globals : Variables) (later : List Value) → globals ≡ named T.globals later → length later ≡ length st.globals → Keeps ms st.globals later → Outside ms F.names.places → Outside ms F.names.entry → Outside ms R.fixed → TiedIn R F s st → TiedIn R F (record s { globals = globals }) (record { slots = st.slots; globals = later })
-  taken ms s st globals later e l k places entry fixed t =
+  tied_globals : (ms : List ℕ) (s : State) (st : Store Value) (globals : Variables) (later : List Value) → globals ≡ named T.globals later → length later ≡ length st.globals → Keeps ms st.globals later → Outside ms F.names.locals → Outside ms F.names.entry → Outside ms R.fixed → TiedIn R F s st → TiedIn R F (record s { globals = globals }) (record { slots = st.slots; globals = later })
+  tied_globals ms s st globals later e l k places entry fixed t =
       let long : length later ≡ R.width = l ∙ t.shape.1 in
       record {
         kept = record {
-          locals = t.kept.locals ∙ ap (named F.names.locals) (sym (at_all-taken ms st later F.names.places k places));
+          locals = t.kept.locals ∙ ap (named F.names.local_names) (sym (at_all-kept ms st later F.names.locals k places));
           globals = e ∙ (λ i. named (sym G.same_names i) (sym (G.reads (record { slots = st.slots; globals = later }) long) i));
-          entry = t.kept.entry ∙ ap (named F.names.globals) (sym (at_all-taken ms st later F.names.entry k entry));
+          entry = t.kept.entry ∙ ap (named F.names.global_names) (sym (at_all-kept ms st later F.names.entry k entry));
         };
         shape = (t.shape.0, long);
-        same = at_all-taken ms st later R.fixed k fixed ∙ t.same;
+        same = at_all-kept ms st later R.fixed k fixed ∙ t.same;
       }
 
-  received_agree : (ms : List ℕ) (xs : List Text) (s : State) (st : Store Value) (o : Outcome) (e : End) → CanSet R F.names xs → Outside ms F.names.places → Outside ms F.names.entry → Outside ms R.fixed → TiedIn R F s st → SameEnds T.globals ms st.globals o e → Agrees I calls R F (received s xs o) (receive st (map (spot_of F.names) xs) e)
+  received_agree : (ms : List ℕ) (xs : List Text) (s : State) (st : Store Value) (o : Outcome) (e : End) → CanSet R F.names xs → Outside ms F.names.locals → Outside ms F.names.entry → Outside ms R.fixed → TiedIn R F s st → SameEnds T.globals ms st.globals o e → Agrees I calls R F (received s xs o) (receive st (map (spot_of F.names) xs) e)
   received_agree ms xs s st (Ended outs globals) e c places entry fixed t h =
       let after : Store Value = record { slots = st.slots; globals = h.0 } in
-      (write_all after (map (spot_of F.names) xs) outs, ap (receive st (map (spot_of F.names) xs)) h.1, tied_set_all R F laid xs outs (record s { globals = globals }) after c (taken ms s st globals h.0 h.2 h.3 h.4 places entry fixed t))
+      (write_all after (map (spot_of F.names) xs) outs, ap (receive st (map (spot_of F.names) xs)) h.1, tied_set_all R F laid xs outs (record s { globals = globals }) after c (tied_globals ms s st globals h.0 h.2 h.3 h.4 places entry fixed t))
   received_agree ms xs s st Failed e c places entry fixed t h =
       (write_all (record { slots = st.slots; globals = h.1 }) (map (spot_of F.names) xs) h.0, ap (receive st (map (spot_of F.names) xs)) h.2)
   received_agree ms xs s st Blocked e c places entry fixed t h = ap (receive st (map (spot_of F.names) xs)) h
@@ -164,7 +164,7 @@ module _ (T : Setting) (I : Interpretation) (calls : Calls) (R : Room) (F : Fram
     entry = t.kept.globals;
   }
 
-  called_agree : (lower : Option Level) → SameCalls T I lower calls → (xs : List Text) (f : Text) (p : Proc) (S : Source) (ins : List Value) (s : State) (st : Store Value) → procedure_in T.program.decls f ≡ Some p → T.source f ≡ Some S → length ins ≡ length p.head.ins → verdict I (before p ins s.globals) (requires_of p.specs) ≡ Holds → CanSet R F.names xs → Outside (T.modifies f) F.names.places → Outside (T.modifies f) F.names.entry → Outside (T.modifies f) R.fixed → TiedIn R F s st → Agrees I calls R F (called lower s xs f ins) (receive st (map (spot_of F.names) xs) (calls (T.number f) ins st.globals))
+  called_agree : (lower : Option Level) → SameCalls T I lower calls → (xs : List Text) (f : Text) (p : Proc) (S : Source) (ins : List Value) (s : State) (st : Store Value) → procedure_in T.program.decls f ≡ Some p → T.source f ≡ Some S → length ins ≡ length p.head.ins → verdict I (before p ins s.globals) (requires_of p.specs) ≡ Holds → CanSet R F.names xs → Outside (T.modifies f) F.names.locals → Outside (T.modifies f) F.names.entry → Outside (T.modifies f) R.fixed → TiedIn R F s st → Agrees I calls R F (called lower s xs f ins) (receive st (map (spot_of F.names) xs) (calls (T.number f) ins st.globals))
   called_agree None same xs f p S ins s st d b a v c places entry fixed t = ap (receive st (map (spot_of F.names) xs)) (same (T.number f) ins st.globals)
   called_agree (Some lower) same xs f p S ins s st d b a v c places entry fixed t =
       let now : s.globals ≡ named T.globals st.globals = t.kept.globals ∙ (λ i. named (G.same_names i) (G.reads st t.shape.1 i)) in
@@ -187,14 +187,14 @@ module _ (T : Setting) (I : Interpretation) (calls : Calls) (R : Room) (F : Fram
       let st1 = write_all st spots ins in
       let t1 = tied_hidden_all R F s st spots ins r.hidden t in
       let long : length spots ≡ length ins = slots_length at.args es ∙ sym (map-length_of es) in
-      let held : at_all st1 spots ≡ ins = written_all R.size R.width st spots ins t.shape r.in_range r.distinct long in
+      let args_at : at_all st1 spots ≡ ins = written_all R.size R.width st spots ins t.shape r.in_range r.distinct long in
       let clauses = requires_of p.specs in
       let last = core.Call (map (spot_of N) xs) (T.number f) (map (λ p. At p) spots) ∷ [] in
       let v = verdict I (before p ins s.globals) clauses in
       let received_at : run_all I calls last st1 ≡ receive st1 (map (spot_of N) xs) (calls (T.number f) ins st1.globals) =
-      run-one I calls (core.Call (map (spot_of N) xs) (T.number f) (map (λ p. At p) spots)) st1 ∙ ap (λ vs. receive st1 (map (spot_of N) xs) (calls (T.number f) vs st1.globals)) (map-At I st1 spots ∙ held) in
+      run-one I calls (core.Call (map (spot_of N) xs) (T.number f) (map (λ p. At p) spots)) st1 ∙ ap (λ vs. receive st1 (map (spot_of N) xs) (calls (T.number f) vs st1.globals)) (map-At I st1 spots ∙ args_at) in
       let runs : run_all I calls (call_of N T.number spots xs f es (Some p)) st ≡ after_verdict v st1 (receive st1 (map (spot_of N) xs) (calls (T.number f) ins st1.globals)) =
-      run-put I calls spots (cores N es) (map (check (on_args N p spots)) clauses ++ last) st ∙ ap (λ vs. run_all I calls (map (check (on_args N p spots)) clauses ++ last) (write_all st spots vs)) (sym args) ∙ run-clauses I calls (on_args N p spots) (before p ins s.globals) st1 (on_args_kept p s st1 spots ins held t1) clauses last ∙ ap (after_verdict v st1) received_at in
+      run-put I calls spots (cores N es) (map (check (on_args N p spots)) clauses ++ last) st ∙ ap (λ vs. run_all I calls (map (check (on_args N p spots)) clauses ++ last) (write_all st spots vs)) (sym args) ∙ run-clauses I calls (on_args N p spots) (before p ins s.globals) st1 (on_args_kept p s st1 spots ins args_at t1) clauses last ∙ ap (after_verdict v st1) received_at in
       let agree : Agrees I calls R F (if_holds v (called lower s xs f ins)) (after_verdict v st1 (receive st1 (map (spot_of N) xs) (calls (T.number f) ins st1.globals))) =
       after_requires v st1 (called lower s xs f ins) (receive st1 (map (spot_of N) xs) (calls (T.number f) ins st1.globals)) (λ h. called_agree lower same xs f p r.source ins s st1 r.declared r.is_source (map-length_of es ∙ r.arity) h r.receivers r.places_kept r.entry_kept r.fixed_kept t1) in
       let with_core = subst (Agrees I calls R F (if_holds v (called lower s xs f ins))) (sym runs) agree in

@@ -22,8 +22,8 @@ core-Apply N e f f' es es' cs is same got with =
     (λ i. Applied (same i) ((with ∙ ap (cores N) got) i))
     ∙ (sym (ap (λ (ds : List CoreExpr). Applied f ds) (row_cores N (hidden-the_row-Expr-0 es) ∙ ap (cores N) (items_hidden-the_row-Expr-0 es))) ∙ ap (core_of N) (sym is))
 
-pub core-Old : (N : Names) (e : ExprKind) (a a' : Expr) → e ≡ Old a → a' ≡ a → core_of (record N { now = N.entry }) a'.kind ≡ core_of N e
-core-Old N e a a' is got = ap (λ (x : Expr). core_of (record N { now = N.entry }) x.kind) got ∙ sym (ap (core_of N) (is ∙ old_is a))
+pub core-Old : (N : Names) (e : ExprKind) (a a' : Expr) → e ≡ Old a → a' ≡ a → core_of (record N { globals = N.entry }) a'.kind ≡ core_of N e
+core-Old N e a a' is got = ap (λ (x : Expr). core_of (record N { globals = N.entry }) x.kind) got ∙ sym (ap (core_of N) (is ∙ old_is a))
 
 pub core-Unary : (N : Names) (e : ExprKind) (o : UnOp) (a a' : Expr) (c : CoreExpr) → e ≡ Unary o a → a' ≡ a → c ≡ core_of N a'.kind → unary_of o c ≡ core_of N e
 core-Unary N e o a a' c is got with = ap (unary_of o) (with ∙ ap (λ (x : Expr). core_of N x.kind) got) ∙ sym (ap (core_of N) (is ∙ unary_is o a))

@@ -18,7 +18,7 @@ use Rattle.sd_core.specs.declared.CoreStmt as core
 use Rattle.sd_core.specs.Run.{slots_from}
 use Rattle.sd_extract.specs.Names.{Names, core_of}
 use Rattle.sd_extract.specs.Extract.{Counts, plus, counts, counts_all, counts_each, put, cores, spot_of, on_args, Frame, extracted, all_extracted, each_extracted}
-use Rattle.sd_extract.specs.Scopes.{slots_upto, taken, call_with, reached}
+use Rattle.sd_extract.specs.Scopes.{slots_upto, clause_stmt, call_with, reached}
 use Rattle.sd_extract.specs.Counted.{has_return_among}
 use Rattle.sd_extract.proofs.CodeLists.{kinds_next}
 use Rattle.sd_extract.proofs.CodeCounts.{hidden_kinds, counts_hidden, returns_hidden}
@@ -28,15 +28,15 @@ upto_from k [] = refl
 upto_from k (x ∷ xs) = ap (λ (ps : List Spot). Slot k ∷ ps) (upto_from (suc k) xs)
 
 pub call_made : (N : Names) (p : Proc) (number first : ℕ) (names : List Text) (args : List Expr) (o o' o'' whole : List CoreStmt) (spots copied s s' s'' outs : List Spot) (es ins : List CoreExpr)
-    → spots ≡ slots_upto first (length args) → copied ≡ s → s ≡ spots → es ≡ cores N args → o' ≡ o ++ put copied es → s' ≡ spots → o'' ≡ o' ++ map (taken (on_args N p s') false) (requires_of p.specs)
+    → spots ≡ slots_upto first (length args) → copied ≡ s → s ≡ spots → es ≡ cores N args → o' ≡ o ++ put copied es → s' ≡ spots → o'' ≡ o' ++ map (clause_stmt (on_args N p s') false) (requires_of p.specs)
     → outs ≡ map (spot_of N) names → s'' ≡ spots → ins ≡ map At s'' → whole ≡ o'' ++ Call outs number ins ∷ []
     → whole ≡ o ++ call_with N number (slots_from first args) names args p
 call_made N p number first names args o o' o'' whole spots copied s s' s'' outs es ins made copy same with putted same' checked received same'' read called =
     let is = made ∙ upto_from first args in
     let ps = slots_from first args in
-    let checks : List CoreStmt = map (taken (on_args N p ps) false) (requires_of p.specs) in
+    let checks : List CoreStmt = map (clause_stmt (on_args N p ps) false) (requires_of p.specs) in
     let first' : o' ≡ o ++ put ps (cores N args) = putted ∙ (λ i. o ++ put ((copy ∙ (same ∙ is)) i) (with i)) in
-    let second : o'' ≡ (o ++ put ps (cores N args)) ++ checks = checked ∙ (λ i. first' i ++ map (taken (on_args N p ((same' ∙ is) i)) false) (requires_of p.specs)) in
+    let second : o'' ≡ (o ++ put ps (cores N args)) ++ checks = checked ∙ (λ i. first' i ++ map (clause_stmt (on_args N p ((same' ∙ is) i)) false) (requires_of p.specs)) in
     let third : whole ≡ ((o ++ put ps (cores N args)) ++ checks) ++ Call (map (spot_of N) names) number (map At ps) ∷ [] =
     called ∙ (λ i. second i ++ Call (received i) number ((read ∙ ap (map At) (same'' ∙ is)) i) ∷ []) in
     third ∙ (append_assoc (o ++ put ps (cores N args)) checks _ ∙ append_assoc o (put ps (cores N args)) _)

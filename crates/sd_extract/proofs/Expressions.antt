@@ -9,7 +9,7 @@ use Rattle.sd_ast.specs.declared.UnOp.TheVariants as un
 use Rattle.sd_ast.specs.declared.ExprKind.{ExprKind, Num, Truth as Literal, Var, Apply', Row_of-Expr, end_of-Expr, more_of-Expr}
 use Rattle.sd_ast.specs.Tree.{OldOf, UnaryOf, BinaryOf, SelectOf, StoreOf}
 use Rattle.sd_base.specs.Meaning.{Interpretation}
-use Rattle.sd_meaning.specs.Evaluate.{State, held, variable, unary, binary, value, values}
+use Rattle.sd_meaning.specs.Evaluate.{State, value_of, variable, unary, binary, value, values}
 use Rattle.sd_base.specs.Meaning.{number_of, truth_of, index_of}
 use Rattle.sd_meaning.specs.Run.{named}
 use Rattle.sd_core.specs.declared.Spot.{Spot}
@@ -29,19 +29,19 @@ at_all st ps = map (read nothing st) ps
 
 -- each name is kept at its place, now and at the entry
 pub record Kept (N : Names) (s : State) (st : Store Value) : Type 0 where
-  pub locals : s.locals ≡ named N.locals (at_all st N.places)
-  pub globals : s.globals ≡ named N.globals (at_all st N.now)
-  pub entry : s.entry ≡ named N.globals (at_all st N.entry)
+  pub locals : s.locals ≡ named N.local_names (at_all st N.locals)
+  pub globals : s.globals ≡ named N.global_names (at_all st N.globals)
+  pub entry : s.entry ≡ named N.global_names (at_all st N.entry)
 
 -- ---- names
 
-pub held_named : (st : Store Value) (xs : List Text) (ps : List Spot) (y : Text) → held (named xs (at_all st ps)) y ≡ option_map (read nothing st) (place_in xs ps y)
-held_named st [] [] y = refl
-held_named st [] (p ∷ ps) y = refl
-held_named st (x ∷ xs) [] y = refl
-held_named st (x ∷ xs) (p ∷ ps) y = go (same_text y x) (held_named st xs ps y)
+pub value_of-named : (st : Store Value) (xs : List Text) (ps : List Spot) (y : Text) → value_of (named xs (at_all st ps)) y ≡ option_map (read nothing st) (place_in xs ps y)
+value_of-named st [] [] y = refl
+value_of-named st [] (p ∷ ps) y = refl
+value_of-named st (x ∷ xs) [] y = refl
+value_of-named st (x ∷ xs) (p ∷ ps) y = go (same_text y x) (value_of-named st xs ps y)
   where
-    go : (b : Bool) → held (named xs (at_all st ps)) y ≡ option_map (read nothing st) (place_in xs ps y) → (if b then Some (read nothing st p) else held (named xs (at_all st ps)) y) ≡ option_map (read nothing st) (if b then Some p else place_in xs ps y)
+    go : (b : Bool) → value_of (named xs (at_all st ps)) y ≡ option_map (read nothing st) (place_in xs ps y) → (if b then Some (read nothing st p) else value_of (named xs (at_all st ps)) y) ≡ option_map (read nothing st) (if b then Some p else place_in xs ps y)
     go true e = refl
     go false e = e
 
@@ -52,9 +52,9 @@ by_place I st x None None = refl
 
 pub variable_kept : (I : Interpretation) (N : Names) (s : State) (st : Store Value) → Kept N s st → (x : Text) → variable I s x ≡ value_in I st (at_place (place_of N x) x)
 variable_kept I N s st k x =
-    let e = ap (λ t. held t x) k.locals ∙ held_named st N.locals N.places x in
-    let f = ap (λ t. held t x) k.globals ∙ held_named st N.globals N.now x in
-    (λ i. unwrap_or (e i) (unwrap_or (f i) (I.constant x))) ∙ by_place I st x (place_in N.locals N.places x) (place_in N.globals N.now x)
+    let e = ap (λ t. value_of t x) k.locals ∙ value_of-named st N.local_names N.locals x in
+    let f = ap (λ t. value_of t x) k.globals ∙ value_of-named st N.global_names N.globals x in
+    (λ i. unwrap_or (e i) (unwrap_or (f i) (I.constant x))) ∙ by_place I st x (place_in N.local_names N.locals x) (place_in N.global_names N.globals x)
 
 -- ---- operators
 
@@ -113,7 +113,7 @@ module _ (I : Interpretation) (st : Store Value) where
     value_kept N s k (Var x) = variable_kept I N s st k x
     value_kept N s k (Apply' f shape args) = ap (I.apply f) (values_kept N s k args) ∙ sym (value-Apply I st f (cores_of N args))
     value_kept N s k (OldOf p e) =
-        value_kept (record N { now = N.entry }) (record s { globals = s.entry }) (record { locals = k.locals; globals = k.entry; entry = k.entry }) e
+        value_kept (record N { globals = N.entry }) (record s { globals = s.entry }) (record { locals = k.locals; globals = k.entry; entry = k.entry }) e
     value_kept N s k (UnaryOf o p a) = ap (unary o) (value_kept N s k a) ∙ value_unary I st o (core_of N a)
     value_kept N s k (BinaryOf o p a q b) =
         let f = value_kept N s k a in let g = value_kept N s k b in

@@ -8,7 +8,7 @@ use Rattle.sd_base.specs.declared.Var.{Var}
 use Rattle.sd_base.specs.Value.{Text, same_text, Value}
 use Rattle.sd_base.specs.Sorts.{MapOf}
 use Rattle.sd_ast.specs.Tree.{names_of}
-use Rattle.sd_meaning.specs.Evaluate.{Store, held}
+use Rattle.sd_meaning.specs.Evaluate.{Store, value_of}
 use Rattle.sd_meaning.specs.Run.{named}
 use Rattle.sd_meaning.specs.Inputs.{IsStoreOf}
 use Rattle.sd_core.specs.declared.Shared.{Shared}
@@ -67,7 +67,7 @@ contains_of n (y ∷ ys) x k s = elim s [
   | inr b ↦ let r = contains_of (suc n) ys x k b in (suc r.0, (let h = r.1 in omega arith), r.2)
 ]
 
--- ---- what is held
+-- ---- values of variables
 
 apart-sym : (s t : Text) → same_text s t ≡ false → same_text t s ≡ false
 apart-sym s t h = go (same_text t s) refl
@@ -91,18 +91,18 @@ passed : {A : Type 0} (b : Bool) (x y : A) → b ≡ false → (if b then x else
 passed true x y e = absurd (cc)
 passed false x y e = refl
 
-held_from : (xs : List Var) (vs whole : List Value) (n k : ℕ) (x : Var) → IsDistinct same_text (names_of xs) → length vs ≡ length xs → ((i : ℕ) → get_or whole (n + i) nothing ≡ get_or vs i nothing) → Stands n xs k x → held (named (names_of xs) vs) x.name ≡ Some (get_or whole k nothing)
+value_of-from : (xs : List Var) (vs whole : List Value) (n k : ℕ) (x : Var) → IsDistinct same_text (names_of xs) → length vs ≡ length xs → ((i : ℕ) → get_or whole (n + i) nothing ≡ get_or vs i nothing) → Stands n xs k x → value_of (named (names_of xs) vs) x.name ≡ Some (get_or whole k nothing)
 unfolding IsDistinct
-held_from [] vs whole n k x d l h s = absurd s
-held_from (y ∷ ys) [] whole n k x d l h s = absurd (omega arith)
-held_from (y ∷ ys) (v ∷ vs) whole n k x d l h s = elim s [
-  | inl e ↦ picked (same_text x.name y.name) (Some v) (held (named (names_of ys) vs) x.name) ((bytes_decides x.name y.name).1 (ap (λ (z : Var). z.name) (sym e.1))) ∙ ap Some (sym (h 0) ∙ ap (λ m. get_or whole m nothing) (let j : n + 0 ≡ k = omega arith in j))
-  | inr r ↦ passed (same_text x.name y.name) (Some v) (held (named (names_of ys) vs) x.name) (apart-sym y.name x.name (stands_apart (suc n) y.name ys k x d.0 r)) ∙ held_from ys vs whole (suc n) k x d.1 (omega arith) (λ i. ap (λ m. get_or whole m nothing) (let j : suc n + i ≡ n + suc i = omega arith in j) ∙ h (suc i)) r
+value_of-from [] vs whole n k x d l h s = absurd s
+value_of-from (y ∷ ys) [] whole n k x d l h s = absurd (omega arith)
+value_of-from (y ∷ ys) (v ∷ vs) whole n k x d l h s = elim s [
+  | inl e ↦ picked (same_text x.name y.name) (Some v) (value_of (named (names_of ys) vs) x.name) ((bytes_decides x.name y.name).1 (ap (λ (z : Var). z.name) (sym e.1))) ∙ ap Some (sym (h 0) ∙ ap (λ m. get_or whole m nothing) (let j : n + 0 ≡ k = omega arith in j))
+  | inr r ↦ passed (same_text x.name y.name) (Some v) (value_of (named (names_of ys) vs) x.name) (apart-sym y.name x.name (stands_apart (suc n) y.name ys k x d.0 r)) ∙ value_of-from ys vs whole (suc n) k x d.1 (omega arith) (λ i. ap (λ m. get_or whole m nothing) (let j : suc n + i ≡ n + suc i = omega arith in j) ∙ h (suc i)) r
 ]
 
 -- a global by its name is the one at its place
-pub held_at : (xs : List Var) (vs : List Value) (k : ℕ) (x : Var) → IsDistinct same_text (names_of xs) → length vs ≡ length xs → Stands 0 xs k x → held (named (names_of xs) vs) x.name ≡ Some (get_or vs k nothing)
-held_at xs vs k x d l s = held_from xs vs vs 0 k x d l (λ i. ap (λ m. get_or vs m nothing) (let j : 0 + i ≡ i = omega arith in j)) s
+pub value_of-at : (xs : List Var) (vs : List Value) (k : ℕ) (x : Var) → IsDistinct same_text (names_of xs) → length vs ≡ length xs → Stands 0 xs k x → value_of (named (names_of xs) vs) x.name ≡ Some (get_or vs k nothing)
+value_of-at xs vs k x d l s = value_of-from xs vs vs 0 k x d l (λ i. ap (λ m. get_or vs m nothing) (let j : 0 + i ≡ i = omega arith in j)) s
 
 -- ---- the same variable
 
@@ -184,7 +184,7 @@ some_is x y e = cc
 
 module _ (olds news : List Var) (vs vs' : List Value) (distinct : IsDistinct same_text (names_of olds)) (distinct' : IsDistinct same_text (names_of news)) (fit : length vs ≡ length olds) (fit' : length vs' ≡ length news) where
   abbrev pub ByName : Type 0
-  ByName = (x : Var) → Contains olds x → Contains news x → held (named (names_of olds) vs) x.name ≡ held (named (names_of news) vs') x.name
+  ByName = (x : Var) → Contains olds x → Contains news x → value_of (named (names_of olds) vs) x.name ≡ value_of (named (names_of news) vs') x.name
 
   abbrev pub ByPlace : Type 0
   ByPlace = AllByRecursion (λ s. get_or vs s.old nothing ≡ get_or vs' s.new nothing) (shared_of olds news)
@@ -193,7 +193,7 @@ module _ (olds news : List Var) (vs vs' : List Value) (distinct : IsDistinct sam
   by_place h = all_shared (λ s. get_or vs s.old nothing ≡ get_or vs' s.new nothing) news 0 olds (λ x i j s p.
       let t = place_stands 0 news x j p in
       some_is (get_or vs i nothing) (get_or vs' j nothing)
-      (sym (held_at olds vs i x distinct fit s) ∙ h x (contains_of 0 olds x i s) (contains_of 0 news x j t) ∙ held_at news vs' j x distinct' fit' t))
+      (sym (value_of-at olds vs i x distinct fit s) ∙ h x (contains_of 0 olds x i s) (contains_of 0 news x j t) ∙ value_of-at news vs' j x distinct' fit' t))
 
   pub by_name : ByPlace → ByName
   by_name h x a b =
@@ -201,4 +201,4 @@ module _ (olds news : List Var) (vs vs' : List Value) (distinct : IsDistinct sam
       let t = stands_of 0 news x b.0 b.1 b.2 in
       let p = stands_placed 0 news x t.0 t.1 in
       let q = place_stands 0 news x p.0 p.1 in
-      held_at olds vs s.0 x distinct fit s.1 ∙ ap Some (each_shared (λ s. get_or vs s.old nothing ≡ get_or vs' s.new nothing) news 0 olds h x s.0 p.0 s.1 p.1) ∙ sym (held_at news vs' p.0 x distinct' fit' q)
+      value_of-at olds vs s.0 x distinct fit s.1 ∙ ap Some (each_shared (λ s. get_or vs s.old nothing ≡ get_or vs' s.new nothing) news 0 olds h x s.0 p.0 s.1 p.1) ∙ sym (value_of-at news vs' p.0 x distinct' fit' q)

@@ -6,7 +6,7 @@ use Rattle.sd_base.specs.Value.{Text, Value}
 use Rattle.sd_base.specs.Meaning.{Meaning, interpretation}
 use Rattle.sd_ast.specs.declared.Program.{Program}
 use Rattle.sd_ast.specs.Tree.{names_of}
-use Rattle.sd_meaning.specs.Evaluate.{Store, held}
+use Rattle.sd_meaning.specs.Evaluate.{Store, value_of}
 use Rattle.sd_meaning.specs.Routine.{Routine, procedure_in, routine_named}
 use Rattle.sd_meaning.specs.Inputs.{HasSorts, in_sorts, globals_in, IsInput, SameInput}
 use Rattle.sd_meaning.specs.Run.{named, run}
@@ -88,7 +88,7 @@ module _ (runs : RunsAreKept) (procedures : ProceduresAreKept) where
         let same' = store_named (globals_in Q.decls) G' w.new_input.globals_typed in
         record {
           same_ins = w.same_ins;
-          same_globals = by_place (globals_in P.decls) (globals_in Q.decls) (values_in G) (values_in G') (formed P typed).global_names (formed Q typed').global_names (globals_fit P typed f r is (values_in G) (store_sorts (globals_in P.decls) G w.old_input.globals_typed)) (globals_fit Q typed' g s is' (values_in G') (store_sorts (globals_in Q.decls) G' w.new_input.globals_typed)) (λ x a b. ap (λ (S : Store). held S x.name) same ∙ w.same_globals x a b ∙ sym (ap (λ (S : Store). held S x.name) same'));
+          same_globals = by_place (globals_in P.decls) (globals_in Q.decls) (values_in G) (values_in G') (formed P typed).global_names (formed Q typed').global_names (globals_fit P typed f r is (values_in G) (store_sorts (globals_in P.decls) G w.old_input.globals_typed)) (globals_fit Q typed' g s is' (values_in G') (store_sorts (globals_in Q.decls) G' w.new_input.globals_typed)) (λ x a b. ap (λ (S : Store). value_of S x.name) same ∙ w.same_globals x a b ∙ sym (ap (λ (S : Store). value_of S x.name) same'));
         }
 
     into : NewFailure P Q f g → NewFailureOf (core_program P) (core_program Q) (number_of P f) (number_of Q g)

@@ -63,7 +63,7 @@ index_below (v ∷ vs) x j e = go (same_text x v.name) (index_in vs x) (index_be
     go false None h e = absurd (cc)
     go false (Some i) h e = let f : suc i ≡ j = cc in let g = h i refl in omega (arith, f, g)
 
-pub places_of : (S : Source) (a c : ℕ) (x : Text) → place_in (names_at S a c).locals (names_at S a c).places x ≡ either_place (option_map (λ j. Slot (0 + j)) (index_in S.routine.head.ins x)) (option_map (λ j. Slot (a + j)) (index_in (state_of S) x))
+pub places_of : (S : Source) (a c : ℕ) (x : Text) → place_in (names_at S a c).local_names (names_at S a c).locals x ≡ either_place (option_map (λ j. Slot (0 + j)) (index_in S.routine.head.ins x)) (option_map (λ j. Slot (a + j)) (index_in (state_of S) x))
 places_of S a c x =
     place_in-append (names_of S.routine.head.ins) (names_of (state_of S)) (slots_from 0 S.routine.head.ins) (slots_from a (state_of S)) x (length-map S.routine.head.ins (λ v. v.name) ∙ sym (slots_length 0 S.routine.head.ins)) ∙ (λ i. either_place (place_in-slots S.routine.head.ins 0 x i) (place_in-slots (state_of S) a x i))
 
@@ -98,10 +98,10 @@ module _ (S : Source) (a c : ℕ) (leave : List CoreStmt) (R : Room) (own : List
   local_set x h own_apart =
       let j = h.at in
       let below : j < length (state_of S) = index_below (state_of S) x j h.found in
-      let place : place_in N.locals N.places x ≡ Some (Slot (a + j)) = places_of S a c x ∙ (λ i. either_place (option_map (λ j. Slot (0 + j)) (h.not_in i)) (option_map (λ j. Slot (a + j)) (h.found i))) in
-      let found : place_of N x ≡ Some (Slot (a + j)) = ap (λ o. either_place o (place_in N.globals N.now x)) place in
+      let place : place_in N.local_names N.locals x ≡ Some (Slot (a + j)) = places_of S a c x ∙ (λ i. either_place (option_map (λ j. Slot (0 + j)) (h.not_in i)) (option_map (λ j. Slot (a + j)) (h.found i))) in
+      let found : place_of N x ≡ Some (Slot (a + j)) = ap (λ o. either_place o (place_in N.global_names N.globals x)) place in
       let copies = copies_apart j below in
-      let entry = apart_set_all (Slot (a + j)) N.now S.modifies (slots_from c S.copied) (apart_globals (a + j) 0 S.globals) copies in
+      let entry = apart_set_all (Slot (a + j)) N.globals S.modifies (slots_from c S.copied) (apart_globals (a + j) 0 S.globals) copies in
       let here : SetsAt R.size R.width N R.fixed x (Slot (a + j)) = record {
         found = found;
         in_range = omega (arith, below, room);
@@ -116,7 +116,7 @@ module _ (S : Source) (a c : ℕ) (leave : List CoreStmt) (R : Room) (own : List
       let j = 0 + h.at in
       let same : h.at ≡ j = omega arith in
       let below : h.at < length S.globals = index_below S.globals x h.at h.found in
-      let place : place_in N.locals N.places x ≡ None = places_of S a c x ∙ (λ i. either_place (option_map (λ j. Slot (0 + j)) (h.not_in i)) (option_map (λ j. Slot (a + j)) (h.not_local i))) in
+      let place : place_in N.local_names N.locals x ≡ None = places_of S a c x ∙ (λ i. either_place (option_map (λ j. Slot (0 + j)) (h.not_in i)) (option_map (λ j. Slot (a + j)) (h.not_local i))) in
       let found : place_of N x ≡ Some (Global j) = (λ i. either_place (place i) (place_in-globals S.globals 0 x i)) ∙ ap (λ o. option_map (λ j. Global (0 + j)) o) h.found in
       let modified : Among j S.modifies = subst (λ n. Among n S.modifies) same h.modified in
       let entry = apart_outside j S.modifies N.entry modified (entry_outside S a c copied) in

@@ -104,11 +104,11 @@ Reads F S C N = (x : Text) (v : Variable) → C.variable x ≡ Some v → HasCor
 -- What a context declares is there in the core, now and where the entry is kept, and its types are fit for maps.
 pub record Sees (F : List Function) (S : Store Sort) (C : Context) (N : Names) : Type 0 where
   pub variables : Reads F S C N
-  pub entry : C.old ≡ true → Reads F S C (record N { now = N.entry })
+  pub entry : C.old ≡ true → Reads F S C (record N { globals = N.entry })
   pub sorts : (x : Text) (v : Variable) → C.variable x ≡ Some v → IsSort v.sort
   pub functions : (f : Text) (sig : Signature) → C.function f ≡ Some sig → (g : Function) × (declared_as false F f ≡ Some g) × (g.args ≡ sig.args) × (g.result ≡ sig.result) × IsSort sig.result
 
-at_entry : (F : List Function) (S : Store Sort) (C : Context) (N : Names) → C.old ≡ true → Sees F S C N → Sees F S C (record N { now = N.entry })
+at_entry : (F : List Function) (S : Store Sort) (C : Context) (N : Names) → C.old ≡ true → Sees F S C N → Sees F S C (record N { globals = N.entry })
 at_entry F S C N old k =
     record { variables = k.entry old; entry = λ e. k.entry e; sorts = k.sorts; functions = k.functions }
 
@@ -151,7 +151,7 @@ module _ (F : List Function) (S : Store Sort) (C : Context) where
     core_typed N k (Apply' f shape args) s h =
         let g = k.functions f h.0 h.1 in
         subst (HasCoreType F S (Apply f (cores_of N args))) (g.3 ∙ h.3) (apply_typed F S f (cores_of N args) g.0 g.1 (subst (AllHaveTypes F S (cores_of N args)) (sym g.2) (cores_typed N k args h.0.args h.2)))
-    core_typed N k (OldOf p e) s h = core_typed (record N { now = N.entry }) (at_entry F S C N h.0 k) e s h.1
+    core_typed N k (OldOf p e) s h = core_typed (record N { globals = N.entry }) (at_entry F S C N h.0 k) e s h.1
     core_typed N k (UnaryOf o p a) s h = unary_typed F S o (core_of N a) h.0 s (core_typed N k a h.0 h.1) h.2
     core_typed N k (BinaryOf o p a q b) s h =
         binary_typed F S o (core_of N a) (core_of N b) h.0 h.1 s (core_typed N k a h.0 h.2) (core_typed N k b h.1 h.3) h.4

@@ -228,44 +228,44 @@ module _ (P : Program) (G : Scope) (typed : IsTyped P G) where
     pub now_laid : (T : Store Sort) → T.globals ≡ sorts_of globals → Laid T (globals_as P.decls) (names_of globals) (globals_from 0 globals)
     now_laid T e = laid_vars T nature.Global globals (globals_from 0 globals) (global_spots T globals e)
 
-    locals_laid : (T : Store Sort) (a c : ℕ) → Holds T.slots 0 (sorts_of r.head.ins) → Holds T.slots a (sorts_of (state_of S)) → Laid T locals (names_at S a c).locals (names_at S a c).places
+    locals_laid : (T : Store Sort) (a c : ℕ) → Holds T.slots 0 (sorts_of r.head.ins) → Holds T.slots a (sorts_of (state_of S)) → Laid T locals (names_at S a c).local_names (names_at S a c).locals
     locals_laid T a c h k =
         let ins = variables_as nature.Input r.head.ins in
         let outs = variables_as nature.Output r.head.outs in
         let own = variables_as nature.Local r.body.locals in
         let ins_at = spots_hold T 0 r.head.ins (sorts_of r.head.ins) (sorts_length r.head.ins) h in
         let state_at = spots_hold T a (state_of S) (sorts_of (state_of S)) (sorts_length (state_of S)) k in
-        subst (λ (es : List (Text × Variable)). Laid T es (names_at S a c).locals (names_at S a c).places) (sym (append_assoc ins outs own)) (laid_append T ins (outs ++ own) (names_of r.head.ins) (names_of (state_of S)) (slots_from 0 r.head.ins) (slots_from a (state_of S)) (laid_vars T nature.Input r.head.ins (slots_from 0 r.head.ins) ins_at) (laid_two T nature.Output nature.Local r.head.outs r.body.locals (slots_from a (state_of S)) state_at))
+        subst (λ (es : List (Text × Variable)). Laid T es (names_at S a c).local_names (names_at S a c).locals) (sym (append_assoc ins outs own)) (laid_append T ins (outs ++ own) (names_of r.head.ins) (names_of (state_of S)) (slots_from 0 r.head.ins) (slots_from a (state_of S)) (laid_vars T nature.Input r.head.ins (slots_from 0 r.head.ins) ins_at) (laid_two T nature.Output nature.Local r.head.outs r.body.locals (slots_from a (state_of S)) state_at))
 
-    locals_at : (T : Store Sort) (a c : ℕ) → Laid T locals (names_at S a c).locals (names_at S a c).places → LocalsAt T site.Body locals (names_at S a c)
+    locals_at : (T : Store Sort) (a c : ℕ) → Laid T locals (names_at S a c).local_names (names_at S a c).locals → LocalsAt T site.Body locals (names_at S a c)
     locals_at T a c laid = record {
-      found = λ x v e m. laid_found T locals (names_at S a c).locals (names_at S a c).places x v laid e;
-      absent = λ x e. laid_none T locals (names_at S a c).locals (names_at S a c).places x laid e;
+      found = λ x v e m. laid_found T locals (names_at S a c).local_names (names_at S a c).locals x v laid e;
+      absent = λ x e. laid_none T locals (names_at S a c).local_names (names_at S a c).locals x laid e;
       sorts = all_join (λ e. IsSort e.1.sort) (parameters r.head) (variables_as nature.Local r.body.locals) (all_join (λ e. IsSort e.1.sort) (variables_as nature.Input r.head.ins) (variables_as nature.Output r.head.outs) (sorts_as nature.Input r.head.ins fine.ins) (sorts_as nature.Output r.head.outs fine.outs)) (sorts_as nature.Local r.body.locals fine.locals);
     }
 
     separate : (a c : ℕ) → length r.head.ins ≤ a → Separate (names_at S a c)
     separate a c h = record {
-      places = two_apart 0 a r.head.ins (state_of S) (omega (arith, h));
-      now = globals_apart 0 globals;
-      slots = all_join IsSlot (slots_from 0 r.head.ins) (slots_from a (state_of S)) (all_slots 0 r.head.ins) (all_slots a (state_of S));
+      locals_apart = two_apart 0 a r.head.ins (state_of S) (omega (arith, h));
+      globals_apart = globals_apart 0 globals;
+      locals = all_join IsSlot (slots_from 0 r.head.ins) (slots_from a (state_of S)) (all_slots 0 r.head.ins) (all_slots a (state_of S));
       globals = all_global 0 globals;
     }
 
     abbrev Assigned : CoreProc → Names → Text → Variable → Type 0
     Assigned p N x v = (q : Spot) × (place_of N x ≡ Some q) × (sort_at (state_sorts K p) q ≡ Some v.sort) × Within p.modifies (q ∷ [])
 
-    assigned_global : (p : CoreProc) (a c : ℕ) → p.modifies ≡ S.modifies → (x : Text) (v : Variable) → place_in (names_at S a c).locals (names_at S a c).places x ≡ None → named G.globals x ≡ Some v → assigned_as R.modifies x v.nature ≡ Ok tt → Assigned p (names_at S a c) x v
+    assigned_global : (p : CoreProc) (a c : ℕ) → p.modifies ≡ S.modifies → (x : Text) (v : Variable) → place_in (names_at S a c).local_names (names_at S a c).locals x ≡ None → named G.globals x ≡ Some v → assigned_as R.modifies x v.nature ≡ Ok tt → Assigned p (names_at S a c) x v
     assigned_global p a c same x v none h ok =
         let T = state_sorts K p in
         let N = names_at S a c in
         let e : named (global_entries P.decls) x ≡ Some v = ap (λ (l : List (Text × Variable)). named l x) scope.globals ∙ h in
         ⊎_elim
-        (λ (g : v.nature ≡ nature.Global). let at = laid_found T (globals_as P.decls) N.globals N.now x v (now_laid T refl) (global_found P.decls x v e g) in
+        (λ (g : v.nature ≡ nature.Global). let at = laid_found T (globals_as P.decls) N.global_names N.globals x v (now_laid T refl) (global_found P.decls x v e g) in
         let i = global_spot globals x at.spot at.found in
         let allowed : assigned_as R.modifies x nature.Global ≡ Ok tt = subst (λ (n : Nature). assigned_as R.modifies x n ≡ Ok tt) g ok in
         let there = modifies_there globals r.declared.specs x i.0 i.1 (in_modifies (modifies_of r.declared.specs) x (is_among (modifies_of r.declared.specs) x) tt allowed) in
-        (at.spot, ap (λ (o : Option Spot). either_place o (place_in N.globals N.now x)) none ∙ at.found, at.sort, subst (λ (q : Spot). Within p.modifies (q ∷ [])) (sym i.2) (subst (λ (ms : List ℕ). Contains ms i.0) (sym same) there, tt)))
+        (at.spot, ap (λ (o : Option Spot). either_place o (place_in N.global_names N.globals x)) none ∙ at.found, at.sort, subst (λ (q : Spot). Within p.modifies (q ∷ [])) (sym i.2) (subst (λ (ms : List ℕ). Contains ms i.0) (sym same) there, tt)))
         (λ (k : v.nature ≡ nature.Constant). let refused : assigned_as R.modifies x nature.Constant ≡ Ok tt = subst (λ (n : Nature). assigned_as R.modifies x n ≡ Ok tt) k ok in
         absurd (not_read_only x tt refused))
         (is_outer P.decls x v e)
@@ -273,18 +273,18 @@ module _ (P : Program) (G : Scope) (typed : IsTyped P G) where
         not_read_only : (x : Text) (u : Unit {0}) → assigned_as R.modifies x nature.Constant ≡ Ok u → ⊥
         not_read_only x u h = cc
 
-    assigned : (p : CoreProc) (a c : ℕ) → p.modifies ≡ S.modifies → Laid (state_sorts K p) locals (names_at S a c).locals (names_at S a c).places → (x : Text) (v : Variable) → R.context.variable x ≡ Some v → assigned_as R.modifies x v.nature ≡ Ok tt → Assigned p (names_at S a c) x v
+    assigned : (p : CoreProc) (a c : ℕ) → p.modifies ≡ S.modifies → Laid (state_sorts K p) locals (names_at S a c).local_names (names_at S a c).locals → (x : Text) (v : Variable) → R.context.variable x ≡ Some v → assigned_as R.modifies x v.nature ≡ Ok tt → Assigned p (names_at S a c) x v
     assigned p a c same laid x v h ok =
         go (named locals x) refl (if_named-some site.Body (or_global (named locals x) (named G.globals x)) v h).0
       where
         go : (o : Option Variable) → named locals x ≡ o → or_global o (named G.globals x) ≡ Some v → Assigned p (names_at S a c) x v
         go (Some w) e j =
             let N = names_at S a c in
-            let at = laid_found (state_sorts K p) locals N.locals N.places x v laid (e ∙ j) in
-            let slot = place_has IsSlot N.locals N.places x at.spot (all_join IsSlot (slots_from 0 r.head.ins) (slots_from a (state_of S)) (all_slots 0 r.head.ins) (all_slots a (state_of S))) at.found in
-            (at.spot, ap (λ (o : Option Spot). either_place o (place_in N.globals N.now x)) at.found, at.sort, slot_is_within p.modifies at.spot slot)
+            let at = laid_found (state_sorts K p) locals N.local_names N.locals x v laid (e ∙ j) in
+            let slot = place_has IsSlot N.local_names N.locals x at.spot (all_join IsSlot (slots_from 0 r.head.ins) (slots_from a (state_of S)) (all_slots 0 r.head.ins) (all_slots a (state_of S))) at.found in
+            (at.spot, ap (λ (o : Option Spot). either_place o (place_in N.global_names N.globals x)) at.found, at.sort, slot_is_within p.modifies at.spot slot)
         go None e j =
-            assigned_global p a c same x v (laid_none (state_sorts K p) locals (names_at S a c).locals (names_at S a c).places x laid e) j ok
+            assigned_global p a c same x v (laid_none (state_sorts K p) locals (names_at S a c).local_names (names_at S a c).locals x laid e) j ok
 
     -- a frame whose slots hold the ins, the state and the copies
     pub frame_fits : (p : CoreProc) (a c first : ℕ) (leave : List CoreStmt) → p.modifies ≡ S.modifies → Holds (state_sorts K p).slots 0 (sorts_of r.head.ins) → Holds (state_sorts K p).slots a (sorts_of (state_of S)) → Holds (state_sorts K p).slots c (sorts_of S.copied) → length r.head.ins ≤ a → a + length (state_of S) ≤ first → Fits P number K p R (frame_at S a c leave) first (sorts_of r.head.ins) (sorts_of (state_of S)) (sorts_of S.copied)

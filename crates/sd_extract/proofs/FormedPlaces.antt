@@ -139,30 +139,30 @@ IsGlobalSpot (Global i) = Unit {0}
 
 -- Names of locals are at slots, each at its own, and those of globals at globals.
 pub record Separate (N : Names) : Type 0 where
-  pub places : AreApart N.places
-  pub now : AreApart N.now
-  pub slots : AllByRecursion IsSlot N.places
-  pub globals : AllByRecursion IsGlobalSpot N.now
+  pub locals_apart : AreApart N.locals
+  pub globals_apart : AreApart N.globals
+  pub locals : AllByRecursion IsSlot N.locals
+  pub globals : AllByRecursion IsGlobalSpot N.globals
 
 not_both : (q : Spot) → IsSlot q → IsGlobalSpot q → ⊥
 not_both (Slot i) a b = b
 not_both (Global i) a b = a
 
 pub place_one : (N : Names) → Separate N → (x y : Text) (q : Spot) → place_of N x ≡ Some q → place_of N y ≡ Some q → x ≡ y
-place_one N s x y q h k = go (place_in N.locals N.places x) (place_in N.locals N.places y) refl refl h k
+place_one N s x y q h k = go (place_in N.local_names N.locals x) (place_in N.local_names N.locals y) refl refl h k
   where
-    local : (w : Text) (p : Spot) → place_in N.locals N.places w ≡ Some p → p ≡ q → place_in N.locals N.places w ≡ Some q
+    local : (w : Text) (p : Spot) → place_in N.local_names N.locals w ≡ Some p → p ≡ q → place_in N.local_names N.locals w ≡ Some q
     local w p e f = e ∙ ap Some f
 
-    mixed : (v w : Text) → place_in N.locals N.places v ≡ Some q → place_in N.globals N.now w ≡ Some q → ⊥
-    mixed v w e f = not_both q (place_has IsSlot N.locals N.places v q s.slots e) (place_has IsGlobalSpot N.globals N.now w q s.globals f)
+    mixed : (v w : Text) → place_in N.local_names N.locals v ≡ Some q → place_in N.global_names N.globals w ≡ Some q → ⊥
+    mixed v w e f = not_both q (place_has IsSlot N.local_names N.locals v q s.locals e) (place_has IsGlobalSpot N.global_names N.globals w q s.globals f)
 
-    go : (a b : Option Spot) → place_in N.locals N.places x ≡ a → place_in N.locals N.places y ≡ b → either_place a (place_in N.globals N.now x) ≡ Some q → either_place b (place_in N.globals N.now y) ≡ Some q → x ≡ y
+    go : (a b : Option Spot) → place_in N.local_names N.locals x ≡ a → place_in N.local_names N.locals y ≡ b → either_place a (place_in N.global_names N.globals x) ≡ Some q → either_place b (place_in N.global_names N.globals y) ≡ Some q → x ≡ y
     go (Some a) (Some b) e f i j =
-        place_once N.locals N.places x y q s.places (local x a e (some_is _ _ i)) (local y b f (some_is _ _ j))
+        place_once N.local_names N.locals x y q s.locals_apart (local x a e (some_is _ _ i)) (local y b f (some_is _ _ j))
     go (Some a) None e f i j = absurd (mixed x y (local x a e (some_is _ _ i)) j)
     go None (Some b) e f i j = absurd (mixed y x (local y b f (some_is _ _ j)) i)
-    go None None e f i j = place_once N.globals N.now x y q s.now i j
+    go None None e f i j = place_once N.global_names N.globals x y q s.globals_apart i j
 
 -- ---- globals at their numbers and at the entry
 
@@ -246,8 +246,8 @@ sorts_as n (y ∷ vs) a = (a.0, sorts_as n vs a.1)
 
 -- the locals that a place may name are at their places
 pub record LocalsAt (T : Store Sort) (s : Site) (locals : List (Text × Variable)) (N : Names) : Type 0 where
-  pub found : (x : Text) (v : Variable) → named locals x ≡ Some v → may_name s v.nature ≡ true → PlaceFor T N.locals N.places x v.sort
-  pub absent : (x : Text) → named locals x ≡ None → place_in N.locals N.places x ≡ None
+  pub found : (x : Text) (v : Variable) → named locals x ≡ Some v → may_name s v.nature ≡ true → PlaceFor T N.local_names N.locals x v.sort
+  pub absent : (x : Text) → named locals x ≡ None → place_in N.local_names N.locals x ≡ None
   pub sorts : AllByRecursion (λ e. IsSort e.1.sort) locals
 
 pub if_named-some : (s : Site) (o : Option Variable) (v : Variable) → if_named s o ≡ Some v → (o ≡ Some v) × (may_name s v.nature ≡ true)
@@ -266,20 +266,20 @@ module _ (P : Program) (G : Scope) (scope : IsScope P G) where
   outer_named x v h = ap (λ (l : List (Text × Variable)). named l x) scope.globals ∙ h
 
   -- a name that is no local
-  outer_reads : (T : Store Sort) (N : Names) (x : Text) (v : Variable) → Laid T (globals_as P.decls) N.globals N.now → place_in N.locals N.places x ≡ None → named G.globals x ≡ Some v → HasCoreType F T (at_place (place_of N x) x) v.sort
+  outer_reads : (T : Store Sort) (N : Names) (x : Text) (v : Variable) → Laid T (globals_as P.decls) N.global_names N.globals → place_in N.local_names N.locals x ≡ None → named G.globals x ≡ Some v → HasCoreType F T (at_place (place_of N x) x) v.sort
   outer_reads T N x v laid none h =
       let e = outer_named x v h in
       ⊎_elim
-      (λ (g : v.nature ≡ nature.Global). let p = laid_found T (globals_as P.decls) N.globals N.now x v laid (global_found P.decls x v e g) in
-      let at : place_of N x ≡ Some p.spot = ap (λ (o : Option Spot). either_place o (place_in N.globals N.now x)) none ∙ p.found in
+      (λ (g : v.nature ≡ nature.Global). let p = laid_found T (globals_as P.decls) N.global_names N.globals x v laid (global_found P.decls x v e g) in
+      let at : place_of N x ≡ Some p.spot = ap (λ (o : Option Spot). either_place o (place_in N.global_names N.globals x)) none ∙ p.found in
       subst (λ (o : Option Spot). HasCoreType F T (at_place o x) v.sort) (sym at) p.sort)
       (λ (c : v.nature ≡ nature.Constant). let k = constant_found P.decls x v e c in
-      let away = laid_none T (globals_as P.decls) N.globals N.now x laid (constant_no_global P.decls x v scope.once e c) in
-      let at : place_of N x ≡ None = ap (λ (o : Option Spot). either_place o (place_in N.globals N.now x)) none ∙ away in
+      let away = laid_none T (globals_as P.decls) N.global_names N.globals x laid (constant_no_global P.decls x v scope.once e c) in
+      let at : place_of N x ≡ None = ap (λ (o : Option Spot). either_place o (place_in N.global_names N.globals x)) none ∙ away in
       subst (λ (o : Option Spot). HasCoreType F T (at_place o x) v.sort) (sym at) (k.function, k.found, k.result))
       (is_outer P.decls x v e)
 
-  reads : (T : Store Sort) (s : Site) (locals : List (Text × Variable)) (N : Names) → LocalsAt T s locals N → Laid T (globals_as P.decls) N.globals N.now → Reads F T (context G locals s) N
+  reads : (T : Store Sort) (s : Site) (locals : List (Text × Variable)) (N : Names) → LocalsAt T s locals N → Laid T (globals_as P.decls) N.global_names N.globals → Reads F T (context G locals s) N
   reads T s locals N at laid x v h =
       let k = if_named-some s (or_global (named locals x) (named G.globals x)) v h in
       go (named locals x) refl k.0 k.1
@@ -287,7 +287,7 @@ module _ (P : Program) (G : Scope) (scope : IsScope P G) where
       go : (o : Option Variable) → named locals x ≡ o → or_global o (named G.globals x) ≡ Some v → may_name s v.nature ≡ true → HasCoreType F T (at_place (place_of N x) x) v.sort
       go (Some w) e j m =
           let p = at.found x v (e ∙ j) m in
-          let here : place_of N x ≡ Some p.spot = ap (λ (o : Option Spot). either_place o (place_in N.globals N.now x)) p.found in
+          let here : place_of N x ≡ Some p.spot = ap (λ (o : Option Spot). either_place o (place_in N.global_names N.globals x)) p.found in
           subst (λ (o : Option Spot). HasCoreType F T (at_place o x) v.sort) (sym here) p.sort
       go None e j m = outer_reads T N x v laid (at.absent x e) j
 
@@ -299,10 +299,10 @@ module _ (P : Program) (G : Scope) (scope : IsScope P G) where
       go (Some w) e j = named_has (λ u. IsSort u.sort) locals x v sorts (e ∙ j)
       go None e j = named_has (λ u. IsSort u.sort) (global_entries P.decls) x v scope.global_sorts (outer_named x v j)
 
-  pub sees : (T : Store Sort) (s : Site) (locals : List (Text × Variable)) (N : Names) → LocalsAt T s locals N → Laid T (globals_as P.decls) N.globals N.now → (has_old s ≡ true → Laid T (globals_as P.decls) N.globals N.entry) → Sees F T (context G locals s) N
+  pub sees : (T : Store Sort) (s : Site) (locals : List (Text × Variable)) (N : Names) → LocalsAt T s locals N → Laid T (globals_as P.decls) N.global_names N.globals → (has_old s ≡ true → Laid T (globals_as P.decls) N.global_names N.entry) → Sees F T (context G locals s) N
   sees T s locals N at laid entry = record {
     variables = reads T s locals N at laid;
-    entry = λ e. reads T s locals (record N { now = N.entry }) (record { found = at.found; absent = at.absent; sorts = at.sorts }) (entry e);
+    entry = λ e. reads T s locals (record N { globals = N.entry }) (record { found = at.found; absent = at.absent; sorts = at.sorts }) (entry e);
     sorts = variable_sort s locals at.sorts;
     functions = λ f sig h. let e : named (function_entries P.decls) f ≡ Some sig = ap (λ (l : List (Text × Signature)). named l f) scope.functions ∙ h in
         let k = function_found P.decls f sig e in

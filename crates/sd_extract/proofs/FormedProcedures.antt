@@ -167,8 +167,8 @@ module _ (P : Program) (G : Scope) (typed : IsTyped P G) (global_sorts : AllByRe
       let outs_at = subst (AreSpotsOf T (slots_from n_ins r.head.outs)) fine.outs_sorts (spots_hold T n_ins r.head.outs outs (sorts_length r.head.outs) outs_held) in
       let laid = laid_append T (variables_as nature.Input d.ins) (variables_as nature.Output d.outs) (names_of d.ins) (names_of d.outs) (slots_from 0 r.head.ins) (slots_from n_ins r.head.outs) (laid_vars T nature.Input d.ins (slots_from 0 r.head.ins) ins_at) (laid_vars T nature.Output d.outs (slots_from n_ins r.head.outs) outs_at) in
       let at : LocalsAt T site.Ensures (parameters d) N = record {
-        found = λ x v o m. laid_found T (parameters d) N.locals N.places x v laid o;
-        absent = λ x o. laid_none T (parameters d) N.locals N.places x laid o;
+        found = λ x v o m. laid_found T (parameters d) N.local_names N.locals x v laid o;
+        absent = λ x o. laid_none T (parameters d) N.local_names N.locals x laid o;
         sorts = all_join (λ e. IsSort e.1.sort) (variables_as nature.Input d.ins) (variables_as nature.Output d.outs) (sorts_as nature.Input d.ins fine.declared.ins) (sorts_as nature.Output d.outs fine.declared.outs);
       } in
       sees P G (is_scope P G typed) T site.Ensures (parameters d) N at (now_laid P G typed f r is T e) (λ o. entry_laid P G typed f r is T (body_copies S) e c)

@@ -330,13 +330,13 @@ module _ (P : Program) (number : Text → ℕ) (K : CoreProgram) (p : CoreProc) 
       ap (λ (o : Option Proc). sorts_of (ins_of o)) k.is_declared ∙ k.ins
 
   call_formed : (l : ℕ) (xs : List Text) (f : Text) (es : List Expr) → Calls R xs f es → IsCallable R xs f → Holds T.slots l (arg_sorts P (Call xs f es)) → AllFormed K p (call_of N number (slots_from l es) xs f es (procedure_in P.decls f))
-  call_formed l xs f es h c held =
+  call_formed l xs f es h c slots_at =
       let k = call_at xs f es h c in
       let q = h.0 in
       let d = k.declared in
       let spots = slots_from l es in
       let long = have_length C es q.ins h.3 in
-      let args = slots_targets T ms l es q.ins long (subst (Holds T.slots l) (arg_sorts_are xs f es h c) held) in
+      let args = slots_targets T ms l es q.ins long (subst (Holds T.slots l) (arg_sorts_are xs f es h c) slots_at) in
       let stored_args = put_formed K p spots (cores N es) q.ins (list_cores_typed K.functions T C N fits.sees es q.ins h.3) args in
       let sees = fits.requires d spots k.known_ins k.known_outs (subst (AreSpotsOf T spots) (sym k.ins) args.sorts) in
       let checks = checks_formed K p (context R.scope (parameters d.head) site.Requires) (on_args N d spots) sees (requires_of d.specs) k.requires in
@@ -362,12 +362,12 @@ module _ (P : Program) (number : Text → ℕ) (K : CoreProgram) (p : CoreProc) 
 
   -- the spots that a loop's results go to
   pub with_left : (returns : Bool) (l : ℕ) → first ≤ l → Holds T.slots l (left_sort_if returns) → AreTargets T ms (F.state ++ (if returns then Slot l ∷ [] else [])) (state ++ left_sort_if returns)
-  with_left true l h held = record {
-    sorts = spots_append T F.state (Slot l ∷ []) state (BoolSort ∷ []) fits.state_at.sorts (held.0, refl);
+  with_left true l h slots_at = record {
+    sorts = spots_append T F.state (Slot l ∷ []) state (BoolSort ∷ []) fits.state_at.sorts (slots_at.0, refl);
     apart = apart_last F.state (Slot l) fits.state_at.apart (fits.hidden l h);
     within = within_append ms F.state (Slot l ∷ []) fits.state_at.within tt;
   }
-  with_left false l h held = record {
+  with_left false l h slots_at = record {
     sorts = spots_append T F.state [] state [] fits.state_at.sorts refl;
     apart = no_more F.state fits.state_at.apart;
     within = within_append ms F.state [] fits.state_at.within tt;
@@ -382,8 +382,8 @@ module _ (P : Program) (number : Text → ℕ) (K : CoreProgram) (p : CoreProc) 
       no_more (q ∷ ps) a = (all_more q ps a.0, no_more ps a.1)
 
   leave_formed : (returns : Bool) (l : ℕ) → (returns ≡ true → AllFormed K p F.leave) → Holds T.slots l (left_sort_if returns) → AllFormed K p (leave_if (if returns then Slot l ∷ [] else []) F.leave)
-  leave_formed true l leave held = (if_formed K p (At (Slot l)) F.leave [] held.0 (leave refl) tt, tt)
-  leave_formed false l leave held = tt
+  leave_formed true l leave slots_at = (if_formed K p (At (Slot l)) F.leave [] slots_at.0 (leave refl) tt, tt)
+  leave_formed false l leave slots_at = tt
 
   -- ---- all of them
 

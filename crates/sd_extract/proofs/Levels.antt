@@ -162,7 +162,7 @@ module _ (T : Setting) (procs : List CoreProc) (IsLoop : Source → ℕ → Stmt
       subst (SameEnds T.globals (T.modifies f) globals (if_assumed (verdict I (before d ins (named T.globals globals)) (requires_of d.specs)) ((level T.program I n).call f ins (named T.globals globals)))) (sym core_is) by_source
 
   loop_same : (n : ℕ) → Same n → (S : Source) (k : ℕ) (e : Expr) (invs : List Invariant) (shape : _) (body : Row_of-Stmt _) → IsLoop S k (While' e invs shape body) → (s : State) (ins state copies globals : List Value) → length ins ≡ length S.routine.head.ins → length copies ≡ length S.copied → IsState S s ins state copies globals → SameLoopEnds S (has_returns body) ins copies globals (step T.program I (Some (level T.program I n)) (While' e invs shape body) s) (calls_within I procs (suc n) k (ins ++ (state ++ copies)) globals)
-  loop_same n same S k e invs shape body is s ins state copies globals ins_long copies_long held =
+  loop_same n same S k e invs shape body is s ins state copies globals ins_long copies_long is_state =
       let loop = While' e invs shape body in
       let returns = has_returns body in
       let turn = kinds_in body in
@@ -188,16 +188,16 @@ module _ (T : Setting) (procs : List CoreProc) (IsLoop : Source → ℕ → Stmt
       let h = length-append S.routine.head.ins (state_of S ++ copies_of S) in
       let i = length-append (state_of S) (copies_of S) in
       let j : length (copies_of S) ≡ length S.copied = length-map {B = Var} S.copied (λ v. record { name = v.name ++ codes "@copy"; sort = v.sort }) in
-      let l = held.state_length in
+      let l = is_state.state_length in
       omega (arith, a, b, c, d, f, g, h, i, j, l, ins_long, copies_long) in
       let shift : (ins ++ (state ++ copies)) ++ rest ≡ ins ++ (state ++ (copies ++ rest)) = append_assoc ins (state ++ copies) rest ∙ ap (λ (vs : List Value). ins ++ vs) (append_assoc state copies rest) in
       let ins0 : at_all st0 H.ins ≡ ins = ap (λ (vs : List Value). at_all (record { slots = vs; globals = globals }) H.ins) shift ∙ read_middle [] ins (state ++ (copies ++ rest)) globals S.routine.head.ins 0 refl (sym ins_long) in
-      let olds0 : at_all st0 (slots_from (length S.routine.head.ins) (state_of S)) ≡ state = ap (λ (vs : List Value). at_all (record { slots = vs; globals = globals }) (slots_from (length S.routine.head.ins) (state_of S))) shift ∙ read_middle ins state (copies ++ rest) globals (state_of S) (length S.routine.head.ins) (sym ins_long) (sym held.state_length) in
-      let before_copies : body_copies S ≡ length (ins ++ state) = let a = length-append ins state in let l = held.state_length in omega (arith, a, l, ins_long) in
+      let olds0 : at_all st0 (slots_from (length S.routine.head.ins) (state_of S)) ≡ state = ap (λ (vs : List Value). at_all (record { slots = vs; globals = globals }) (slots_from (length S.routine.head.ins) (state_of S))) shift ∙ read_middle ins state (copies ++ rest) globals (state_of S) (length S.routine.head.ins) (sym ins_long) (sym is_state.state_length) in
+      let before_copies : body_copies S ≡ length (ins ++ state) = let a = length-append ins state in let l = is_state.state_length in omega (arith, a, l, ins_long) in
       let copies0 : at_all st0 H.copies ≡ copies = ap (λ (vs : List Value). at_all (record { slots = vs; globals = globals }) H.copies) (shift ∙ sym (append_assoc ins state (copies ++ rest))) ∙ read_middle (ins ++ state) copies rest globals S.copied (body_copies S) before_copies (sym copies_long) in
       let turn_agrees = frame_agrees T (IsLoop S) S I lower calls same.calls (same.loops S) (loop_state S) (body_copies S) H.leave TR ready.laid GT (with_names (names_of S.globals) T.globals TR H.names names GT) (λ st go. refl) (loop_start S k returns turn) turn ready.ready in
       let again = called_loop (IsLoop S) T S I lower calls (same.loops S) (loop_state S) (body_copies S) H.leave R (left_of S returns) G ready.spaced k loop is (spot_if-length returns (left_slot S)) in
-      let ends = loop_ends S I p returns (slots_of p) (length S.globals) ins copies globals G ready.spaced ready.outs ins_long copies_long T lower calls e (clauses_of invs) turn k loop turn_agrees again ready.left_hidden s state held size0 ins0 olds0 copies0 in
+      let ends = loop_ends S I p returns (slots_of p) (length S.globals) ins copies globals G ready.spaced ready.outs ins_long copies_long T lower calls e (clauses_of invs) turn k loop turn_agrees again ready.left_hidden s state is_state size0 ins0 olds0 copies0 in
       let core_end = end_of p (run_all I calls p.body st0) in
       let by_source = subst (λ (L : Level). SameLoopEnds S returns ins copies globals (reach I (Some L) e (clauses_of invs) turn loop s) core_end) (sym (level_is T.program I n)) ends in
       let core_is : calls_within I procs (suc n) k (ins ++ (state ++ copies)) globals ≡ core_end = ap (λ (o : Option CoreProc). run_number I calls o (ins ++ (state ++ copies)) globals) (stands.loop S k loop is) in
@@ -205,13 +205,13 @@ module _ (T : Setting) (procs : List CoreProc) (IsLoop : Source → ℕ → Stmt
 
   -- with no step left, each loop is unfinished on both sides
   loops_at_zero : (S : Source) → SameLoops (IsLoop S) T S I None (calls_within I procs 0)
-  loops_at_zero S k (While' e invs shape body) is s ins state copies globals a b held = refl
-  loops_at_zero S k _ is s ins state copies globals a b held = absurd (stands.is_while S k _ is)
+  loops_at_zero S k (While' e invs shape body) is s ins state copies globals a b is_state = refl
+  loops_at_zero S k _ is s ins state copies globals a b is_state = absurd (stands.is_while S k _ is)
 
   loops_above : (n : ℕ) → Same n → (S : Source) → SameLoops (IsLoop S) T S I (Some (level T.program I n)) (calls_within I procs (suc n))
-  loops_above n same S k (While' e invs shape body) is s ins state copies globals a b held =
-      loop_same n same S k e invs shape body is s ins state copies globals a b held
-  loops_above n same S k _ is s ins state copies globals a b held = absurd (stands.is_while S k _ is)
+  loops_above n same S k (While' e invs shape body) is s ins state copies globals a b is_state =
+      loop_same n same S k e invs shape body is s ins state copies globals a b is_state
+  loops_above n same S k _ is s ins state copies globals a b is_state = absurd (stands.is_while S k _ is)
 
   calls_above : (n : ℕ) → Same n → SameCalls T I (Some (level T.program I n)) (calls_within I procs (suc n))
   calls_above n same f d S e is ins globals a b holds =

@@ -91,7 +91,7 @@ module _ (S : Source) (I : Interpretation) (p : CoreProc) (returns : Bool) (size
         let two = split_front (at_all st H.ins) _ ins _ (at_all-length st H.ins ∙ slots_length 0 S.routine.head.ins ∙ sym ins_long) parts in
         let three = split_front (at_all st H.copies) _ copies _ (at_all-length st H.copies ∙ slots_length (body_copies S) S.copied ∙ sym copies_long) two.1 in
         let entry : set_all st.globals S.modifies (at_all st H.copies) ≡ set_all globals S.modifies copies =
-        sym (map-set_all (read nothing st) H.names.now S.modifies H.copies ∙ ap (λ gs. set_all gs S.modifies (at_all st H.copies)) (G.reads st t.shape.1)) ∙ three.1 in
+        sym (map-set_all (read nothing st) H.names.globals S.modifies H.copies ∙ ap (λ gs. set_all gs S.modifies (at_all st H.copies)) (G.reads st t.shape.1)) ∙ three.1 in
         let given : at_all st (out_spots p) ≡ at_all st H.state ++ left_values returns b =
         ap (at_all st) outs ∙ map-append (read nothing st) H.state left ∙ ap (λ vs. at_all st H.state ++ vs) l in
         let here : IsState S s (at_all st H.ins) (at_all st H.state) (at_all st H.copies) st.globals = state_of_tied S (loop_state S) (body_copies S) H.leave R left G far s st t in
@@ -159,7 +159,7 @@ module _ (S : Source) (I : Interpretation) (p : CoreProc) (returns : Bool) (size
       loop_ends s state is size0 ins0 olds0 copies0 =
           let st0 = enter I.start p (ins ++ (state ++ copies)) globals in
           let wide : length globals ≡ width = is.globals_length ∙ far.same_size in
-          let entry0 : at_all st0 H.names.entry ≡ set_all globals S.modifies copies = map-set_all (read nothing st0) H.names.now S.modifies H.copies ∙ (λ i. set_all (G.reads st0 wide i) S.modifies (copies0 i)) in
+          let entry0 : at_all st0 H.names.entry ≡ set_all globals S.modifies copies = map-set_all (read nothing st0) H.names.globals S.modifies H.copies ∙ (λ i. set_all (G.reads st0 wide i) S.modifies (copies0 i)) in
           let same0 : at_all st0 R.fixed ≡ R.values =
           map-append (read nothing st0) H.ins (H.copies ++ H.names.entry) ∙ (λ i. ins0 i ++ map-append (read nothing st0) H.copies H.names.entry i) ∙ (λ i. ins ++ (copies0 i ++ entry0 i)) in
           let is0 : IsState S s (at_all st0 H.ins) state (at_all st0 H.copies) globals = subst (λ cs. IsState S s (at_all st0 H.ins) state cs globals) (sym copies0) (subst (λ is. IsState S s is state copies globals) (sym ins0) is) in

@@ -23,7 +23,7 @@ use Rattle.sd_extract.proofs.Expressions.{at_all}
 use Rattle.sd_extract.proofs.Writes.{Apart, Distinct, HasShape, write_shape, at_all-write}
 use Rattle.sd_extract.proofs.Statements.{run-one, run-If}
 use Rattle.sd_extract.proofs.Agree.{Room, TiedIn, Agrees}
-use Rattle.sd_extract.proofs.CallsAgree.{Setting, AllSpots, written_all, Keeps, Outside, at_all-taken, HasGlobals, slots_length, map-At}
+use Rattle.sd_extract.proofs.CallsAgree.{Setting, AllSpots, written_all, Keeps, Outside, at_all-kept, HasGlobals, slots_length, map-At}
 
 -- ---- lists of spots
 
@@ -86,12 +86,12 @@ abbrev pub names_in : Source → List Text
 names_in S = names_of S.routine.head.ins ++ names_of (state_of S)
 
 -- A state as the values of the ins, the outs and locals, the copies and the globals.
-pub record IsState (S : Source) (s : State) (ins state copies globals : List Value) : Type 0 where
+pub record IsState (S : Source) (s : State) (ins state copies values : List Value) : Type 0 where
   pub locals : s.locals ≡ named (names_in S) (ins ++ state)
-  pub now : s.globals ≡ named (names_of S.globals) globals
-  pub entry : s.entry ≡ named (names_of S.globals) (set_all globals S.modifies copies)
+  pub globals : s.globals ≡ named (names_of S.globals) values
+  pub entry : s.entry ≡ named (names_of S.globals) (set_all values S.modifies copies)
   pub state_length : length state ≡ length (state_of S)
-  pub globals_length : length globals ≡ length S.globals
+  pub globals_length : length values ≡ length S.globals
 
 abbrev pub left_values : Bool → Bool → List Value
 left_values returns left = if returns then Truth left ∷ [] else []
@@ -152,8 +152,8 @@ module _ (S : Source) (a c : ℕ) (leave : List CoreStmt) (R : Room) (left : Lis
     pub state_of_tied : (s : State) (st : Store Value) → TiedIn R F s st → IsState S s (at_all st F.ins) (at_all st F.state) (at_all st F.copies) st.globals
     state_of_tied s st t = record {
       locals = t.kept.locals ∙ ap (named (names_in S)) (map-append (read nothing st) F.ins F.state);
-      now = t.kept.globals ∙ ap (named (names_of S.globals)) (G.reads st t.shape.1);
-      entry = t.kept.entry ∙ ap (named (names_of S.globals)) (map-set_all (read nothing st) F.names.now S.modifies F.copies ∙ ap (λ gs. set_all gs S.modifies (at_all st F.copies)) (G.reads st t.shape.1));
+      globals = t.kept.globals ∙ ap (named (names_of S.globals)) (G.reads st t.shape.1);
+      entry = t.kept.entry ∙ ap (named (names_of S.globals)) (map-set_all (read nothing st) F.names.globals S.modifies F.copies ∙ ap (λ gs. set_all gs S.modifies (at_all st F.copies)) (G.reads st t.shape.1));
       state_length = at_all-length st F.state ∙ slots_length a (state_of S);
       globals_length = t.shape.1 ∙ sym far.same_size;
     }
@@ -171,17 +171,17 @@ module _ (S : Source) (a c : ℕ) (leave : List CoreStmt) (R : Room) (left : Lis
         let state2 : at_all st2 F.state ≡ state = at_all-written st1 left lefts F.state far.left_state ∙ state1 in
         let ins2 : at_all st2 F.ins ≡ at_all st F.ins = at_all-written st1 left lefts F.ins far.left_ins ∙ at_all-written mid F.state state F.ins far.state_ins ∙ at_slots st later F.ins (only_slots 0 S.routine.head.ins) in
         let copies2 : at_all st2 F.copies ≡ at_all st F.copies = at_all-written st1 left lefts F.copies far.left_copies ∙ at_all-written mid F.state state F.copies far.state_copies ∙ at_slots st later F.copies (only_slots c S.copied) in
-        let fixed2 : at_all st2 R.fixed ≡ R.values = at_all-written st1 left lefts R.fixed far.left_fixed ∙ at_all-written mid F.state state R.fixed far.state_fixed ∙ at_all-taken S.modifies st later R.fixed keeps far.fixed_kept ∙ same in
+        let fixed2 : at_all st2 R.fixed ≡ R.values = at_all-written st1 left lefts R.fixed far.left_fixed ∙ at_all-written mid F.state state R.fixed far.state_fixed ∙ at_all-kept S.modifies st later R.fixed keeps far.fixed_kept ∙ same in
         let globals2 : st2.globals ≡ later = globals_stay st1 left lefts far.left_slots ∙ globals_stay mid F.state state (only_slots a (state_of S)) in
         let shape2 = write_all_shape R.size R.width st1 left lefts shape1 in
-        let now2 : at_all st2 F.names.now ≡ later = G.reads st2 shape2.1 ∙ globals2 in
-        let places2 : at_all st2 F.names.places ≡ at_all st F.ins ++ state = map-append (read nothing st2) F.ins F.state ∙ (λ i. ins2 i ++ state2 i) in
-        let entry2 : at_all st2 F.names.entry ≡ set_all later S.modifies (at_all st F.copies) = map-set_all (read nothing st2) F.names.now S.modifies F.copies ∙ (λ i. set_all (now2 i) S.modifies (copies2 i)) in
+        let now2 : at_all st2 F.names.globals ≡ later = G.reads st2 shape2.1 ∙ globals2 in
+        let places2 : at_all st2 F.names.locals ≡ at_all st F.ins ++ state = map-append (read nothing st2) F.ins F.state ∙ (λ i. ins2 i ++ state2 i) in
+        let entry2 : at_all st2 F.names.entry ≡ set_all later S.modifies (at_all st F.copies) = map-set_all (read nothing st2) F.names.globals S.modifies F.copies ∙ (λ i. set_all (now2 i) S.modifies (copies2 i)) in
         record {
           tied = record {
             kept = record {
               locals = is.locals ∙ ap (named (names_in S)) (sym places2);
-              globals = is.now ∙ ap (named (names_of S.globals)) (sym now2);
+              globals = is.globals ∙ ap (named (names_of S.globals)) (sym now2);
               entry = is.entry ∙ ap (named (names_of S.globals)) (sym entry2);
             };
             shape = shape2;

@@ -111,7 +111,7 @@ mutual
   core-numberless N (Truth b) h = tt
   core-numberless N (Var x) h = at_place-numberless (place_of N x) x
   core-numberless N (Apply' f shape args) h = numberless-Apply f (cores_of N args) (cores-numberless N args h)
-  core-numberless N (OldOf p e) h = core-numberless (record N { now = N.entry }) e h
+  core-numberless N (OldOf p e) h = core-numberless (record N { globals = N.entry }) e h
   core-numberless N (UnaryOf o p a) h = unary-numberless o (core_of N a) (core-numberless N a h)
   core-numberless N (BinaryOf o p a q b) h = binary-numberless o (core_of N a) (core_of N b) (core-numberless N a h.0) (core-numberless N b h.1)
   core-numberless N (SelectOf p m q i) h = two op.Read (core_of N m) (core_of N i) (core-numberless N m h.0) (core-numberless N i h.1)

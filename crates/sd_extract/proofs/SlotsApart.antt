@@ -188,8 +188,8 @@ has_globals S a c R e = record {
 
 pub laid_out : (S : Source) (a c : ℕ) → length S.routine.head.ins ≤ a → IsLaidOut (names_at S a c)
 laid_out S a c h = record {
-  places = distinct_append (slots_from 0 S.routine.head.ins) (slots_from a (state_of S)) (distinct_slots 0 S.routine.head.ins) (distinct_slots a (state_of S)) (all_before 0 a S.routine.head.ins (state_of S) (omega (arith, h)));
-  now = distinct_globals 0 S.globals;
+  locals = distinct_append (slots_from 0 S.routine.head.ins) (slots_from a (state_of S)) (distinct_slots 0 S.routine.head.ins) (distinct_slots a (state_of S)) (all_before 0 a S.routine.head.ins (state_of S) (omega (arith, h)));
+  globals = distinct_globals 0 S.globals;
 }
 
 -- spots that every frame of a source knows: its ins, its copies and the globals at the entry
@@ -200,7 +200,7 @@ known F = F.ins ++ (F.copies ++ F.names.entry)
 all_known : {A : Type 0} (S : Source) (a c l : ℕ) (leave : List CoreStmt) (xs : List A) → length S.routine.head.ins ≤ l → AllApart (slots_from l xs) (slots_from c S.copied) → AllApart (slots_from l xs) (known (frame_at S a c leave))
 all_known S a c l leave xs h copies =
     let F = frame_at S a c leave in
-    all_append (slots_from l xs) F.ins (F.copies ++ F.names.entry) (all_after l 0 xs S.routine.head.ins (omega (arith, h))) (all_append (slots_from l xs) F.copies F.names.entry copies (all_set_all (slots_from l xs) F.names.now S.modifies F.copies (all_globals l 0 xs S.globals) copies))
+    all_append (slots_from l xs) F.ins (F.copies ++ F.names.entry) (all_after l 0 xs S.routine.head.ins (omega (arith, h))) (all_append (slots_from l xs) F.copies F.names.entry copies (all_set_all (slots_from l xs) F.names.globals S.modifies F.copies (all_globals l 0 xs S.globals) copies))
 
 -- A frame of a source, with slots for `left` past all of its own. Its room fixes the known spots, and `own`.
 pub frame_spaced : {A : Type 0} (S : Source) (a c : ℕ) (leave : List CoreStmt) (R : Room) (own : List Spot) (l : ℕ) (xs : List A) → length S.routine.head.ins ≤ a → AllApart (slots_from a (state_of S)) (slots_from c S.copied) → c + length S.copied ≤ l → a + length (state_of S) ≤ l → l + length xs ≤ R.size → length S.globals ≡ R.width → length S.copied ≡ length S.modifies → R.fixed ≡ own ++ known (frame_at S a c leave) → AllApart (slots_from a (state_of S)) own → AllApart (slots_from l xs) own → Outside S.modifies own → Spaced S R (frame_at S a c leave) (slots_from l xs)
@@ -231,11 +231,11 @@ slot_hidden S a c leave R own l ha hc hs hl fixed left_own =
     let F = frame_at S a c leave in
     let ins = apart_above l 0 S.routine.head.ins (omega (arith, ha, hs)) in
     let copies = apart_above l c S.copied hc in
-    let entry = apart_set_all (Slot l) F.names.now S.modifies F.copies (apart_globals l 0 S.globals) copies in
+    let entry = apart_set_all (Slot l) F.names.globals S.modifies F.copies (apart_globals l 0 S.globals) copies in
     record {
       in_range = hl;
-      not_place = apart_append (Slot l) F.ins F.state ins (apart_above l a (state_of S) hs);
-      not_now = apart_globals l 0 S.globals;
+      not_local = apart_append (Slot l) F.ins F.state ins (apart_above l a (state_of S) hs);
+      not_global = apart_globals l 0 S.globals;
       not_entry = entry;
       not_fixed = subst (Apart (Slot l)) (sym fixed) (apart_append (Slot l) own (known F) left_own (apart_append (Slot l) F.ins (F.copies ++ F.names.entry) ins (apart_append (Slot l) F.copies F.names.entry copies entry)));
     }

@@ -121,7 +121,13 @@ all_stored N _ _ = []
 
 -- the callee's parameters in the hidden locals that hold the arguments
 abbrev pub on_args : Names → Proc → List Spot → Names
-on_args N p spots = record { locals = names_of p.head.ins; places = spots; globals = N.globals; now = N.now; entry = N.now }
+on_args N p spots = record {
+  local_names = names_of p.head.ins;
+  locals = spots;
+  global_names = N.global_names;
+  globals = N.globals;
+  entry = N.globals;
+}
 
 abbrev pub call_of : Names → (Text → ℕ) → List Spot → List Text → Text → List Expr → Option Proc → List CoreStmt
 call_of N number spots xs f es None = []
@@ -232,13 +238,13 @@ globals_from k (x ∷ xs) = Global k ∷ globals_from (suc k) xs
 -- names, where the state and the copies begin at these slots
 abbrev pub names_at : Source → (state copies : ℕ) → Names
 names_at S state copies =
-    let now = globals_from 0 S.globals in
+    let globals = globals_from 0 S.globals in
     record {
-      locals = names_of S.routine.head.ins ++ names_of (state_of S);
-      places = slots_from 0 S.routine.head.ins ++ slots_from state (state_of S);
-      globals = names_of S.globals;
-      now = now;
-      entry = set_all now S.modifies (slots_from copies S.copied);
+      local_names = names_of S.routine.head.ins ++ names_of (state_of S);
+      locals = slots_from 0 S.routine.head.ins ++ slots_from state (state_of S);
+      global_names = names_of S.globals;
+      globals = globals;
+      entry = set_all globals S.modifies (slots_from copies S.copied);
     }
 
 abbrev pub frame_at : Source → (state copies : ℕ) → List CoreStmt → Frame
@@ -257,10 +263,10 @@ body_copies S = length S.routine.head.ins + length (state_of S)
 -- the names of `ensures`, which are those of the declaration
 abbrev pub contract : Source → Names
 contract S = record {
-  locals = names_of S.routine.declared.head.ins ++ names_of S.routine.declared.head.outs;
-  places = slots_from 0 S.routine.head.ins ++ slots_from (length S.routine.head.ins) S.routine.head.outs;
-  globals = names_of S.globals;
-  now = globals_from 0 S.globals;
+  local_names = names_of S.routine.declared.head.ins ++ names_of S.routine.declared.head.outs;
+  locals = slots_from 0 S.routine.head.ins ++ slots_from (length S.routine.head.ins) S.routine.head.outs;
+  global_names = names_of S.globals;
+  globals = globals_from 0 S.globals;
   entry = (names_at S (length S.routine.head.ins) (body_copies S)).entry;
 }
 

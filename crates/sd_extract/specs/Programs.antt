@@ -31,7 +31,7 @@ axioms_in (_ ∷ ds) = axioms_in ds
 
 -- axioms name no variables
 abbrev pub no_names : Names
-no_names = record { locals = []; places = []; globals = []; now = []; entry = [] }
+no_names = record { local_names = []; locals = []; global_names = []; globals = []; entry = [] }
 
 abbrev pub core_axiom : Expr → CoreExpr
 core_axiom e = core_of no_names e.kind

@@ -23,16 +23,16 @@ use Rattle.sd_extract.specs.Extract.{Counts, Frame, put, checked, check, cores, 
 
 abbrev pub names_in : Scope → Names
 names_in s = record {
+  local_names = s.local_names.now;
   locals = s.locals.now;
-  places = s.places.now;
+  global_names = s.global_names.now;
   globals = s.globals.now;
-  now = s.current.now;
-  entry = s.first.now;
+  entry = s.entry.now;
 }
 
 -- a clause, which is only assumed where it is free or where all are
-abbrev pub taken : Names → Bool → Clause → CoreStmt
-taken N assumed c = checked (assumed || c.free) (core_of N c.holds.kind)
+abbrev pub clause_stmt : Names → Bool → Clause → CoreStmt
+clause_stmt N assumed c = checked (assumed || c.free) (core_of N c.holds.kind)
 
 -- what `return` becomes
 abbrev pub leave_in : Leave → List CoreStmt

@@ -44,11 +44,11 @@ pub record AreSlots (S : Source) (slots : Slots) : Type 0 where
 -- the names in the body, in loops and in the contract
 pub record IsLayout (S : Source) (layout : Layout) : Type 0 where
   pub slots : AreSlots S layout.slots
-  pub names : layout.names ≡ (names_at S (length S.routine.head.ins) (body_copies S)).locals
-  pub places : layout.places ≡ (names_at S (length S.routine.head.ins) (body_copies S)).places
-  pub turn_places : layout.turn_places ≡ (names_at S (loop_state S) (body_copies S)).places
-  pub promised : layout.promised ≡ (contract S).locals
-  pub promised_places : layout.promised_places ≡ (contract S).places
+  pub names : layout.names ≡ (names_at S (length S.routine.head.ins) (body_copies S)).local_names
+  pub places : layout.places ≡ (names_at S (length S.routine.head.ins) (body_copies S)).locals
+  pub turn_places : layout.turn_places ≡ (names_at S (loop_state S) (body_copies S)).locals
+  pub contract_names : layout.contract_names ≡ (contract S).local_names
+  pub contract_places : layout.contract_places ≡ (contract S).locals
   pub entry : layout.entry ≡ (contract S).entry
 
 -- the names and the spots of all globals

@@ -4,7 +4,7 @@ ghost use Rattle.std.specs.Option.{option_copied};
 ghost use Rattle.sd_meaning.specs.Routine.{requires_of, procedure_in};
 ghost use Rattle.sd_core.specs.Run.{slots_from};
 ghost use Rattle.sd_extract.specs.Extract as spec;
-ghost use Rattle.sd_extract.specs.Scopes.{names_in, taken, call_with};
+ghost use Rattle.sd_extract.specs.Scopes.{names_in, clause_stmt, call_with};
 ghost use Rattle.sd_extract.specs.Counted.{counts_in};
 ghost use Rattle.sd_extract.specs.Numbered.{program_of, number_of};
 
@@ -30,17 +30,17 @@ pub(crate) fn push_requires_on(
     assumed: bool,
     out: &mut Items<CoreStmt>,
 ) -> Result<(), NoMemory>
-    ensures { OnOk result (out.new ≡ out.old ++ map (taken (spec.on_args (names_in scope.now) callee.now spots.now) assumed) (requires_of callee.now.specs)) }
+    ensures { OnOk result (out.new ≡ out.old ++ map (clause_stmt (spec.on_args (names_in scope.now) callee.now spots.now) assumed) (requires_of callee.now.specs)) }
 {
     let mut names = Items::new(alloc);
     push_names(alloc, &mut names, callee.head.ins.as_slice())?;
     let table = NameTable::new(alloc, names)?;
     let inner = Scope {
-        locals: &table,
-        places: spots,
+        local_names: &table,
+        locals: spots,
+        global_names: scope.global_names,
         globals: scope.globals,
-        current: scope.current,
-        first: scope.current,
+        entry: scope.globals,
     };
     push_requires(alloc, &inner, assumed, callee.specs.as_slice(), out)
 }

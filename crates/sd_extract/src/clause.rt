@@ -3,7 +3,7 @@ ghost use Rattle.std.specs.Prelude.{◌≡◌, ◌++◌, ◌∷◌, [], map, IfO
 ghost use Rattle.sd_meaning.specs.Routine.{requires_of, ensures_of, clauses_of};
 ghost use Rattle.sd_extract.specs.Names.{core_of};
 ghost use Rattle.sd_extract.specs.Extract as spec;
-ghost use Rattle.sd_extract.specs.Scopes.{names_in, taken};
+ghost use Rattle.sd_extract.specs.Scopes.{names_in, clause_stmt};
 
 use crate::build::negated;
 use crate::expression::expression;
@@ -49,7 +49,7 @@ fn push_requirement(
     clause: &Spec,
     out: &mut Items<CoreStmt>,
 ) -> Result<(), NoMemory>
-    ensures { OnOk result (out.new ≡ out.old ++ map (taken (names_in scope.now) assumed) (requires_of (clause.now ∷ []))) }
+    ensures { OnOk result (out.new ≡ out.old ++ map (clause_stmt (names_in scope.now) assumed) (requires_of (clause.now ∷ []))) }
 {
     match clause {
         Spec::Requires(free, e) => push_check(alloc, scope, assumed || *free, e, out),
@@ -65,7 +65,7 @@ pub(crate) fn push_requires(
     clauses: &[Spec],
     out: &mut Items<CoreStmt>,
 ) -> Result<(), NoMemory>
-    ensures { OnOk result (out.new ≡ out.old ++ map (taken (names_in scope.now) assumed) (requires_of clauses.now)) }
+    ensures { OnOk result (out.new ≡ out.old ++ map (clause_stmt (names_in scope.now) assumed) (requires_of clauses.now)) }
 {
     for clause in clauses {
         push_requirement(alloc, scope, assumed, clause, out)?;

@@ -203,11 +203,11 @@ pub(crate) fn axioms_of(alloc: Global, decls: &[Decl]) -> Result<Items<CoreExpr>
     let names = NameTable::new(alloc, Items::new(alloc))?;
     let spots = Items::new(alloc);
     let nothing = Scope {
-        locals: &names,
-        places: spots.as_slice(),
-        globals: &names,
-        current: spots.as_slice(),
-        first: spots.as_slice(),
+        local_names: &names,
+        locals: spots.as_slice(),
+        global_names: &names,
+        globals: spots.as_slice(),
+        entry: spots.as_slice(),
     };
     all_axioms(alloc, &nothing, decls)
 }

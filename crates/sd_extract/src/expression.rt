@@ -27,11 +27,11 @@ pub(crate) fn expression(alloc: Global, scope: &Scope, e: &ExprKind) -> Result<C
         )),
         ExprKind::Old(a) => {
             let before = Scope {
+                local_names: scope.local_names,
                 locals: scope.locals,
-                places: scope.places,
-                globals: scope.globals,
-                current: scope.first,
-                first: scope.first,
+                global_names: scope.global_names,
+                globals: scope.entry,
+                entry: scope.entry,
             };
             expression(alloc, &before, &a.get().kind)
         }

@@ -16,11 +16,11 @@ fn body_scope<'a>(source: &'a Source<'a>, layout: &'a Layout) -> Scope<'a>
     ensures { names_in result ≡ names_at (source_in source.now) (length source.now.head.now.ins) (body_copies (source_in source.now)) }
 {
     Scope {
-        locals: &layout.names,
-        places: layout.places.as_slice(),
-        globals: &source.globals.names,
-        current: source.globals.spots.as_slice(),
-        first: layout.entry.as_slice(),
+        local_names: &layout.names,
+        locals: layout.places.as_slice(),
+        global_names: &source.globals.names,
+        globals: source.globals.spots.as_slice(),
+        entry: layout.entry.as_slice(),
     }
 }
 
@@ -30,25 +30,25 @@ fn turn_scope<'a>(source: &'a Source<'a>, layout: &'a Layout) -> Scope<'a>
     ensures { names_in result ≡ names_at (source_in source.now) (loop_state (source_in source.now)) (body_copies (source_in source.now)) }
 {
     Scope {
-        locals: &layout.names,
-        places: layout.turn_places.as_slice(),
-        globals: &source.globals.names,
-        current: source.globals.spots.as_slice(),
-        first: layout.entry.as_slice(),
+        local_names: &layout.names,
+        locals: layout.turn_places.as_slice(),
+        global_names: &source.globals.names,
+        globals: source.globals.spots.as_slice(),
+        entry: layout.entry.as_slice(),
     }
 }
 
-fn promised_scope<'a>(source: &'a Source<'a>, layout: &'a Layout) -> Scope<'a>
+fn contract_scope<'a>(source: &'a Source<'a>, layout: &'a Layout) -> Scope<'a>
     requires globals { AreGlobals source.now.globals.now }
     requires layout { IsLayout (source_in source.now) layout.now }
     ensures { names_in result ≡ spec.contract (source_in source.now) }
 {
     Scope {
-        locals: &layout.promised,
-        places: layout.promised_places.as_slice(),
-        globals: &source.globals.names,
-        current: source.globals.spots.as_slice(),
-        first: layout.entry.as_slice(),
+        local_names: &layout.contract_names,
+        locals: layout.contract_places.as_slice(),
+        global_names: &source.globals.names,
+        globals: source.globals.spots.as_slice(),
+        entry: layout.entry.as_slice(),
     }
 }
 
@@ -64,7 +64,7 @@ pub(crate) fn body_frame<'a>(source: &'a Source<'a>, layout: &'a Layout) -> Fram
         state: layout.slots.state.as_slice(),
         copies: layout.slots.copies.as_slice(),
         leave: Leave::Procedure(
-            promised_scope(source, layout),
+            contract_scope(source, layout),
             source.declared.specs.as_slice(),
         ),
     }

@@ -12,11 +12,11 @@ use std::alloc::Global;
 /// The names of a body with their spots: its locals, and the globals now and at the entry.
 #[derive(Clone, Copy, Drop)]
 pub(crate) struct Scope<'a> {
-    pub(crate) locals: &'a NameTable,
-    pub(crate) places: &'a [Spot],
-    pub(crate) globals: &'a NameTable,
-    pub(crate) current: &'a [Spot],
-    pub(crate) first: &'a [Spot],
+    pub(crate) local_names: &'a NameTable,
+    pub(crate) locals: &'a [Spot],
+    pub(crate) global_names: &'a NameTable,
+    pub(crate) globals: &'a [Spot],
+    pub(crate) entry: &'a [Spot],
 }
 
 impl<'a> Scope<'a> {
@@ -24,9 +24,9 @@ impl<'a> Scope<'a> {
     pub(crate) fn spot(&self, name: &Name) -> Option<Spot>
         ensures { result ≡ place_of (names_in self.now) name.now }
     {
-        match self.locals.spot(self.places, name) {
+        match self.local_names.spot(self.locals, name) {
             Some(spot) => Some(spot),
-            None => self.globals.spot(self.current, name),
+            None => self.global_names.spot(self.globals, name),
         }
     }
 

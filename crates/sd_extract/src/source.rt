@@ -55,8 +55,8 @@ pub(crate) struct Layout {
     pub(crate) names: NameTable,
     pub(crate) places: Items<Spot>,
     pub(crate) turn_places: Items<Spot>,
-    pub(crate) promised: NameTable,
-    pub(crate) promised_places: Items<Spot>,
+    pub(crate) contract_names: NameTable,
+    pub(crate) contract_places: Items<Spot>,
     pub(crate) entry: Items<Spot>,
 }
 
@@ -187,15 +187,15 @@ pub(crate) fn layout_of(alloc: Global, source: &Source) -> Result<Layout, NoMemo
         slots.copies.as_slice(),
     )?;
     let names = body_names(alloc, source.head, source.body)?;
-    let promised = head_names(alloc, &source.declared.head)?;
-    let promised_places = head_places(alloc, source.head)?;
+    let contract_names = head_names(alloc, &source.declared.head)?;
+    let contract_places = head_places(alloc, source.head)?;
     Ok(Layout {
         slots,
         names,
         places,
         turn_places,
-        promised,
-        promised_places,
+        contract_names,
+        contract_places,
         entry,
     })
 }

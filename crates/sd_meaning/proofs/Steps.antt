@@ -111,14 +111,12 @@ module _ (P : Program) (I : Interpretation) where
     pub step_extends : (p q : Option Level) → LowerExtends p q → (k : StmtKind) (s : State) → Extends (step P I p k s) (step P I q k s)
     step_extends p q h (Assert e) s = extends_refl (step P I p (Assert e) s)
     step_extends p q h (Assume e) s = extends_refl (step P I p (Assume e) s)
-    step_extends p q h (Assign ls es) s = refl
     step_extends p q h (Call xs f es) s = call_extends I p q h s xs f (values_of I s es) (procedure_in P.decls f)
     step_extends p q h (If' e shape a shape' b) s =
         if_extends (truth_of (value I s e.kind)) _ _ _ _ (steps_extend p q h a s) (steps_extend p q h b s)
     step_extends p q h (While' e invs shape body) s =
         reach_extends I p q h e (clauses_of invs) (kinds_in body) (While' e invs shape body) s
-    step_extends p q h Break s = refl
-    step_extends p q h Return s = refl
+    step_extends p q h _ s = refl
 
     pub steps_extend : (p q : Option Level) → LowerExtends p q → {m : _} → (ks : Row_of-Stmt m) (s : State) → Extends (steps P I p ks s) (steps P I q ks s)
     steps_extend p q h end_of-Stmt s = refl

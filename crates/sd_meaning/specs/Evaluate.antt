@@ -13,9 +13,10 @@ use Rattle.sd_base.specs.Meaning.{Interpretation, number_of, truth_of, index_of}
 abbrev pub Store : Type 0
 Store = List (Text × Value)
 
-abbrev pub held : Store → Text → Option Value
-held [] x = None
-held (v ∷ vs) x = if same_text x v.0 then Some v.1 else held vs x
+-- the value of a variable, if it is there
+abbrev pub value_of : Store → Text → Option Value
+value_of [] x = None
+value_of (v ∷ vs) x = if same_text x v.0 then Some v.1 else value_of vs x
 
 -- where a procedure stands: the globals, the globals at its entry, and its parameters and locals
 pub record State : Type 0 where
@@ -25,7 +26,7 @@ pub record State : Type 0 where
 
 -- Locals hide globals and constants.
 abbrev pub variable : Interpretation → State → Text → Value
-variable I s x = unwrap_or (held s.locals x) (unwrap_or (held s.globals x) (I.constant x))
+variable I s x = unwrap_or (value_of s.locals x) (unwrap_or (value_of s.globals x) (I.constant x))
 
 abbrev pub unary : UnOp → Value → Value
 unary op1.Not a = Truth (not (truth_of a))

@@ -10,7 +10,7 @@ use Rattle.sd_ast.specs.declared.Decl.TheVariants.{Const, Function, Axiom, Globa
 use Rattle.sd_ast.specs.declared.Program.{Program}
 use Rattle.sd_ast.specs.declared.Proc.{Proc}
 use Rattle.sd_base.specs.Meaning.{Meaning, Table, truth_of}
-use Rattle.sd_meaning.specs.Evaluate.{Store, State, held, value}
+use Rattle.sd_meaning.specs.Evaluate.{Store, State, value_of, value}
 use Rattle.sd_meaning.specs.Interpretation.{interpretation_of}
 use Rattle.sd_meaning.specs.Routine.{procedure_in}
 
@@ -85,4 +85,4 @@ pub record SameInput (P Q : Program) (f g : Text) (ins : List Value) (globals : 
   pub old_input : IsInput P f ins globals
   pub new_input : IsInput Q g ins' globals'
   pub same_ins : ins ≡ ins'
-  pub same_globals : (x : Var) → Contains (globals_in P.decls) x → Contains (globals_in Q.decls) x → held globals x.name ≡ held globals' x.name
+  pub same_globals : (x : Var) → Contains (globals_in P.decls) x → Contains (globals_in Q.decls) x → value_of globals x.name ≡ value_of globals' x.name

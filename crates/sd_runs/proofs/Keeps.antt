@@ -140,8 +140,7 @@ module _ (P : CoreProgram) (p : CoreProc) (before : List Value) where
       run_fits (If' c n a m b) formed st f = if_fits (truth_of (value_in I st c)) _ _ (run_row_fits a formed.1 st f) (run_row_fits b formed.2 st f)
       run_fits (Call spots q args) formed st f = received q spots args st formed f _ refl
       run_fits (Assume c) formed st f = if_fits (truth_of (value_in I st c)) (Goes st) Blocks f tt
-      run_fits Fail formed st f = f
-      run_fits Return formed st f = f
+      run_fits _ formed st f = f
 
       pub run_row_fits : {n : _} (ss : Row_of-CoreStmt n) → AreFormed P p ss → (st : Store Value) → StateFits P p before st → StepFits P p before (run_row I calls ss st)
       run_row_fits end_of-CoreStmt formed st f = f

@@ -35,15 +35,12 @@ if_below false x y x' y' h k = k
 module _ (I : Interpretation) (calls calls' : Calls) (more : (q : ℕ) (ins globals : List Value) → EndBelow (calls q ins globals) (calls' q ins globals)) where
   mutual
     run_below : (s : CoreStmt) (st : Store Value) → Below (run I calls s st) (run I calls' s st)
-    run_below (Assign spots es) st = inr refl
     run_below (If' c n a m b) st = if_below (truth_of (value_in I st c)) _ _ _ _ (run_row_below a st) (run_row_below b st)
     run_below (Call spots q args) st = ⊎_elim
         (λ (e : calls q (map (value_in I st) args) st.globals ≡ Unfinished). inl (ap (receive st spots) e))
         (λ (e : calls q (map (value_in I st) args) st.globals ≡ calls' q (map (value_in I st) args) st.globals). inr (ap (receive st spots) e))
         (more q (map (value_in I st) args) st.globals)
-    run_below (Assume c) st = inr refl
-    run_below Fail st = inr refl
-    run_below Return st = inr refl
+    run_below _ st = inr refl
 
     run_row_below : {n : _} (ss : Row_of-CoreStmt n) (st : Store Value) → Below (run_row I calls ss st) (run_row I calls' ss st)
     run_row_below end_of-CoreStmt st = inr refl

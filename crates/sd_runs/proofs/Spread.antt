@@ -184,8 +184,8 @@ all_below n infallible h (d ∷ cs) a = together (nat_lt d n) (list_all (λ q. n
     below : (d : ℕ) → d < n → nat_lt d n ≡ true
     below d e = lt-ltb d n e
 
-pub may-told : (n : ℕ) (p : CoreProc) → may_be_infallible n p ≡ true → (any_fail p.body ≡ false) × ((q : ℕ) → Contains (callees_of p.body) q → q < n)
-may-told n p h =
+pub may-parts : (n : ℕ) (p : CoreProc) → may_be_infallible n p ≡ true → (any_fail p.body ≡ false) × ((q : ℕ) → Contains (callees_of p.body) q → q < n)
+may-parts n p h =
     let hs = both (not (any_fail p.body)) (list_all (λ q. nat_lt q n) (callees_of p.body)) h in
     (denied (any_fail p.body) hs.0, each_below n (callees_of p.body) hs.1)
 
@@ -269,7 +269,7 @@ spread_begins procs =
     let long : length (replicate n true) ≡ n = length-replicate n true in
     let start = λ (q : ℕ) (l : q < n). get_or-replicate n q true false l in
     let may = λ (r : ℕ) (p : CoreProc) (f : slice_get procs r ≡ Some p) (t : entry_at to.0 r ≡ true). ⊎_elim
-    (λ (u : may_be_infallible n p ≡ true). may-told n p u)
+    (λ (u : may_be_infallible n p ≡ true). may-parts n p u)
     (λ (u : may_be_infallible n p ≡ false). clash (entry_at to.0 r) t (m.off r (refuted-each n 0 procs r r p (omega arith) f u)))
     (true_or_false (may_be_infallible n p)) in
     record {
