@@ -33,7 +33,7 @@ counts_row (more_of-Stmt p k ks) = ap (plus (counts k)) (counts_row ks)
 pub counts_hidden : (ss : List Stmt) → counts_all (hidden-the_row-Stmt-0 ss) ≡ counts_each (kinds_of ss)
 counts_hidden ss = counts_row (hidden-the_row-Stmt-0 ss) ∙ ap counts_each (hidden_kinds ss)
 
-returns_row : {m : _} (ks : Row_of-Stmt m) → has_returns ks ≡ has_return_among (kinds_in ks)
+pub returns_row : {m : _} (ks : Row_of-Stmt m) → has_returns ks ≡ has_return_among (kinds_in ks)
 returns_row end_of-Stmt = refl
 returns_row (more_of-Stmt p k ks) = ap (λ b. has_return k || b) (returns_row ks)
 

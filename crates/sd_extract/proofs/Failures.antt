@@ -21,7 +21,8 @@ use Rattle.sd_extract.specs.Law.{Exact}
 use Rattle.sd_extract.specs.Programs.{core_program}
 use Rattle.sd_extract.specs.Laws.{number_of, RunsAreKept, ProceduresAreKept, AxiomsAreKept, ExtractedIsFormed, FailuresAreKept}
 use Rattle.sd_extract.proofs.FailureMeanings.{have_sorts, has_sorts, core_meaning, decls_true, uniques_distinct}
-use Rattle.sd_extract.proofs.FailureHeads.{IsDeclared, is_declared}
+use Rattle.sd_extract.proofs.FormedDeclarations.{is_typed, routine_fine}
+use Rattle.sd_extract.proofs.FormedFrames.{declared_of}
 use Rattle.sd_extract.proofs.FailureGlobals.{values_in, store_named, store_sorts, is_store, as_many, by_place, by_name}
 
 some_is : {A : Type 0} (x y : A) → Some x ≡ Some y → x ≡ y
@@ -31,9 +32,6 @@ module _ (runs : RunsAreKept) (procedures : ProceduresAreKept) where
   -- ---- one program
 
   module _ (P : Program) (typed : WellTyped P) (f : Text) (r : Routine) (is : routine_named P f ≡ Some r) where
-    declared : IsDeclared P typed f r
-    declared = is_declared P typed f r is
-
     abbrev names : List Text
     names = names_of (globals_in P.decls)
 
@@ -47,7 +45,7 @@ module _ (runs : RunsAreKept) (procedures : ProceduresAreKept) where
     core_ins = (procedures P f r typed is).4
 
     ins_same : in_sorts (procedure_in P.decls f) ≡ sorts_of core.ins
-    ins_same = ap in_sorts declared.found ∙ declared.ins ∙ ap sorts_of (sym core_ins)
+    ins_same = ap in_sorts (declared_of P f r is) ∙ sym (routine_fine P (is_typed P typed).0 (is_typed P typed).1 f r is).ins_sorts ∙ ap sorts_of (sym core_ins)
 
     input_of : (ins : List Value) (G : Store) → IsInput P f ins G → IsInputOf (core_program P) core ins (values_in G)
     input_of ins G w = record {
@@ -69,8 +67,8 @@ module _ (runs : RunsAreKept) (procedures : ProceduresAreKept) where
 
     same_runs : (M : Meaning) (n : ℕ) (ins globals : List Value) → IsInput P f ins (named names globals) → HaveSorts (sorts_of (globals_in P.decls)) globals → Exact names (run P M n f ins (named names globals)) (flag_run (interpretation M) (core_program P).procs n (number_of P f) ins globals)
     same_runs M n ins globals w h =
-        runs P typed M n f r.declared r declared.found is ins globals
-        (as_many (sorts_of r.declared.head.ins) ins (have_sorts (sorts_of r.declared.head.ins) ins (subst (λ ss. HasSorts ss ins) (ap in_sorts declared.found) w.ins_typed)) ∙ length-map r.declared.head.ins (λ x. x.sort))
+        runs P typed M n f r.declared r (declared_of P f r is) is ins globals
+        (as_many (sorts_of r.declared.head.ins) ins (have_sorts (sorts_of r.declared.head.ins) ins (subst (λ ss. HasSorts ss ins) (ap in_sorts (declared_of P f r is)) w.ins_typed)) ∙ length-map r.declared.head.ins (λ x. x.sort))
         (globals_fit globals h)
 
     exact_of : (M : Meaning) (n : ℕ) (ins : List Value) (G : Store) → IsInput P f ins G → Exact names (run P M n f ins G) (flag_run (interpretation M) (core_program P).procs n (number_of P f) ins (values_in G))

@@ -2,7 +2,8 @@
 use Rattle.std.proofs.Common.{◌≡◌, ◌≢◌, ℕ, suc, ◌+◌, ◌≤◌, List, [], ◌∷◌, ◌++◌, length, Option, Some, None, Ok, Err, refl, sym, ◌∙◌, ap, subst, ⊎_elim, arith}
 use Rattle.std.specs.Prelude.{Bool, true, false, cond, Result, slice_get, Contains, option_map, if◌then◌else◌}
 use Rattle.std.specs.List.{AllByRecursion, filter_map}
-use Rattle.std.proofs.Common.{append_assoc}
+use Rattle.std.proofs.Common.{append_assoc, length-append}
+use Rattle.sd_base.proofs.Lists.{slice_get-between}
 use Rattle.std.proofs.lemmas.List.{length-map}
 use Rattle.sd_base.specs.declared.Sort.{Sort}
 use Rattle.sd_base.specs.declared.Var.{Var}
@@ -47,8 +48,8 @@ use Rattle.sd_extract.proofs.FormedPlaces.{Laid, laid_append, laid_vars, laid_tw
 use Rattle.sd_extract.proofs.FormedDeclarations.{IsTyped, is_scope, procedures_are, procedures_once, RoutineFine, routine_fine}
 use Rattle.sd_extract.proofs.FormedModifies.{numbers_match, modifies_there, all_modified, numbers_have, global_spot}
 use Rattle.sd_extract.proofs.FormedSpots.{Holds, spots_hold, slot_below, slots_apart, slots_before, slots_targets}
-use Rattle.sd_extract.proofs.FormedNumbers.{behind, StandsIn, stands_in}
-use Rattle.sd_extract.proofs.FormedStatements.{CalleeAt, Fits}
+use Rattle.sd_extract.proofs.FormedNumbers.{LoopIs, each_loop_placed, StandsIn, stands_in}
+use Rattle.sd_extract.proofs.FormedStatements.{CalleeAt, Fits, EachLoopsAt}
 use Rattle.sd_extract.proofs.FormedLists.{some_is, none_is, all_join, all_map}
 
 pub sorts_length : (vs : List Var) → length vs ≡ length (sorts_of vs)
@@ -95,7 +96,17 @@ body_stands P f r e =
     let at = routine_stands P f r e in
     let S = source_at P f r in
     let number = number_from P 0 P.decls in
-    ap (λ (all : List CoreProc). slice_get all (number f)) at.parts ∙ behind at.front (body_proc P number S) (each_loop_in P number S (suc S.number) (kinds S) ++ at.back) (number f) at.number
+    ap (λ (all : List CoreProc). slice_get all (number f)) at.parts ∙ slice_get-between at.front (body_proc P number S) (each_loop_in P number S (suc S.number) (kinds S) ++ at.back) (number f) at.number
+
+-- and so do those of its loops
+pub loops_stand : (P : Program) (f : Text) (r : SourceRoutine) → routine_named P f ≡ Some r → EachLoopsAt (LoopIs P (number_from P 0 P.decls) (source_at P f r) (core_procs P)) (suc (number_from P 0 P.decls f)) (kinds (source_at P f r))
+loops_stand P f r e =
+    let at = routine_stands P f r e in
+    let S = source_at P f r in
+    let body = body_proc P (number_from P 0 P.decls) S in
+    let loops = each_loop_in P (number_from P 0 P.decls) S (suc S.number) (kinds S) in
+    let l = length-append at.front (body ∷ []) in let m = at.number in
+    each_loop_placed P (number_from P 0 P.decls) S (core_procs P) (at.front ++ (body ∷ [])) at.back (suc S.number) (kinds S) (at.parts ∙ sym (append_assoc at.front (body ∷ []) (loops ++ at.back))) (omega (arith, l, m))
 
 -- ---- the frames of a routine
 
@@ -111,6 +122,10 @@ two_apart k l (x ∷ xs) ys h =
 slot_is_within : (ms : List ℕ) (q : Spot) → IsSlot q → Within ms (q ∷ [])
 slot_is_within ms (Slot i) h = tt
 slot_is_within ms (Global i) h = absurd h
+
+pub in_modifies : (x : Text) (b : Bool) (u : Unit {0}) → (if b then Ok tt else Err (NotModified x)) ≡ Ok u → b ≡ true
+in_modifies x true u h = refl
+in_modifies x false u h = absurd (cc)
 
 module _ (P : Program) (G : Scope) (typed : IsTyped P G) where
   abbrev number : Text → ℕ
@@ -148,10 +163,6 @@ module _ (P : Program) (G : Scope) (typed : IsTyped P G) where
           (λ (c : v.nature ≡ nature.Constant). absurd (index_named globals x i e (constant_no_global P.decls x v scope.once h c)))
           (is_outer P.decls x v h)
 
-  in_modifies : (ms : List Text) (x : Text) (b : Bool) (u : Unit {0}) → (if b then Ok tt else Err (NotModified x)) ≡ Ok u → b ≡ true
-  in_modifies ms x true u h = refl
-  in_modifies ms x false u h = absurd (cc)
-
   abbrev passed : Result (Unit {0}) TypeError
   passed = Ok tt
 
@@ -165,7 +176,7 @@ module _ (P : Program) (G : Scope) (typed : IsTyped P G) where
     where
       go : (o : Option Variable) → is_global o ≡ true → (if is_global o then if_modified specs x else passed) ≡ passed → is_among (modifies_of specs) x ≡ true
       go o g k =
-          in_modifies (modifies_of specs) x (is_among (modifies_of specs) x) tt (ap (λ (b : Bool). if b then if_modified specs x else passed) (sym g) ∙ k)
+          in_modifies x (is_among (modifies_of specs) x) tt (ap (λ (b : Bool). if b then if_modified specs x else passed) (sym g) ∙ k)
 
   -- ---- calls
 
@@ -190,7 +201,10 @@ module _ (P : Program) (G : Scope) (typed : IsTyped P G) where
       let theirs : AllByRecursion (λ x. modified_rule (routine G locals (modifies_of specs)) x ≡ Ok tt) (modifies_of r.declared.specs) = subst (λ (c : Callee). AllByRecursion (λ x. modified_rule (routine G locals (modifies_of specs)) x ≡ Ok tt) c.modifies) (sym as_callee) mods in
       let mine = filter_map (index_in globals) (modified_names specs []) in
       let numbers : AllByRecursion (λ x. (i : ℕ) → index_in globals x ≡ Some i → Contains mine i) (modified_names r.declared.specs []) = all_modified (λ x. (i : ℕ) → index_in globals x ≡ Some i → Contains mine i) r.declared.specs [] (all_map (λ x. modified_rule (routine G locals (modifies_of specs)) x ≡ Ok tt) (λ x. (i : ℕ) → index_in globals x ≡ Some i → Contains mine i) (modifies_of r.declared.specs) (λ x h i e. modified_number locals specs x i h e) theirs) in
+      let allowed : AllByRecursion (Contains p.modifies) (source_at P f r).modifies = subst (λ (ms : List ℕ). AllByRecursion (Contains ms) (source_at P f r).modifies) (sym same) (numbers_have globals (Contains mine) (modified_names r.declared.specs []) numbers) in
       record {
+        routine = r;
+        is_routine = o.1;
         declared = r.declared;
         is_declared = declared_of P f r o.1;
         ins = ap (λ (c : Callee). c.ins) as_callee;
@@ -201,7 +215,8 @@ module _ (P : Program) (G : Scope) (typed : IsTyped P G) where
         found = body_stands P f r o.1;
         proc_ins = fine.ins_sorts ∙ ap (λ (c : Callee). c.ins) as_callee;
         proc_outs = fine.outs_sorts ∙ ap (λ (c : Callee). c.outs) as_callee;
-        modifies = subst (λ (ms : List ℕ). AllByRecursion (Contains ms) (source_at P f r).modifies) (sym same) (numbers_have globals (Contains mine) (modified_names r.declared.specs []) numbers);
+        modifies = allowed;
+        own_modifies = allowed;
       }
 
   -- ---- frames
@@ -264,7 +279,7 @@ module _ (P : Program) (G : Scope) (typed : IsTyped P G) where
         (λ (g : v.nature ≡ nature.Global). let at = laid_found T (globals_as P.decls) N.global_names N.globals x v (now_laid T refl) (global_found P.decls x v e g) in
         let i = global_spot globals x at.spot at.found in
         let allowed : assigned_as R.modifies x nature.Global ≡ Ok tt = subst (λ (n : Nature). assigned_as R.modifies x n ≡ Ok tt) g ok in
-        let there = modifies_there globals r.declared.specs x i.0 i.1 (in_modifies (modifies_of r.declared.specs) x (is_among (modifies_of r.declared.specs) x) tt allowed) in
+        let there = modifies_there globals r.declared.specs x i.0 i.1 (in_modifies x (is_among (modifies_of r.declared.specs) x) tt allowed) in
         (at.spot, ap (λ (o : Option Spot). either_place o (place_in N.global_names N.globals x)) none ∙ at.found, at.sort, subst (λ (q : Spot). Within p.modifies (q ∷ [])) (sym i.2) (subst (λ (ms : List ℕ). Contains ms i.0) (sym same) there, tt)))
         (λ (k : v.nature ≡ nature.Constant). let refused : assigned_as R.modifies x nature.Constant ≡ Ok tt = subst (λ (n : Nature). assigned_as R.modifies x n ≡ Ok tt) k ok in
         absurd (not_read_only x tt refused))

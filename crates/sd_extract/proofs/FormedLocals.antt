@@ -61,7 +61,7 @@ mutual
   all_lefts-sorts at (more_of-Stmt p k ks) =
       sorts_append (lefts_in at k) (all_lefts_in (plus at (counts k)) ks) ∙ (λ i. lefts-sorts at k i ++ all_lefts-sorts (plus at (counts k)) ks i)
 
-each_lefts-sorts : (at : Counts) (ks : List StmtKind) → sorts_of (each_left_in at ks) ≡ each_left_sorts ks
+pub each_lefts-sorts : (at : Counts) (ks : List StmtKind) → sorts_of (each_left_in at ks) ≡ each_left_sorts ks
 each_lefts-sorts at [] = refl
 each_lefts-sorts at (k ∷ ks) =
     sorts_append (lefts_in at k) (each_left_in (plus at (counts k)) ks) ∙ (λ i. lefts-sorts at k i ++ each_lefts-sorts (plus at (counts k)) ks i)

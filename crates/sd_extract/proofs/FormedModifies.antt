@@ -3,6 +3,7 @@ use Rattle.std.proofs.Common.{◌≡◌, ℕ, zero, suc, ◌+◌, ◌<◌, List,
 use Rattle.std.specs.Prelude.{Bool, true, false, ◌||◌, ◌==◌, slice_get, Contains, codes, option_map, if◌then◌else◌}
 use Rattle.std.specs.List.{AllByRecursion, IsDistinct, filter_map, cons_option}
 use Rattle.std.specs.Cmp.Lexicographic.{bytes_decides}
+use Rattle.sd_base.specs.declared.Sort.{Sort}
 use Rattle.sd_base.specs.declared.Var.{Var}
 use Rattle.sd_base.specs.Value.{Text, same_text}
 use Rattle.sd_ast.specs.declared.Spec.{Spec}
@@ -59,6 +60,12 @@ numbers_match vs (x ∷ names) = go (index_in vs x) (var_in vs x) (index_var vs 
     go None (Some v) h k = absurd h
     go (Some i) None h k = absurd h
     go (Some i) (Some v) h k = (sort_of_var vs i v h.0, k)
+
+pub matches_length : (ss : List Sort) (ms : List ℕ) (ts : List Sort) → Matches ss ms ts → length ms ≡ length ts
+matches_length ss [] [] h = refl
+matches_length ss [] (t ∷ ts) h = absurd h
+matches_length ss (m ∷ ms) [] h = absurd h
+matches_length ss (m ∷ ms) (t ∷ ts) h = ap (λ (n : ℕ). suc n) (matches_length ss ms ts h.1)
 
 pub numbers_below : (vs : List Var) (names : List Text) → AllByRecursion (λ i. i < length vs) (filter_map (index_in vs) names)
 numbers_below vs [] = tt

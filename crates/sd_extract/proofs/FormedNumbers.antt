@@ -3,6 +3,7 @@ use Rattle.std.proofs.Common.{◌≡◌, ℕ, zero, suc, ◌+◌, List, [], ◌�
 use Rattle.std.specs.Prelude.{Bool, true, false, slice_get, if◌then◌else◌}
 use Rattle.std.specs.Cmp.Lexicographic.{bytes_decides}
 use Rattle.std.proofs.Common.{append_assoc, length-append}
+use Rattle.sd_base.proofs.Lists.{slice_get-between}
 use Rattle.sd_base.specs.Value.{Text, same_text}
 use Rattle.sd_ast.specs.declared.Decl.{Decl}
 use Rattle.sd_ast.specs.declared.Decl.TheVariants.{Types, Const, Function, Axiom, Globals, Procedure, Implementation}
@@ -21,13 +22,6 @@ use Rattle.sd_extract.proofs.FormedTables.{OnceEach, procedure_entries}
 use Rattle.sd_extract.proofs.FormedLookups.{procedure_named}
 use Rattle.sd_extract.proofs.FormedStatements.{LoopsAt, AllLoopsAt, EachLoopsAt}
 use Rattle.sd_extract.proofs.FormedLists.{none_is}
-
--- what stands behind a list
-pub behind : {A : Type 0} (pre : List A) (x : A) (post : List A) (k : ℕ) → length pre ≡ k → slice_get (pre ++ (x ∷ post)) k ≡ Some x
-behind [] x post zero e = refl
-behind [] x post (suc k) e = absurd (omega (arith, e))
-behind (y ∷ pre) x post zero e = absurd (omega (arith, e))
-behind (y ∷ pre) x post (suc k) e = behind pre x post k (omega (arith, e))
 
 -- each element, with its place from one on
 abbrev pub EachFrom : {A : Type 0} → (ℕ → A → Type 0) → ℕ → List A → Type 0
@@ -84,7 +78,7 @@ module _ (P : Program) (number : Text → ℕ) (S : Source) where
         let x = loop_proc P number S n e (clauses_of invs) (has_returns body) (kinds_in body) in
         let rest = all_loops_in P number S (suc n) body in
         let l = length-append pre (x ∷ []) in
-        (ap (λ (ps : List CoreProc). slice_get ps n) is ∙ behind pre x (rest ++ post) n long, all_loops_placed procs (pre ++ (x ∷ [])) post (suc n) body (is ∙ sym (append_assoc pre (x ∷ []) (rest ++ post))) (omega (arith, l, long)))
+        (ap (λ (ps : List CoreProc). slice_get ps n) is ∙ slice_get-between pre x (rest ++ post) n long, all_loops_placed procs (pre ++ (x ∷ [])) post (suc n) body (is ∙ sym (append_assoc pre (x ∷ []) (rest ++ post))) (omega (arith, l, long)))
     loop_placed procs pre post n (If' e shape x shape' y) is long =
         let m = n + (counts_all x).loops in
         let xs = all_loops_in P number S n x in let ys = all_loops_in P number S m y in

@@ -45,19 +45,16 @@ use Rattle.sd_extract.proofs.FormedSpots.{Holds, holds_left, holds_right, spots_
 use Rattle.sd_extract.proofs.FormedPlaces.{sorts_as, laid_append, laid_vars, laid_found, laid_none, LocalsAt, Matches, sees}
 use Rattle.sd_extract.proofs.FormedDeclarations.{IsTyped, is_scope, RoutineFine, proc_is_fine, routine_fine}
 use Rattle.sd_extract.proofs.FormedModifies.{numbers_match, numbers_below, numbers_once, modified_once, copied_numbers, IndexVar, index_var}
-use Rattle.sd_extract.proofs.FormedNumbers.{EachFrom, each_append, LoopIs, loops_length, all_loops_length, each_loops_give, row_loops, each_loop_placed}
-use Rattle.sd_extract.proofs.FormedFrames.{sorts_length, source_at, routine_stands, body_stands, entry_laid, now_laid, frame_fits}
+use Rattle.sd_extract.proofs.FormedNumbers.{EachFrom, each_append, LoopIs, loops_length, all_loops_length, each_loops_give, row_loops}
+use Rattle.sd_extract.proofs.FormedFrames.{sorts_length, source_at, body_stands, loops_stand, entry_laid, now_laid, frame_fits}
 use Rattle.sd_extract.proofs.FormedLocals.{holds_all, at_slot, body_slots, loop_ins, loop_outs, loop_slots, sorts_join, hidden_fit, root_names, copied-sorts}
-use Rattle.sd_extract.proofs.FormedStatements.{formed_append, put_formed, checks_formed, assumes_formed, if_formed, Fits, LoopHas, LoopsAt, AllLoopsAt, EachLoopsAt, left_sort_if, arg_sorts, each_arg_sorts, each_left_sorts, HiddenAt, one_returns, loop_formed, with_left, args_counted, each_formed}
+use Rattle.sd_extract.proofs.FormedStatements.{formed_append, put_formed, checks_formed, assumes_formed, if_formed, Fits, LoopHas, LoopsAt, AllLoopsAt, EachLoopsAt, left_sort_if, arg_sorts, each_arg_sorts, each_left_sorts, HiddenAt, loop_formed, with_left, args_counted, each_formed}
+use Rattle.sd_extract.proofs.CodeCounts.{returns_row}
 use Rattle.sd_extract.proofs.FormedLists.{some_is, none_is, all_join}
 
 truths_all : (C : Context) (invs : List Invariant) → AllTruths C invs → AllByRecursion (λ c. HasType C c.holds.kind BoolSort) (clauses_of invs)
 truths_all C [] h = tt
 truths_all C (i ∷ invs) h = (h.0, truths_all C invs h.1)
-
-kinds_return : {m : _} (ks : Row_of-Stmt m) → one_returns (kinds_in ks) ≡ has_returns ks
-kinds_return end_of-Stmt = refl
-kinds_return (more_of-Stmt p k ks) = ap (λ (b : Bool). has_return k || b) (kinds_return ks)
 
 globals_typed : (F : List Function) (T : Store Sort) (ms : List ℕ) (ts : List Sort) → Matches T.globals ms ts → AllHaveTypes F T (map (λ i. At (Global i)) ms) ts
 globals_typed F T [] [] h = refl
@@ -141,13 +138,8 @@ module _ (P : Program) (G : Scope) (typed : IsTyped P G) (global_sorts : AllByRe
   loop_has n Break h = h
   loop_has n Return h = h
 
-  pub loops_stand : EachLoopsAt Placed (suc S.number) (kinds S)
-  loops_stand =
-      let at = routine_stands P f r is in
-      let body = body_proc P number S in
-      let loops = each_loop_in P number S (suc S.number) (kinds S) in
-      let l = length-append at.front (body ∷ []) in let m = at.number in
-      each_loop_placed P number S (core_procs P) (at.front ++ (body ∷ [])) at.back (suc S.number) (kinds S) (at.parts ∙ sym (append_assoc at.front (body ∷ []) (loops ++ at.back))) (omega (arith, l, m))
+  abbrev placed_loops : EachLoopsAt Placed (suc S.number) (kinds S)
+  placed_loops = loops_stand P f r is
 
   -- ---- contracts
 
@@ -243,7 +235,7 @@ module _ (P : Program) (G : Scope) (typed : IsTyped P G) (global_sorts : AllByRe
       let requires = map (assume (on_args F.names r.declared F.ins)) (requires_of r.declared.specs) in
       let stmts = each_extracted P number F (body_start S) (kinds S) in
       let copying_formed = put_formed K B F.copies (map (λ i. At (Global i)) S.modifies) copied (globals_typed K.functions BT S.modifies copied (numbers_match (globals_in P.decls) (modified_names r.declared.specs []))) (slots_targets BT B.modifies (body_copies S) S.copied copied (sorts_length S.copied) h.copies_held) in
-      let stmts_formed = each_formed P number K B R F first ins state copied body_fits false (body_start S) (kinds S) fine.typed fine.checked (λ e. leave_formed) body_hidden (each_loops_give Placed Has loop_has (suc S.number) (kinds S) loops_stand) in
+      let stmts_formed = each_formed P number K B R F first ins state copied body_fits false (body_start S) (kinds S) fine.typed fine.checked (λ e. leave_formed) body_hidden (each_loops_give Placed Has loop_has (suc S.number) (kinds S) placed_loops) in
       formed_append K B copying (requires ++ (stmts ++ leave S)) copying_formed (formed_append K B requires (stmts ++ leave S) (requires_at B n_ins (body_copies S) first (leave S) body_fits) (formed_append K B stmts (leave S) stmts_formed leave_formed))
 
   known_ins : (g : Text) → AllByRecursion IsSort (sorts_of (ins_of (procedure_in P.decls g)))
@@ -360,7 +352,7 @@ module _ (P : Program) (G : Scope) (typed : IsTyped P G) (global_sorts : AllByRe
         let h = loop_holds in
         let F = loop_frame S in
         let stmts = each_extracted P number F (loop_start S k returns turn) turn in
-        let stmts_formed = each_formed P number K L R F at_left ins state copied loop_fits true (loop_start S k returns turn) turn (row_each_typed R true body stmt_typed.2) (row_each_checked R body stmt_checked) (λ e. leave_loop returns h.left_held (sym (kinds_return body) ∙ e)) loop_hides (each_loops_give Placed Has loop_has (suc k) turn (row_loops Placed (suc k) body inner)) in
+        let stmts_formed = each_formed P number K L R F at_left ins state copied loop_fits true (loop_start S k returns turn) turn (row_each_typed R true body stmt_typed.2) (row_each_checked R body stmt_checked) (λ e. leave_loop returns h.left_held (returns_row body ∙ e)) loop_hides (each_loops_give Placed Has loop_has (suc k) turn (row_loops Placed (suc k) body inner)) in
         let again = loop_formed P number K L R F at_left ins state copied loop_fits k returns (left_of S returns) (loop_has k (While' guard invs shape body) placed) (with_left P number K L R F at_left ins state copied loop_fits returns at_left (omega arith) h.left_held) in
         formed_append K L stmts (loop_call F k (left_of S returns) ∷ []) stmts_formed (again, tt)
 
@@ -444,4 +436,4 @@ module _ (P : Program) (G : Scope) (typed : IsTyped P G) (global_sorts : AllByRe
   -- the procedures of a routine
   pub routine_procs_formed : EachFrom (IsProc K) S.number (procs_of P number S)
   routine_procs_formed =
-      (body_is_proc, each_loop_is_proc false (suc S.number) (kinds S) fine.typed fine.checked loops_stand (omega arith))
+      (body_is_proc, each_loop_is_proc false (suc S.number) (kinds S) fine.typed fine.checked placed_loops (omega arith))

@@ -12,7 +12,9 @@ use Rattle.sd_ast.specs.declared.Proc.{Proc}
 use Rattle.sd_ast.specs.declared.Expr.{Expr}
 use Rattle.sd_ast.specs.declared.Left.{Left}
 use Rattle.sd_ast.specs.declared.StmtKind.{StmtKind, Assert, Assume, Assign, Call, If', While', Break, Return, Row_of-Stmt, end_of-Stmt, more_of-Stmt}
-use Rattle.sd_meaning.specs.Routine.{Clause, procedure_in, requires_of}
+use Rattle.sd_meaning.specs.Routine.{Clause, procedure_in, routine_named, requires_of}
+use Rattle.sd_meaning.specs.Routine.{Routine as SourceRoutine}
+use Rattle.sd_meaning.specs.Inputs.{globals_in}
 use Rattle.sd_types.specs.declared.scope.Variable.{Variable}
 use Rattle.sd_types.specs.declared.scope.Callee.{Callee}
 use Rattle.sd_types.specs.declared.scope.Scope.{Scope}
@@ -39,11 +41,13 @@ use Rattle.sd_core.specs.Run.{slots_from}
 use Rattle.sd_core.specs.Formed.{sorts_of, state_sorts, sort_at, IsSort, AllHaveTypes, AreSpotsOf, AreApart, Within, AreTargets, IsCall, IsFormed, AreFormed, AllFormed}
 use Rattle.sd_core.specs.Formed.{HasType as HasCoreType}
 use Rattle.sd_extract.specs.Names.{Names, place_of, at_place, negated, both, core_of}
-use Rattle.sd_extract.specs.Extract.{Counts, plus, counts, counts_all, has_return, has_returns, Frame, put, checked, check, assume, spot_of, stored, cores, all_stored, on_args, call_of, loop_call, leave_if, extracted, all_extracted, each_extracted, ins_of}
+use Rattle.sd_extract.specs.Extract.{Counts, plus, counts, counts_all, counts_each, has_return, has_returns, Frame, put, checked, check, assume, spot_of, stored, cores, all_stored, on_args, call_of, loop_call, leave_if, extracted, all_extracted, each_extracted, ins_of, source_of}
+use Rattle.sd_extract.specs.Counted.{has_return_among}
 use Rattle.sd_extract.proofs.FormedExpressions.{Sees, core_typed, list_cores_typed, negated_typed, read_typed, write_typed}
 use Rattle.sd_extract.proofs.FormedChecks.{AreAssignable, IsCallable, IsChecked, AreChecked, EachChecked, EachTyped}
 use Rattle.sd_extract.proofs.FormedSpots.{Holds, holds_left, holds_right, spots_append, spots_typed, slots_targets, apart_last, within_append, within_cons, contains_all}
-use Rattle.sd_extract.proofs.FormedLists.{or_left, or_right}
+use Rattle.std.proofs.lemmas.Bool.{or_left, or_right}
+use Rattle.std.proofs.lemmas.Option.{same_Some}
 
 -- ---- statements of the core
 
@@ -89,6 +93,8 @@ module _ (K : CoreProgram) (p : CoreProc) where
 
 -- the procedure that a call of f runs
 pub record CalleeAt (P : Program) (number : Text → ℕ) (K : CoreProgram) (p : CoreProc) (G : Scope) (f : Text) (q : Callee) : Type 0 where
+  pub routine : SourceRoutine
+  pub is_routine : routine_named P f ≡ Some routine
   pub declared : Proc
   pub is_declared : procedure_in P.decls f ≡ Some declared
   pub ins : sorts_of declared.head.ins ≡ q.ins
@@ -100,6 +106,7 @@ pub record CalleeAt (P : Program) (number : Text → ℕ) (K : CoreProgram) (p :
   pub proc_ins : sorts_of proc.ins ≡ q.ins
   pub proc_outs : sorts_of proc.outs ≡ q.outs
   pub modifies : AllByRecursion (Contains p.modifies) proc.modifies
+  pub own_modifies : AllByRecursion (Contains p.modifies) (source_of (globals_in P.decls) (number f) routine).modifies
 
 abbrev pub left_sort_if : Bool → List Sort
 left_sort_if returns = if returns then BoolSort ∷ [] else []
@@ -208,16 +215,16 @@ hidden_next slots first at n xs ys us vs e f h = let g = h.after in record {
   after = omega (arith, g);
 }
 
--- whether a return stands among a list of statements
-abbrev pub one_returns : List StmtKind → Bool
-one_returns [] = false
-one_returns (k ∷ ks) = has_return k || one_returns ks
-
-have_length : (C : Context) (es : List Expr) (ss : List Sort) → AllHave C es ss → length es ≡ length ss
+pub have_length : (C : Context) (es : List Expr) (ss : List Sort) → AllHave C es ss → length es ≡ length ss
 have_length C [] [] h = refl
 have_length C [] (s ∷ ss) h = absurd h
 have_length C (e ∷ es) [] h = absurd h
 have_length C (e ∷ es) (s ∷ ss) h = ap (λ (n : ℕ). suc n) (have_length C es ss h.1)
+
+pub each_lefts_counted : (ks : List StmtKind) → length (each_left_sorts ks) ≡ (counts_each ks).lefts
+each_lefts_counted [] = refl
+each_lefts_counted (k ∷ ks) =
+    let i = lefts_counted k in let j = each_lefts_counted ks in let l = length-append (left_sorts k) (each_left_sorts ks) in omega (arith, i, j, l)
 
 -- ---- statements
 
@@ -316,12 +323,9 @@ module _ (P : Program) (number : Text → ℕ) (K : CoreProgram) (p : CoreProc) 
 
   -- ---- calls
 
-  same_callee : (f : Text) (q r : Callee) → named R.scope.procedures f ≡ Some q → named R.scope.procedures f ≡ Some r → q ≡ r
-  same_callee f q r e h = cc
-
   call_at : (xs : List Text) (f : Text) (es : List Expr) → (h : Calls R xs f es) → IsCallable R xs f → CalleeAt P number K p R.scope f h.0
   call_at xs f es h c =
-      let e = same_callee f c.callee h.0 c.found h.1 in
+      let e = same_Some _ _ (sym c.found ∙ h.1) in
       fits.callees f h.0 h.1 c.has_body (subst (λ (q : Callee). AllByRecursion (λ x. modified_rule R x ≡ Ok tt) q.modifies) e c.modifies)
 
   arg_sorts_are : (xs : List Text) (f : Text) (es : List Expr) → (h : Calls R xs f es) → IsCallable R xs f → arg_sorts P (Call xs f es) ≡ h.0.ins
@@ -426,7 +430,7 @@ module _ (P : Program) (number : Text → ℕ) (K : CoreProgram) (p : CoreProc) 
     stmts_formed b at (more_of-Stmt q k ks) h c leave hide loops =
         formed_append K p (extracted P number F at k) (all_extracted P number F (plus at (counts k)) ks) (stmt_formed b at k h.0 c.0 (λ r. leave (or_left (has_return k) (has_returns ks) r)) (hidden_here T.slots first at (arg_sorts P k) (all_arg_sorts P ks) (left_sorts k) (all_left_sorts ks) hide) loops.0) (stmts_formed b (plus at (counts k)) ks h.1 c.1 (λ r. leave (or_right (has_return k) (has_returns ks) r)) (hidden_next T.slots first at (counts k) (arg_sorts P k) (all_arg_sorts P ks) (left_sorts k) (all_left_sorts ks) (args_counted b k h.0 c.0) (lefts_counted k) hide) loops.1)
 
-  pub each_formed : (b : Bool) (at : Counts) (ks : List StmtKind) → EachTyped R b ks → EachChecked R ks → (one_returns ks ≡ true → AllFormed K p F.leave) → HiddenAt T.slots first at (each_arg_sorts P ks) (each_left_sorts ks) → EachLoopsAt (LoopHas K ms ins state copies) at.loops ks → AllFormed K p (each_extracted P number F at ks)
+  pub each_formed : (b : Bool) (at : Counts) (ks : List StmtKind) → EachTyped R b ks → EachChecked R ks → (has_return_among ks ≡ true → AllFormed K p F.leave) → HiddenAt T.slots first at (each_arg_sorts P ks) (each_left_sorts ks) → EachLoopsAt (LoopHas K ms ins state copies) at.loops ks → AllFormed K p (each_extracted P number F at ks)
   each_formed b at [] h c leave hide loops = tt
   each_formed b at (k ∷ ks) h c leave hide loops =
-      formed_append K p (extracted P number F at k) (each_extracted P number F (plus at (counts k)) ks) (stmt_formed b at k h.0 c.0 (λ r. leave (or_left (has_return k) (one_returns ks) r)) (hidden_here T.slots first at (arg_sorts P k) (each_arg_sorts P ks) (left_sorts k) (each_left_sorts ks) hide) loops.0) (each_formed b (plus at (counts k)) ks h.1 c.1 (λ r. leave (or_right (has_return k) (one_returns ks) r)) (hidden_next T.slots first at (counts k) (arg_sorts P k) (each_arg_sorts P ks) (left_sorts k) (each_left_sorts ks) (args_counted b k h.0 c.0) (lefts_counted k) hide) loops.1)
+      formed_append K p (extracted P number F at k) (each_extracted P number F (plus at (counts k)) ks) (stmt_formed b at k h.0 c.0 (λ r. leave (or_left (has_return k) (has_return_among ks) r)) (hidden_here T.slots first at (arg_sorts P k) (each_arg_sorts P ks) (left_sorts k) (each_left_sorts ks) hide) loops.0) (each_formed b (plus at (counts k)) ks h.1 c.1 (λ r. leave (or_right (has_return k) (has_return_among ks) r)) (hidden_next T.slots first at (counts k) (arg_sorts P k) (each_arg_sorts P ks) (left_sorts k) (each_left_sorts ks) (args_counted b k h.0 c.0) (lefts_counted k) hide) loops.1)

@@ -11,6 +11,7 @@ use Rattle.sd_ast.specs.declared.Body.{Body}
 use Rattle.sd_meaning.specs.Evaluate.{value}
 use Rattle.sd_meaning.specs.Routine.{Routine, procedure_in, implementation_in, with_body, routine_named}
 use Rattle.sd_meaning.specs.Inputs.{globals_in, nowhere}
+use Rattle.sd_types.specs.Declarations.{WellTyped}
 use Rattle.sd_core.specs.Run.{is_true, nowhere as no_store}
 use Rattle.sd_extract.specs.Extract.{Source, source_of, body_proc}
 use Rattle.sd_extract.specs.Programs.{core_axiom, no_names, axioms_in}
@@ -19,8 +20,7 @@ use Rattle.sd_extract.specs.Laws.{number_of, RunsAreKept, ProceduresAreKept, Axi
 use Rattle.sd_extract.proofs.Expressions.{value_kept}
 use Rattle.sd_extract.proofs.Exact.{exact}
 use Rattle.sd_extract.proofs.Programs.{program_runs, body_at}
-use Rattle.sd_extract.proofs.Declared.{procedure_stands, implementation_stands}
-use Rattle.sd_extract.proofs.Assigned.{some_is}
+use Rattle.sd_extract.proofs.FormedDeclarations.{is_typed, routine_fine}
 use Rattle.sd_extract.proofs.TypedIsFine.{typed_is_fine}
 
 -- ---- runs
@@ -39,23 +39,14 @@ runs_kept P w M n f d r e g ins globals a b =
 
 -- ---- procedures
 
-pub name_kept : (P : Program) (f : Text) (r : Routine) → routine_named P f ≡ Some r → r.head.name ≡ f
-name_kept P f r = go (procedure_in P.decls f) (implementation_in P.decls f) refl refl
-  where
-    go : (o : Option Proc) (i : Option Impl) → procedure_in P.decls f ≡ o → implementation_in P.decls f ≡ i → with_body o i ≡ Some r → r.head.name ≡ f
-    go None i e g h = absurd (cc)
-    go (Some p) (Some i) e g h = ap (λ (x : Routine). x.head.name) (sym (some_is h)) ∙ sym (implementation_stands P.decls f i g).1
-    go (Some p) None e g h = own p.body h
-      where
-        own : (b : Option Body) → option_map (λ b. record { declared = p; head = p.head; body = b }) b ≡ Some r → r.head.name ≡ f
-        own None h = absurd (cc)
-        own (Some b) h = ap (λ (x : Routine). x.head.name) (sym (some_is h)) ∙ sym (procedure_stands P.decls f p e).1
+pub name_kept : (P : Program) (f : Text) (r : Routine) → WellTyped P → routine_named P f ≡ Some r → r.head.name ≡ f
+name_kept P f r w e = let t = is_typed P w in sym (routine_fine P t.0 t.1 f r e).name
 
 pub procedures_kept : ProceduresAreKept
 procedures_kept P f r w g = (
   body_proc P (number_of P) (source P f r),
   body_at P (typed_is_fine P w) f (source P f r) (ap (option_map (source_of (globals_in P.decls) (number_of P f))) g),
-  name_kept P f r g,
+  name_kept P f r w g,
   refl,
   refl,
   refl,

@@ -11,10 +11,8 @@ pub mod SlotsApart
 pub mod Fine
 pub mod Typed
 pub mod Procedures
-pub mod LoopPlaces
 pub mod Programs
 pub mod Exact
-pub mod Declared
 pub mod Assigned
 pub mod TypedIsFine
 pub mod LawLemmas
@@ -22,7 +20,6 @@ pub mod Roots
 pub mod PropositionalLemmas
 pub mod Propositional
 pub mod FailureMeanings
-pub mod FailureHeads
 pub mod FailureGlobals
 pub mod Failures
 pub mod FormedLists

@@ -2,6 +2,7 @@
 use Rattle.std.proofs.Common.{◌≡◌, Bool, true, false, cond, ℕ, zero, suc, ◌+◌, List, [], ◌∷◌, ◌++◌, Option, Some, None, is_some, Ok, refl, sym, ◌∙◌, ap, length, ◌⊎◌, ⊎_elim, inl, inr, arith}
 use Rattle.std.specs.Prelude.{slice_get, if◌then◌else◌}
 use Rattle.std.specs.Cmp.Lexicographic.{bytes_decides}
+use Rattle.std.proofs.lemmas.Option.{none-some, same_Some}
 use Rattle.sd_base.specs.Value.{Text, same_text}
 use Rattle.sd_ast.specs.declared.Decl.{Decl}
 use Rattle.sd_ast.specs.declared.Decl.TheVariants.{Types, Const, Function, Axiom, Globals, Procedure, Implementation}
@@ -13,16 +14,15 @@ use Rattle.sd_meaning.specs.Inputs.{globals_in}
 use Rattle.sd_types.specs.declared.scope.Callee.{Callee}
 use Rattle.sd_types.specs.declared.scope.Scope.{Scope}
 use Rattle.sd_types.specs.Tables.{named}
-use Rattle.sd_types.specs.Declarations.{callee_of, nothing, enter, enter_all}
-use Rattle.sd_types.proofs.TypingLemmas.{parts}
+use Rattle.sd_types.specs.Declarations.{callee_of, WellTyped}
 use Rattle.sd_core.specs.declared.CoreProc.{CoreProc}
 use Rattle.sd_extract.specs.Extract.{counts, counts_all, Source, kinds, loops_in, all_loops_in, each_loop_in, source_of, size_of, number_from, routine_procs, procs_from}
 use Rattle.sd_extract.specs.Laws.{number_of, RootsAreProcedures}
-use Rattle.sd_extract.proofs.Assigned.{some_is}
-use Rattle.sd_extract.proofs.Declared.{procedure_enters, no_more, first_of, named-append}
+use Rattle.sd_extract.proofs.FormedTables.{OnceEach, procedure_entries}
+use Rattle.sd_extract.proofs.FormedLookups.{procedure_named}
+use Rattle.sd_extract.proofs.FormedDeclarations.{is_typed, procedures_once}
 use Rattle.sd_extract.proofs.LawLemmas.{name_kept}
-use Rattle.sd_extract.proofs.Programs.{routine_length}
-use Rattle.sd_types.proofs.TypedBodyLemmas.{typed_scope}
+use Rattle.sd_extract.proofs.FormedNumbers.{routine_length}
 
 -- ---- loops have a parent
 
@@ -36,7 +36,7 @@ loops_append (p ∷ ps) qs a b = (a.0, loops_append ps qs a.1 b)
 
 loop_at : (ps : List CoreProc) (i : ℕ) (p : CoreProc) → AreLoops ps → slice_get ps i ≡ Some p → is_some p.parent ≡ true
 loop_at [] i p a e = absurd (cc)
-loop_at (q ∷ ps) zero p a e = ap (λ (x : CoreProc). is_some x.parent) (sym (some_is e)) ∙ a.0
+loop_at (q ∷ ps) zero p a e = ap (λ (x : CoreProc). is_some x.parent) (sym (same_Some _ _ e)) ∙ a.0
 loop_at (q ∷ ps) (suc i) p a e = loop_at ps i p a.1 e
 
 module _ (P : Program) (number : Text → ℕ) (S : Source) where
@@ -77,25 +77,19 @@ abbrev IsRootOf : Program → ℕ → List Decl → ℕ → CoreProc → Type 0
 IsRootOf P n ds i p =
     (q : Proc) × (procedure_in ds p.name ≡ Some q) × ((r : Routine) × (routine_named P p.name ≡ Some r)) × (n + i ≡ number_from P n ds p.name)
 
--- a procedure that was entered is found
-found_entered : (H K : Scope) (q : Proc) → enter H (Procedure q) ≡ Ok K → is_some (named K.procedures q.head.name) ≡ true
-found_entered H K q h =
-    let e = procedure_enters H K q h in
-    ap (λ (l : List (Text × Callee)). is_some (named l q.head.name)) e.procedures ∙ ap is_some (named-append H.procedures ((q.head.name, callee_of q) ∷ []) q.head.name) ∙ go (named H.procedures q.head.name)
+-- a name that stands once isn't found again
+not_again : (ds : List Decl) (f : Text) → named (procedure_entries ds) f ≡ None → procedure_in ds f ≡ None
+not_again ds f h = go (procedure_in ds f) refl
   where
-    last : (b : Bool) → b ≡ true → is_some (cond b (Some (callee_of q)) None) ≡ true
-    last true t = refl
-    last false t = absurd (cc)
+    go : (o : Option Proc) → procedure_in ds f ≡ o → procedure_in ds f ≡ None
+    go None e = e
+    go (Some p) e = absurd (none-some (callee_of p) (sym h ∙ procedure_named ds f p e))
 
-    go : (o : Option Callee) → is_some (first_of o (named ((q.head.name, callee_of q) ∷ []) q.head.name)) ≡ true
-    go (Some c) = refl
-    go None = last (same_text q.head.name q.head.name) ((bytes_decides q.head.name q.head.name).1 refl)
-
-module _ (P : Program) where
+module _ (P : Program) (w : WellTyped P) where
   -- among the core procedures of one procedure
   first_is : (n : ℕ) (f : Text) (o : Option Routine) (i : ℕ) (p : CoreProc) → routine_named P f ≡ o → slice_get (routine_procs P n o) i ≡ Some p → p.parent ≡ None → (p.name ≡ f) × (i ≡ 0) × ((r : Routine) × (o ≡ Some r))
   first_is n f None i p e g root = absurd (cc)
-  first_is n f (Some r) zero p e g root = (ap (λ (x : CoreProc). x.name) (sym (some_is g)) ∙ name_kept P f r e, refl, (r, refl))
+  first_is n f (Some r) zero p e g root = (ap (λ (x : CoreProc). x.name) (sym (same_Some _ _ g)) ∙ name_kept P f r w e, refl, (r, refl))
   first_is n f (Some r) (suc i) p e g root =
       let S = source_of (globals_in P.decls) n r in
       let number = number_from P 0 P.decls in
@@ -130,24 +124,21 @@ module _ (P : Program) where
             let before : n + i ≡ next + k = omega (arith, long, size) in
             (h.0, ap (λ (c : Bool). if c then Some q else procedure_in ds p.name) t ∙ h.1, h.2, before ∙ h.3 ∙ sym (ap (λ (c : Bool). if c then n else number_from P next ds p.name) t))
 
-  roots : (H G : Scope) (ds : List Decl) (n i : ℕ) (p : CoreProc) → enter_all H ds ≡ Ok G → slice_get (procs_from P n ds) i ≡ Some p → p.parent ≡ None → IsRootOf P n ds i p
-  roots H G [] n i p h g root = absurd (cc)
-  roots H G (Procedure q ∷ ds) n i p h g root =
-      let k = parts (enter H (Procedure q)) (λ K. enter_all K ds) G h in
+  roots : (ds : List Decl) (n i : ℕ) (p : CoreProc) → OnceEach (procedure_entries ds) → slice_get (procs_from P n ds) i ≡ Some p → p.parent ≡ None → IsRootOf P n ds i p
+  roots [] n i p once g root = absurd (none-some p g)
+  roots (Procedure q ∷ ds) n i p once g root =
       let here = routine_procs P n (routine_named P q.head.name) in
       let after = n + size_of (routine_named P q.head.name) in
-      let once : procedure_in ds q.head.name ≡ None = no_more k.0 G ds q.head.name k.2 (found_entered H k.0 q k.1) in
       ⊎_elim (λ (a : slice_get here i ≡ Some p). is_first q ds n i p (first_is n q.head.name (routine_named P q.head.name) i p refl a root))
       (λ (b : (k : ℕ) × (i ≡ length here + k) × (slice_get (procs_from P after ds) k ≡ Some p)).
-      is_later q ds n i p once b.0 b.1 (roots k.0 G ds after b.0 p k.2 b.2 root))
+      is_later q ds n i p (not_again ds q.head.name once.0) b.0 b.1 (roots ds after b.0 p once.1 b.2 root))
       (either_list here (procs_from P after ds) i p g)
-  roots H G (d ∷ ds) n i p h g root =
-      let k = parts (enter H d) (λ K. enter_all K ds) G h in roots k.0 G ds n i p k.2 g root
+  roots (_ ∷ ds) n i p once g root = roots ds n i p once g root
 
 pub roots_are_procedures : RootsAreProcedures
 roots_are_procedures P i p w g root =
-    let G = typed_scope P w in
-    let r = roots P nothing G.0 P.decls 0 i p G.1 g root in
+    let t = is_typed P w in
+    let r = roots P w P.decls 0 i p (procedures_once P t.0 t.1) g root in
     let place : 0 + i ≡ number_of P p.name = r.3 in
     let here : 0 + i ≡ i = omega arith in
     (r.2.0, r.2.1, sym here ∙ place)

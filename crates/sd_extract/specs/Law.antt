@@ -1,7 +1,8 @@
 -- What typing gives to extraction, and the law of extraction.
-use Rattle.std.specs.Prelude.{◌↔◌, ◌≡◌, ◌≢◌, ◌⊎◌, ℕ, suc, Bool, true, false, List, [], ◌∷◌, map, length, get_or, Option, Some, None, option_map}
+use Rattle.std.specs.Prelude.{◌↔◌, ◌≡◌, ◌≢◌, ◌⊎◌, ℕ, suc, Bool, true, false, List, [], ◌∷◌, ◌++◌, map, length, get_or, Option, Some, None, option_map}
 use Rattle.sd_base.specs.declared.Var.{Var}
-use Rattle.sd_base.specs.Value.{Text, Value}
+use Rattle.std.specs.List.{IsDistinct}
+use Rattle.sd_base.specs.Value.{Text, same_text, Value}
 use Rattle.sd_ast.specs.declared.Program.{Program}
 use Rattle.sd_ast.specs.declared.Proc.{Proc}
 use Rattle.sd_ast.specs.declared.Expr.{Expr}
@@ -97,15 +98,10 @@ abbrev pub EachFine : Setting → Source → (in_loop : Bool) → List StmtKind 
 EachFine T S b [] = Unit {0}
 EachFine T S b (k ∷ ks) = IsFine T S b k × EachFine T S b ks
 
--- these variables are outs or locals, from this number on, and no ins
-abbrev pub AreNamed : Source → ℕ → List Var → Type 0
-AreNamed S k [] = Unit {0}
-AreNamed S k (v ∷ vs) = (index_in S.routine.head.ins v.name ≡ None) × (index_in (state_of S) v.name ≡ Some k) × AreNamed S (suc k) vs
-
 -- what the declaration of a source says
 pub record SourceFine (T : Setting) (S : Source) : Type 0 where
   pub declared_ins : length S.routine.declared.head.ins ≡ length S.routine.head.ins
-  pub outs_named : AreNamed S 0 S.routine.head.outs
+  pub own : IsDistinct same_text (names_of S.routine.head.ins ++ names_of (state_of S))
   pub stmts : EachFine T S false (kinds S)
 
 abbrev pub source_named : Program → Text → Option Source
