@@ -3,7 +3,7 @@ use Rattle.std.proofs.Common.{◌≡◌, List, [], ◌∷◌, map, length, sym, 
 use Rattle.sd_term.specs.Tree.{Tree}
 use Rattle.sd_rows.specs.declared.row.Row.{Row}
 use Rattle.sd_linear.specs.declared.step.RowStep.{RowStep}
-use Rattle.sd_linear.specs.Held.{IsRefutation}
+use Rattle.sd_linear.specs.Answers.{IsRefutation}
 use Rattle.sd_kernel.specs.declared.step.RowLine.{RowLine}
 use Rattle.sd_kernel.specs.declared.step.Step.TheVariants.{Rows}
 use Rattle.sd_kernel.specs.Known.{Trail}

@@ -13,7 +13,7 @@ use Rattle.sd_linear.specs.declared.step.RowStep.{RowStep}
 use Rattle.sd_linear.specs.declared.step.RowStep.TheVariants.{Input, Add as AddStep, Cut as CutStep}
 use Rattle.sd_linear.specs.RowSteps.{row_made, made_from, IsStep, AreSteps}
 use Rattle.sd_linear.specs.Values.{AllWithin}
-use Rattle.sd_linear.specs.Held.{IsRefutation}
+use Rattle.sd_linear.specs.Answers.{IsRefutation}
 use Rattle.sd_linear.proofs.Deriving.{made_from-front, at-end}
 use Rattle.sd_kernel.specs.declared.step.RowLine.{RowLine}
 use Rattle.sd_kernel.specs.declared.step.RowLine.TheVariants.{Fact as FactLine}

@@ -7,18 +7,19 @@ use Rattle.std.specs.Prelude.{if◌then◌else◌}
 use Rattle.std.specs.List.{flat_map}
 use borrow.Author.Tests.{leb-true, eqb-true}
 use Rattle.sd_rows.specs.declared.row.Row.{Row}
-use Rattle.sd_linear.specs.declared.list.Held.{Held}
+use Rattle.sd_linear.specs.declared.list.DerivedRow.{DerivedRow}
 use Rattle.sd_rows.specs.Rows.{Part, Parts, AllAbove, IsAscending, IsProper, are_small, is_within, AllComputable}
 use Rattle.sd_rows.specs.RowOps.{added, times, same_number}
 use Rattle.sd_rows.proofs.Integers.{same_number_is}
-use Rattle.sd_linear.specs.Elimination.{factor_of, combined, combined_with, combinations, eliminated, is_positive, is_negative, is_free, Next, goes, ends, after, come_in, all_come_in}
+use Rattle.sd_linear.specs.Elimination.{factor_of, combined, combined_with, combinations, eliminated, is_positive, is_negative, is_free, Next, continues, ends, after, come_in, all_come_in}
 use Rattle.sd_linear.specs.declared.step.RowStep.{RowStep}
 use Rattle.sd_linear.specs.declared.elimination.Stop.{Stop}
 use Rattle.sd_linear.specs.declared.elimination.Stop.TheVariants.{Memory, Ends}
 use Rattle.sd_linear.specs.RowSteps.{rows_made}
-use Rattle.sd_linear.specs.Held.{rows_of, unheld, IsHeld, AllHeld, IsDerived, Extends, Stops, has_column}
+use Rattle.sd_linear.specs.DerivedRows.{rows_of, default_row, IsDerivedRow, AreDerivedRows, IsDerivation, Extends, has_column}
+use Rattle.sd_linear.specs.Answers.{Stops}
 use Rattle.sd_linear.proofs.Coming.{all_come_in-append}
-use Rattle.sd_linear.proofs.Deriving.{AllHeld-extended}
+use Rattle.sd_linear.proofs.Deriving.{AreDerivedRows-extended}
 use Rattle.sd_rows.proofs.Cuts.{and-left, and-right}
 use Rattle.sd_rows.proofs.Proper.{IsProper-sum_of, IsProper-times}
 
@@ -51,21 +52,21 @@ factor_of-none k (p ∷ ps) zero z h a l = go (p.0 == k) refl
     go false e = above-none k p.0 ps (omega arith) a.0
 factor_of-none k (p ∷ ps) (suc i) z h a l = factor_of-none k ps i z (omega arith) a.1 l
 
-pub proper-at : (hs : List Held) (i : ℕ) (h : Held) → i < length hs → h ≡ get_or hs i h → AllComputable (rows_of hs) → IsProper h.row.parts × (is_within h.row ≡ true)
+pub proper-at : (hs : List DerivedRow) (i : ℕ) (h : DerivedRow) → i < length hs → h ≡ get_or hs i h → AllComputable (rows_of hs) → IsProper h.row.parts × (is_within h.row ≡ true)
 proper-at [] i h l e a = absurd (omega arith)
-proper-at (g ∷ gs) zero h l e a = subst (λ (f : Held). IsProper f.row.parts × (is_within f.row ≡ true)) (sym e) a.0
+proper-at (g ∷ gs) zero h l e a = subst (λ (f : DerivedRow). IsProper f.row.parts × (is_within f.row ≡ true)) (sym e) a.0
 proper-at (g ∷ gs) (suc i) h l e a = proper-at gs i h (omega arith) e a.1
 
-pub AllComputable-held : (made : List Row) (hs : List Held) → AllHeld made hs → AllComputable (rows_of hs)
-AllComputable-held made [] a = tt
-AllComputable-held made (h ∷ hs) a = ((a.0.proper, a.0.within), AllComputable-held made hs a.1)
+pub AllComputable-derived : (made : List Row) (hs : List DerivedRow) → AreDerivedRows made hs → AllComputable (rows_of hs)
+AllComputable-derived made [] a = tt
+AllComputable-derived made (h ∷ hs) a = ((a.0.proper, a.0.within), AllComputable-derived made hs a.1)
 
 -- ---- the loops
 
 -- the step that was asked for is now that the rows that are left come into the list
-pub record Continues (inputs : List Row) (whole : Next) (k : ℕ) (left : List Row) (list : List Held) (old steps : List RowStep) : Type 0 where
+pub record Continues (inputs : List Row) (whole : Next) (k : ℕ) (left : List Row) (list : List DerivedRow) (old steps : List RowStep) : Type 0 where
   pub same : whole ≡ all_come_in k left (rows_of list)
-  pub derived : IsDerived inputs steps list
+  pub derived : IsDerivation inputs steps list
   pub extends : Extends old steps
 
 Extends-trans : (a b c : List RowStep) → Extends a b → Extends b c → Extends a c
@@ -74,8 +75,8 @@ Extends-trans a b c e f = (e.0 ++ f.0, f.1 ∙ ap (λ (l : List RowStep). l ++ f
 pub Extends-self : (a : List RowStep) → Extends a a
 Extends-self a = ([], sym (append-nil a))
 
-pub continues-all : (inputs : List Row) (whole : Next) (k : ℕ) (rs left all : List Row) (list list' : List Held) (old steps steps' : List RowStep) → all ≡ rs ++ left
-    → Continues inputs whole k all list old steps → all_come_in k rs (rows_of list) ≡ goes (rows_of list') → IsDerived inputs steps' list' → Extends steps steps'
+pub continues-all : (inputs : List Row) (whole : Next) (k : ℕ) (rs left all : List Row) (list list' : List DerivedRow) (old steps steps' : List RowStep) → all ≡ rs ++ left
+    → Continues inputs whole k all list old steps → all_come_in k rs (rows_of list) ≡ continues (rows_of list') → IsDerivation inputs steps' list' → Extends steps steps'
     → Continues inputs whole k left list' old steps'
 continues-all inputs whole k rs left all list list' old steps steps' e c g d x = record {
   same = c.same ∙ ap (λ (l : List Row). all_come_in k l (rows_of list)) e ∙ all_come_in-append k rs left (rows_of list) ∙ ap (λ (n : Next). after n (all_come_in k left)) g;
@@ -83,42 +84,42 @@ continues-all inputs whole k rs left all list list' old steps steps' e c g d x =
   extends = Extends-trans old steps steps' c.extends x;
 }
 
-pub continues-skip : (inputs : List Row) (whole : Next) (k : ℕ) (left all : List Row) (list : List Held) (old steps : List RowStep) → all ≡ left → Continues inputs whole k all list old steps → Continues inputs whole k left list old steps
+pub continues-skip : (inputs : List Row) (whole : Next) (k : ℕ) (left all : List Row) (list : List DerivedRow) (old steps : List RowStep) → all ≡ left → Continues inputs whole k all list old steps → Continues inputs whole k left list old steps
 continues-skip inputs whole k left all list old steps e c = subst (λ (l : List Row). Continues inputs whole k l list old steps) e c
 
-after_one : (k : ℕ) (r : Row) (rows : List Row) (n : Next) → n ≡ come_in k r rows → after n (λ t. goes t) ≡ n
-after_one k r rows (goes t) e = refl
+after_one : (k : ℕ) (r : Row) (rows : List Row) (n : Next) → n ≡ come_in k r rows → after n (λ t. continues t) ≡ n
+after_one k r rows (continues t) e = refl
 after_one k r rows (ends a) e = refl
 
 pub all_come_in-one : (k : ℕ) (r : Row) (rows : List Row) → all_come_in k (r ∷ []) rows ≡ come_in k r rows
 all_come_in-one k r rows = after_one k r rows (come_in k r rows) refl
 
-pub stops-all : (inputs : List Row) (whole : Next) (k : ℕ) (rs left all : List Row) (list : List Held) (old steps : List RowStep) (stop : Stop) → all ≡ rs ++ left
+pub stops-all : (inputs : List Row) (whole : Next) (k : ℕ) (rs left all : List Row) (list : List DerivedRow) (old steps : List RowStep) (stop : Stop) → all ≡ rs ++ left
     → Continues inputs whole k all list old steps → Stops inputs stop (all_come_in k rs (rows_of list)) → Stops inputs stop whole
 stops-all inputs whole k rs left all list old steps Memory e c s = tt
 stops-all inputs whole k rs left all list old steps (Ends answer) e c s =
     (c.same ∙ ap (λ (l : List Row). all_come_in k l (rows_of list)) e ∙ all_come_in-append k rs left (rows_of list) ∙ ap (λ (n : Next). after n (all_come_in k left)) s.0, s.1)
 
-pub IsHeld-extended : (inputs : List Row) (old new : List RowStep) (h : Held) → Extends old new → IsHeld (rows_made inputs old) h → IsHeld (rows_made inputs new) h
-IsHeld-extended inputs old new h e k =
-    let a : AllHeld (rows_made inputs (old ++ e.0)) (h ∷ []) = AllHeld-extended inputs old e.0 (h ∷ []) (k, tt) in
-    subst (λ (s : List RowStep). IsHeld (rows_made inputs s) h) (sym e.1) a.0
+pub IsDerivedRow-extended : (inputs : List Row) (old new : List RowStep) (h : DerivedRow) → Extends old new → IsDerivedRow (rows_made inputs old) h → IsDerivedRow (rows_made inputs new) h
+IsDerivedRow-extended inputs old new h e k =
+    let a : AreDerivedRows (rows_made inputs (old ++ e.0)) (h ∷ []) = AreDerivedRows-extended inputs old e.0 (h ∷ []) (k, tt) in
+    subst (λ (s : List RowStep). IsDerivedRow (rows_made inputs s) h) (sym e.1) a.0
 
-pub AllHeld-extends : (inputs : List Row) (old new : List RowStep) (hs : List Held) → Extends old new → AllHeld (rows_made inputs old) hs → AllHeld (rows_made inputs new) hs
-AllHeld-extends inputs old new hs e k = subst (λ (s : List RowStep). AllHeld (rows_made inputs s) hs) (sym e.1) (AllHeld-extended inputs old e.0 hs k)
+pub AreDerivedRows-extends : (inputs : List Row) (old new : List RowStep) (hs : List DerivedRow) → Extends old new → AreDerivedRows (rows_made inputs old) hs → AreDerivedRows (rows_made inputs new) hs
+AreDerivedRows-extends inputs old new hs e k = subst (λ (s : List RowStep). AreDerivedRows (rows_made inputs s) hs) (sym e.1) (AreDerivedRows-extended inputs old e.0 hs k)
 
-pub held-at : (made : List Row) (hs : List Held) (i : ℕ) → i < length hs → AllHeld made hs → IsHeld made (get_or hs i unheld)
-held-at made [] i l a = absurd (omega arith)
-held-at made (h ∷ hs) zero l a = a.0
-held-at made (h ∷ hs) (suc i) l a = held-at made hs i (omega arith) a.1
+pub derived-at : (made : List Row) (hs : List DerivedRow) (i : ℕ) → i < length hs → AreDerivedRows made hs → IsDerivedRow made (get_or hs i default_row)
+derived-at made [] i l a = absurd (omega arith)
+derived-at made (h ∷ hs) zero l a = a.0
+derived-at made (h ∷ hs) (suc i) l a = derived-at made hs i (omega arith) a.1
 
 -- what is left at a place
 
-abbrev pub from_place : ℕ → List Held → List Row
+abbrev pub from_place : ℕ → List DerivedRow → List Row
 from_place i hs = rows_of (drop i hs)
 
-pub from_place-next : (hs : List Held) (i : ℕ) → i < length hs → from_place i hs ≡ (get_or hs i unheld).row ∷ from_place (i + 1) hs
-from_place-next hs i l = ap rows_of (drop-cons hs i unheld l) ∙ ap (λ (j : ℕ). (get_or hs i unheld).row ∷ rows_of (drop j hs)) (sym (add-one i))
+pub from_place-next : (hs : List DerivedRow) (i : ℕ) → i < length hs → from_place i hs ≡ (get_or hs i default_row).row ∷ from_place (i + 1) hs
+from_place-next hs i l = ap rows_of (drop-cons hs i default_row l) ∙ ap (λ (j : ℕ). (get_or hs i default_row).row ∷ rows_of (drop j hs)) (sym (add-one i))
 
 pub with-here : (k : ℕ) (r s : Row) (ss rows : List Row) → rows ≡ s ∷ ss → is_positive k s ≡ true → combined_with k r rows ≡ combined k r s ∷ combined_with k r ss
 with-here k r s ss rows e p = ap (combined_with k r) e ∙ rw p refl
@@ -135,19 +136,19 @@ from-here k all s ss rows e p = ap (combined_from k all) e ∙ rw p refl
 pub from-past : (k : ℕ) (all : List Row) (s : Row) (ss rows : List Row) → rows ≡ s ∷ ss → is_negative k s ≡ false → combined_from k all rows ≡ combined_from k all ss
 from-past k all s ss rows e p = ap (combined_from k all) e ∙ rw p refl
 
-pub item-at : (hs : List Held) (i : ℕ) (h : Held) → i < length hs → h ≡ get_or hs i h → get_or hs i unheld ≡ h
+pub item-at : (hs : List DerivedRow) (i : ℕ) (h : DerivedRow) → i < length hs → h ≡ get_or hs i h → get_or hs i default_row ≡ h
 item-at hs i h l e = same hs i l ∙ sym e
   where
-    same : (gs : List Held) (j : ℕ) → j < length gs → get_or gs j unheld ≡ get_or gs j h
+    same : (gs : List DerivedRow) (j : ℕ) → j < length gs → get_or gs j default_row ≡ get_or gs j h
     same [] j m = absurd (omega arith)
     same (g ∷ gs) zero m = refl
     same (g ∷ gs) (suc j) m = same gs j (omega arith)
 
-pub IsHeld-item : (made : List Row) (hs : List Held) (i : ℕ) (h : Held) → i < length hs → h ≡ get_or hs i h → AllHeld made hs → IsHeld made h
-IsHeld-item made hs i h l e a = subst (IsHeld made) (item-at hs i h l e) (held-at made hs i l a)
+pub IsDerivedRow-item : (made : List Row) (hs : List DerivedRow) (i : ℕ) (h : DerivedRow) → i < length hs → h ≡ get_or hs i h → AreDerivedRows made hs → IsDerivedRow made h
+IsDerivedRow-item made hs i h l e a = subst (IsDerivedRow made) (item-at hs i h l e) (derived-at made hs i l a)
 
-pub place-is : (hs : List Held) (i : ℕ) (h : Held) → i < length hs → h ≡ get_or hs i h → from_place i hs ≡ h.row ∷ from_place (i + 1) hs
-place-is hs i h l e = from_place-next hs i l ∙ ap (λ (g : Held). g.row ∷ from_place (i + 1) hs) (item-at hs i h l e)
+pub place-is : (hs : List DerivedRow) (i : ℕ) (h : DerivedRow) → i < length hs → h ≡ get_or hs i h → from_place i hs ≡ h.row ∷ from_place (i + 1) hs
+place-is hs i h l e = from_place-next hs i l ∙ ap (λ (g : DerivedRow). g.row ∷ from_place (i + 1) hs) (item-at hs i h l e)
 
 pub not_positive : (k : ℕ) (r : Row) (z : ℤ) → z ≡ factor_of k r.parts → z ≤ℤ pos 0 → is_positive k r ≡ false
 not_positive k r z e h = let f : factor_of k r.parts ≤ℤ pos 0 = subst (λ (y : ℤ). y ≤ℤ pos 0) e h in go (int_lt (pos 0) (factor_of k r.parts)) refl f
@@ -172,7 +173,7 @@ negative k r z e h = let f : factor_of k r.parts <ℤ pos 0 = subst (λ (y : ℤ
 -- ---- the rows without the column
 
 -- one more row that passes a test, or one that does not
-pub filter-here : (f : Row → Bool) (made made' : List Held) (h : Held) (all rest whole : List Row) → all ≡ h.row ∷ rest → f h.row ≡ true → made' ≡ made ++ h ∷ []
+pub filter-here : (f : Row → Bool) (made made' : List DerivedRow) (h : DerivedRow) (all rest whole : List Row) → all ≡ h.row ∷ rest → f h.row ≡ true → made' ≡ made ++ h ∷ []
     → rows_of made ++ filter f all ≡ whole → rows_of made' ++ filter f rest ≡ whole
 filter-here f made made' h all rest whole e p g w =
     ap (λ (l : List Row). l ++ filter f rest) (ap rows_of g ∙ rows_of-append made (h ∷ []))
@@ -180,11 +181,11 @@ filter-here f made made' h all rest whole e p g w =
     ∙ ap (λ (l : List Row). rows_of made ++ l) (sym (ap (filter f) e ∙ (rw p refl)))
     ∙ w
   where
-    rows_of-append : (hs gs : List Held) → rows_of (hs ++ gs) ≡ rows_of hs ++ rows_of gs
+    rows_of-append : (hs gs : List DerivedRow) → rows_of (hs ++ gs) ≡ rows_of hs ++ rows_of gs
     rows_of-append [] gs = refl
     rows_of-append (i ∷ hs) gs = ap (λ (l : List Row). i.row ∷ l) (rows_of-append hs gs)
 
-pub filter-past : (f : Row → Bool) (made : List Held) (h : Held) (all rest whole : List Row) → all ≡ h.row ∷ rest → f h.row ≡ false
+pub filter-past : (f : Row → Bool) (made : List DerivedRow) (h : DerivedRow) (all rest whole : List Row) → all ≡ h.row ∷ rest → f h.row ≡ false
     → rows_of made ++ filter f all ≡ whole → rows_of made ++ filter f rest ≡ whole
 filter-past f made h all rest whole e p w = ap (λ (l : List Row). rows_of made ++ l) (sym (ap (filter f) e ∙ (rw p refl))) ∙ w
 

@@ -15,7 +15,7 @@ use Rattle.sd_linear.specs.declared.step.RowStep.{RowStep}
 use Rattle.sd_linear.specs.declared.step.RowStep.TheVariants.{Input, Add, Cut}
 use Rattle.sd_linear.specs.RowSteps.{row_made, made_from, rows_made, IsStep, AreSteps, Refutes, names, AllUsed, IsUseful, AreUseful}
 use Rattle.sd_linear.specs.Values.{AllWithin}
-use Rattle.sd_linear.specs.Held.{IsRefutation}
+use Rattle.sd_linear.specs.Answers.{IsRefutation}
 use Rattle.sd_linear.specs.Pruning.{step_at, is_marked, number_of, AllEarlier, AreNeeded, renumbered}
 use Rattle.sd_linear.proofs.Deriving.{length-made_from, made_from-append, made_from-front, AreSteps-append, AreUseful-append, at-front, at-end, AllWithin-append}
 use Rattle.sd_linear.proofs.Naming.{names-first, names-second}

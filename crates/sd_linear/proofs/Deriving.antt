@@ -8,14 +8,14 @@ use borrow.Author.Tests.{leb-true, leb-false}
 use Rattle.sd_rows.specs.declared.row.Row.{Row}
 use Rattle.sd_linear.specs.declared.step.RowStep.{RowStep}
 use Rattle.sd_linear.specs.declared.step.RowStep.TheVariants.{Cut}
-use Rattle.sd_linear.specs.declared.list.Held.{Held}
+use Rattle.sd_linear.specs.declared.list.DerivedRow.{DerivedRow}
 use Rattle.sd_rows.specs.Rows.{Parts, IsProper, is_within, are_small}
 use Rattle.sd_rows.specs.Divisors.{greatest_divisor, floor_div}
 use Rattle.sd_rows.specs.RowOps.{reduced, over, sizes}
 use Rattle.sd_linear.specs.RowSteps.{row_made, made_from, rows_made, IsStep, AreSteps, Refutes, IsUseful, AreUseful}
 use Rattle.sd_linear.specs.Values.{AllWithin}
 use Rattle.sd_rows.specs.Rows.{nothing, IsAbsurd}
-use Rattle.sd_linear.specs.Held.{IsHeld, AllHeld, with_cut}
+use Rattle.sd_linear.specs.DerivedRows.{IsDerivedRow, AreDerivedRows, with_cut}
 use Rattle.sd_rows.proofs.Cuts.{greatest_divisor-divides, and-left, and-right}
 use Rattle.sd_rows.proofs.Proper.{IsProper-over}
 
@@ -52,22 +52,22 @@ pub at-end : (rs : List Row) (r : Row) (more : List Row) → slice_index_or (rs 
 at-end [] r more = refl
 at-end (s ∷ rs) r more = at-end rs r more
 
-IsHeld-more : (made more : List Row) (h : Held) → IsHeld made h → IsHeld (made ++ more) h
-IsHeld-more made more h k = record {
+IsDerivedRow-more : (made more : List Row) (h : DerivedRow) → IsDerivedRow made h → IsDerivedRow (made ++ more) h
+IsDerivedRow-more made more h k = record {
   there = omega (arith, k.there, length-append made more);
   row = at-front made more h.step k.there ∙ k.row;
   proper = k.proper;
   within = k.within;
 }
 
-pub AllHeld-more : (made more : List Row) (hs : List Held) → AllHeld made hs → AllHeld (made ++ more) hs
-AllHeld-more made more [] a = tt
-AllHeld-more made more (h ∷ hs) a = (IsHeld-more made more h a.0, AllHeld-more made more hs a.1)
+pub AreDerivedRows-more : (made more : List Row) (hs : List DerivedRow) → AreDerivedRows made hs → AreDerivedRows (made ++ more) hs
+AreDerivedRows-more made more [] a = tt
+AreDerivedRows-more made more (h ∷ hs) a = (IsDerivedRow-more made more h a.0, AreDerivedRows-more made more hs a.1)
 
-pub AllHeld-extended : (inputs : List Row) (ss ts : List RowStep) (hs : List Held) → AllHeld (rows_made inputs ss) hs → AllHeld (rows_made inputs (ss ++ ts)) hs
-AllHeld-extended inputs ss ts hs a =
+pub AreDerivedRows-extended : (inputs : List Row) (ss ts : List RowStep) (hs : List DerivedRow) → AreDerivedRows (rows_made inputs ss) hs → AreDerivedRows (rows_made inputs (ss ++ ts)) hs
+AreDerivedRows-extended inputs ss ts hs a =
     let m = made_from-front inputs (rows_made inputs ss) ts in
-    subst (λ (rs : List Row). AllHeld rs hs) (sym (made_from-append inputs [] ss ts ∙ m.1)) (AllHeld-more (rows_made inputs ss) m.0 hs a)
+    subst (λ (rs : List Row). AreDerivedRows rs hs) (sym (made_from-append inputs [] ss ts ∙ m.1)) (AreDerivedRows-more (rows_made inputs ss) m.0 hs a)
 
 -- ---- the reduced row
 
@@ -166,11 +166,11 @@ derives inputs old new how r true e s u a w v i c o f =
       last = (length mid, omega (arith, length-append mid (Cut (length old) ∷ [])), g.2);
     })
 
--- ---- a held row, and a refutation
+-- ---- a derived row, and a refutation
 
-pub IsHeld-derived : (inputs : List Row) (new : List RowStep) (r : Row) (h : Held) → Derives inputs new r → IsProper r.parts → is_within r ≡ true → h.row ≡ reduced r → h.step + 1 ≡ length new
-    → IsHeld (rows_made inputs new) h
-IsHeld-derived inputs new r h d p w e f = record {
+pub IsDerivedRow-derived : (inputs : List Row) (new : List RowStep) (r : Row) (h : DerivedRow) → Derives inputs new r → IsProper r.parts → is_within r ≡ true → h.row ≡ reduced r → h.step + 1 ≡ length new
+    → IsDerivedRow (rows_made inputs new) h
+IsDerivedRow-derived inputs new r h d p w e f = record {
   there = omega (arith, d.count);
   row = let k : h.step ≡ d.last.0 = omega (arith, d.count, d.last.1) in ap (λ (i : ℕ). slice_index_or (rows_made inputs new) i nothing) k ∙ d.last.2 ∙ sym e;
   proper = subst (λ (s : Row). IsProper s.parts) (sym e) (IsProper-reduced r p);

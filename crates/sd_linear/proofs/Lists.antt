@@ -7,10 +7,10 @@ use Rattle.std.proofs.lemmas.List.Quantifiers.{position-Some}
 use lib.Pointwise.{pointwise}
 use borrow.Author.Tests.{ltb-false}
 use Rattle.sd_rows.specs.declared.row.Row.{Row}
-use Rattle.sd_linear.specs.declared.list.Held.{Held}
+use Rattle.sd_linear.specs.declared.list.DerivedRow.{DerivedRow}
 use Rattle.sd_rows.specs.Rows.{Part, Parts}
 use Rattle.sd_linear.specs.Elimination.{same_parts, joined}
-use Rattle.sd_linear.specs.Held.{rows_of, unheld, IsHeld, AllHeld}
+use Rattle.sd_linear.specs.DerivedRows.{rows_of, default_row, IsDerivedRow, AreDerivedRows}
 
 pub same_parts-is : (a b : Parts) → pointwise (λ (x : Part) (y : Part). nat_eq x.0 y.0 && int_eq x.1 y.1) a b ≡ same_parts a b
 same_parts-is [] [] = refl
@@ -18,58 +18,58 @@ same_parts-is [] (q ∷ qs) = refl
 same_parts-is (p ∷ ps) [] = refl
 same_parts-is (p ∷ ps) (q ∷ qs) = ap (λ (t : Bool). (p.0 == q.0) && int_eq p.1 q.1 && t) (same_parts-is ps qs)
 
-abbrev pub fits_in : Held → Held → Bool
+abbrev pub fits_in : DerivedRow → DerivedRow → Bool
 fits_in h g = same_parts h.row.parts g.row.parts
 
-joined-here : (h g : Held) (gs : List Held) → fits_in h g ≡ true
+joined-here : (h g : DerivedRow) (gs : List DerivedRow) → fits_in h g ≡ true
     → joined h.row (g.row ∷ rows_of gs) ≡ (if int_lt h.row.bound g.row.bound then h.row else g.row) ∷ rows_of gs
 joined-here h g gs e = rw e refl
 
-joined-past : (h g : Held) (gs : List Held) → fits_in h g ≡ false → joined h.row (g.row ∷ rows_of gs) ≡ g.row ∷ joined h.row (rows_of gs)
+joined-past : (h g : DerivedRow) (gs : List DerivedRow) → fits_in h g ≡ false → joined h.row (g.row ∷ rows_of gs) ≡ g.row ∷ joined h.row (rows_of gs)
 joined-past h g gs e = rw e refl
 
-less-at : (h : Held) (hs : List Held) (i : ℕ) → i < length hs → fits_in h (get_or hs i unheld) ≡ true
-    → ((k : ℕ) → k < i → fits_in h (get_or hs k unheld) ≡ false) → int_lt h.row.bound (get_or hs i unheld).row.bound ≡ true → joined h.row (rows_of hs) ≡ rows_of (set hs i h)
+less-at : (h : DerivedRow) (hs : List DerivedRow) (i : ℕ) → i < length hs → fits_in h (get_or hs i default_row) ≡ true
+    → ((k : ℕ) → k < i → fits_in h (get_or hs k default_row) ≡ false) → int_lt h.row.bound (get_or hs i default_row).row.bound ≡ true → joined h.row (rows_of hs) ≡ rows_of (set hs i h)
 less-at h [] i l e f b = absurd (omega arith)
 less-at h (g ∷ gs) zero l e f b = joined-here h g gs e ∙ ap (λ (t : Bool). (if t then h.row else g.row) ∷ rows_of gs) b
 less-at h (g ∷ gs) (suc i) l e f b =
     joined-past h g gs (f 0 (omega arith)) ∙ ap (λ (rs : List Row). g.row ∷ rs) (less-at h gs i (omega arith) e (λ k m. f (suc k) (omega arith)) b)
 
-not-less-at : (h : Held) (hs : List Held) (i : ℕ) → i < length hs → fits_in h (get_or hs i unheld) ≡ true
-    → ((k : ℕ) → k < i → fits_in h (get_or hs k unheld) ≡ false) → int_lt h.row.bound (get_or hs i unheld).row.bound ≡ false → joined h.row (rows_of hs) ≡ rows_of hs
+not-less-at : (h : DerivedRow) (hs : List DerivedRow) (i : ℕ) → i < length hs → fits_in h (get_or hs i default_row) ≡ true
+    → ((k : ℕ) → k < i → fits_in h (get_or hs k default_row) ≡ false) → int_lt h.row.bound (get_or hs i default_row).row.bound ≡ false → joined h.row (rows_of hs) ≡ rows_of hs
 not-less-at h [] i l e f b = absurd (omega arith)
 not-less-at h (g ∷ gs) zero l e f b = joined-here h g gs e ∙ ap (λ (t : Bool). (if t then h.row else g.row) ∷ rows_of gs) b
 not-less-at h (g ∷ gs) (suc i) l e f b =
     joined-past h g gs (f 0 (omega arith)) ∙ ap (λ (rs : List Row). g.row ∷ rs) (not-less-at h gs i (omega arith) e (λ k m. f (suc k) (omega arith)) b)
 
-last-at : (h : Held) (hs : List Held) → length hs ≤ prefix_len (λ (g : Held). not (fits_in h g)) hs → joined h.row (rows_of hs) ≡ rows_of (hs ++ h ∷ [])
+last-at : (h : DerivedRow) (hs : List DerivedRow) → length hs ≤ prefix_len (λ (g : DerivedRow). not (fits_in h g)) hs → joined h.row (rows_of hs) ≡ rows_of (hs ++ h ∷ [])
 last-at h [] l = refl
 last-at h (g ∷ gs) l = go (fits_in h g) refl l (last-at h gs)
   where
-    go : (b : Bool) → fits_in h g ≡ b → suc (length gs) ≤ cond (not b) (1 + prefix_len (λ (g : Held). not (fits_in h g)) gs) 0
-        → (length gs ≤ prefix_len (λ (g : Held). not (fits_in h g)) gs → joined h.row (rows_of gs) ≡ rows_of (gs ++ h ∷ [])) → joined h.row (g.row ∷ rows_of gs) ≡ g.row ∷ rows_of (gs ++ h ∷ [])
+    go : (b : Bool) → fits_in h g ≡ b → suc (length gs) ≤ cond (not b) (1 + prefix_len (λ (g : DerivedRow). not (fits_in h g)) gs) 0
+        → (length gs ≤ prefix_len (λ (g : DerivedRow). not (fits_in h g)) gs → joined h.row (rows_of gs) ≡ rows_of (gs ++ h ∷ [])) → joined h.row (g.row ∷ rows_of gs) ≡ g.row ∷ rows_of (gs ++ h ∷ [])
     go true e m f = absurd (omega arith)
     go false e m f = joined-past h g gs e ∙ ap (λ (rs : List Row). g.row ∷ rs) (f (omega arith))
 
-pub joined-less : (h : Held) (hs : List Held) (i : ℕ) → position (fits_in h) hs ≡ Some i → int_lt h.row.bound (get_or hs i unheld).row.bound ≡ true → joined h.row (rows_of hs) ≡ rows_of (set hs i h)
-joined-less h hs i e b = let s = position-Some (fits_in h) hs i unheld e in less-at h hs i s.0 s.1 s.2 b
+pub joined-less : (h : DerivedRow) (hs : List DerivedRow) (i : ℕ) → position (fits_in h) hs ≡ Some i → int_lt h.row.bound (get_or hs i default_row).row.bound ≡ true → joined h.row (rows_of hs) ≡ rows_of (set hs i h)
+joined-less h hs i e b = let s = position-Some (fits_in h) hs i default_row e in less-at h hs i s.0 s.1 s.2 b
 
-pub joined-not_less : (h : Held) (hs : List Held) (i : ℕ) → position (fits_in h) hs ≡ Some i → int_lt h.row.bound (get_or hs i unheld).row.bound ≡ false → joined h.row (rows_of hs) ≡ rows_of hs
-joined-not_less h hs i e b = let s = position-Some (fits_in h) hs i unheld e in not-less-at h hs i s.0 s.1 s.2 b
+pub joined-not_less : (h : DerivedRow) (hs : List DerivedRow) (i : ℕ) → position (fits_in h) hs ≡ Some i → int_lt h.row.bound (get_or hs i default_row).row.bound ≡ false → joined h.row (rows_of hs) ≡ rows_of hs
+joined-not_less h hs i e b = let s = position-Some (fits_in h) hs i default_row e in not-less-at h hs i s.0 s.1 s.2 b
 
-pub joined-last : (h : Held) (hs : List Held) → position (fits_in h) hs ≡ None → joined h.row (rows_of hs) ≡ rows_of (hs ++ h ∷ [])
-joined-last h hs e = last-at h hs (go (nat_lt (prefix_len (λ (g : Held). not (fits_in h g)) hs) (length hs)) refl e)
+pub joined-last : (h : DerivedRow) (hs : List DerivedRow) → position (fits_in h) hs ≡ None → joined h.row (rows_of hs) ≡ rows_of (hs ++ h ∷ [])
+joined-last h hs e = last-at h hs (go (nat_lt (prefix_len (λ (g : DerivedRow). not (fits_in h g)) hs) (length hs)) refl e)
   where
-    go : (b : Bool) → nat_lt (prefix_len (λ (g : Held). not (fits_in h g)) hs) (length hs) ≡ b → cond b (Some (prefix_len (λ (g : Held). not (fits_in h g)) hs)) None ≡ None
-        → length hs ≤ prefix_len (λ (g : Held). not (fits_in h g)) hs
+    go : (b : Bool) → nat_lt (prefix_len (λ (g : DerivedRow). not (fits_in h g)) hs) (length hs) ≡ b → cond b (Some (prefix_len (λ (g : DerivedRow). not (fits_in h g)) hs)) None ≡ None
+        → length hs ≤ prefix_len (λ (g : DerivedRow). not (fits_in h g)) hs
     go true f m = absurd (cc)
-    go false f m = ltb-false (prefix_len (λ (g : Held). not (fits_in h g)) hs) (length hs) f
+    go false f m = ltb-false (prefix_len (λ (g : DerivedRow). not (fits_in h g)) hs) (length hs) f
 
-pub AllHeld-append : (made : List Row) (hs gs : List Held) → AllHeld made hs → AllHeld made gs → AllHeld made (hs ++ gs)
-AllHeld-append made [] gs a b = b
-AllHeld-append made (h ∷ hs) gs a b = (a.0, AllHeld-append made hs gs a.1 b)
+pub AreDerivedRows-append : (made : List Row) (hs gs : List DerivedRow) → AreDerivedRows made hs → AreDerivedRows made gs → AreDerivedRows made (hs ++ gs)
+AreDerivedRows-append made [] gs a b = b
+AreDerivedRows-append made (h ∷ hs) gs a b = (a.0, AreDerivedRows-append made hs gs a.1 b)
 
-pub AllHeld-set : (made : List Row) (hs : List Held) (i : ℕ) (h : Held) → IsHeld made h → AllHeld made hs → AllHeld made (set hs i h)
-AllHeld-set made [] i h b a = tt
-AllHeld-set made (g ∷ gs) zero h b a = (b, a.1)
-AllHeld-set made (g ∷ gs) (suc i) h b a = (a.0, AllHeld-set made gs i h b a.1)
+pub AreDerivedRows-set : (made : List Row) (hs : List DerivedRow) (i : ℕ) (h : DerivedRow) → IsDerivedRow made h → AreDerivedRows made hs → AreDerivedRows made (set hs i h)
+AreDerivedRows-set made [] i h b a = tt
+AreDerivedRows-set made (g ∷ gs) zero h b a = (b, a.1)
+AreDerivedRows-set made (g ∷ gs) (suc i) h b a = (a.0, AreDerivedRows-set made gs i h b a.1)

@@ -1,11 +1,8 @@
 -- the marks of the steps that the last one needs, while they are put from the last step back
-use Rattle.std.proofs.Common.{◌≡◌, ℕ, zero, suc, ◌+◌, ◌-◌, ◌<◌, ◌≤◌, List, [], ◌∷◌, length, set, replicate, refl, sym, ap, ◌∙◌, Bool, true, false, arith, ◌==◌, ◌||◌, ◌⊎◌, inl, inr, length-set, get_or-set_same, get_or-set_other}
-use Rattle.std.proofs.lemmas.List.{get_or-replicate}
-use Rattle.std.proofs.Math.Bool.{or-true}
-use borrow.Author.Tests.{eqb-true, eqb-false}
+use Rattle.std.proofs.Common.{◌≡◌, ℕ, zero, suc, ◌+◌, ◌<◌, ◌≤◌, List, [], ◌∷◌, length, refl, Bool, true, false, arith, ◌||◌, ◌⊎◌, inl, inr}
 use Rattle.sd_linear.specs.declared.step.RowStep.{RowStep}
 use Rattle.sd_linear.specs.RowSteps.{names}
-use Rattle.sd_linear.specs.Pruning.{step_at, is_marked, AllEarlier, AreNeeded}
+use Rattle.sd_linear.specs.Pruning.{step_at, is_marked}
 
 -- the steps from i on are done
 pub record MarksFrom (steps : List RowStep) (i : ℕ) (marks : List Bool) : Type 0 where

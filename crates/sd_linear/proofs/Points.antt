@@ -11,7 +11,7 @@ use Rattle.sd_rows.specs.declared.row.Row.{Row}
 use Rattle.sd_rows.specs.Rows.{Parts, sum_at, Holds, AllHold, IsProper, is_within}
 use Rattle.sd_rows.specs.Divisors.{greatest_divisor}
 use Rattle.sd_rows.specs.RowOps.{reduced, sizes}
-use Rattle.sd_linear.specs.Elimination.{Answer, refuted, point, gap, wide, many, Next, goes, ends, after, answer_after, same_parts, joined, taken, come_in, all_come_in, factor_of, is_free, is_negative, is_positive, combined, combined_with, combinations, eliminated, Range, range_in, nearest, value_of, within_reach, in_range, chosen, solved, columns, elimination}
+use Rattle.sd_linear.specs.Elimination.{Answer, refuted, point, gap, wide, many, Next, continues, ends, after, answer_after, same_parts, joined, with_reduced, come_in, all_come_in, factor_of, is_free, is_negative, is_positive, combined, combined_with, combinations, eliminated, Range, range_in, nearest, value_of, within_reach, in_range, chosen, solved, columns, elimination}
 use Rattle.sd_rows.specs.Rows.{is_empty}
 use Rattle.sd_rows.proofs.Integers.{same_number_is}
 use Rattle.sd_rows.proofs.Cuts.{Holds-unreduced, and-left, and-right}
@@ -85,11 +85,11 @@ pub record Strengthens (ks : List ℕ) (r : List Row) (old new : List Row) : Typ
   pub listed : AllListed ks new
   pub stronger : (x : ℕ → ℤ) → AllHold x new → AllHold x old × AllHold x r
 
-taken-strengthens : (ks : List ℕ) (s : Row) (rows new : List Row) → IsGood ks s → AllListed ks rows → taken s rows ≡ goes new → AllListed ks new × ((x : ℕ → ℤ) → AllHold x new → AllHold x rows × Holds x s)
-taken-strengthens ks s rows new h a e = go (is_empty s.parts) refl (int_lt s.bound (pos 0)) refl (nat_le (length (joined s rows)) 20000) e
+with_reduced-strengthens : (ks : List ℕ) (s : Row) (rows new : List Row) → IsGood ks s → AllListed ks rows → with_reduced s rows ≡ continues new → AllListed ks new × ((x : ℕ → ℤ) → AllHold x new → AllHold x rows × Holds x s)
+with_reduced-strengthens ks s rows new h a e = go (is_empty s.parts) refl (int_lt s.bound (pos 0)) refl (nat_le (length (joined s rows)) 20000) e
   where
     go : (b : Bool) → is_empty s.parts ≡ b → (c : Bool) → int_lt s.bound (pos 0) ≡ c → (d : Bool)
-        → (if b then (if c then ends refuted else goes rows) else (if d then goes (joined s rows) else ends many)) ≡ goes new
+        → (if b then (if c then ends refuted else continues rows) else (if d then continues (joined s rows) else ends many)) ≡ continues new
         → AllListed ks new × ((x : ℕ → ℤ) → AllHold x new → AllHold x rows × Holds x s)
     go true f true g d i = absurd (cc)
     go true f false g d i =
@@ -107,19 +107,19 @@ taken-strengthens ks s rows new h a e = go (is_empty s.parts) refl (int_lt s.bou
 IsGood-reduced : (ks : List ℕ) (r : Row) → IsGood ks r → IsGood ks (reduced r)
 IsGood-reduced ks r h = record { proper = IsProper-reduced r h.proper; columns = ColumnsIn-over ks (greatest_divisor (sizes r.parts)) r.parts h.columns }
 
-come_in-strengthens : (ks : List ℕ) (k : ℕ) (r : Row) (rows new : List Row) → IsGood ks r → AllListed ks rows → come_in k r rows ≡ goes new → AllListed ks new × ((x : ℕ → ℤ) → AllHold x new → AllHold x rows × Holds x r)
+come_in-strengthens : (ks : List ℕ) (k : ℕ) (r : Row) (rows new : List Row) → IsGood ks r → AllListed ks rows → come_in k r rows ≡ continues new → AllListed ks new × ((x : ℕ → ℤ) → AllHold x new → AllHold x rows × Holds x r)
 come_in-strengthens ks k r rows new h a e = go (is_within r) e
   where
-    go : (b : Bool) → (if b then taken (reduced r) rows else ends (wide k)) ≡ goes new → AllListed ks new × ((x : ℕ → ℤ) → AllHold x new → AllHold x rows × Holds x r)
-    go true f = let t = taken-strengthens ks (reduced r) rows new (IsGood-reduced ks r h) a f in (t.0, λ x g. let u = t.1 x g in (u.0, Holds-unreduced x r u.1))
+    go : (b : Bool) → (if b then with_reduced (reduced r) rows else ends (wide k)) ≡ continues new → AllListed ks new × ((x : ℕ → ℤ) → AllHold x new → AllHold x rows × Holds x r)
+    go true f = let t = with_reduced-strengthens ks (reduced r) rows new (IsGood-reduced ks r h) a f in (t.0, λ x g. let u = t.1 x g in (u.0, Holds-unreduced x r u.1))
     go false f = absurd (cc)
 
-pub all-strengthen : (ks : List ℕ) (k : ℕ) (rs rows new : List Row) → AllGood ks rs → AllListed ks rows → all_come_in k rs rows ≡ goes new → Strengthens ks rs rows new
+pub all-strengthen : (ks : List ℕ) (k : ℕ) (rs rows new : List Row) → AllGood ks rs → AllListed ks rows → all_come_in k rs rows ≡ continues new → Strengthens ks rs rows new
 all-strengthen ks k [] rows new h a e = let f : rows ≡ new = cc in record { listed = subst (AllListed ks) f a; stronger = λ x g. (subst (AllHold x) (sym f) g, tt) }
 all-strengthen ks k (r ∷ rs) rows new h a e = go (come_in k r rows) refl e (λ mid l f. all-strengthen ks k rs mid new h.1 l f)
   where
-    go : (n : Next) → come_in k r rows ≡ n → after n (all_come_in k rs) ≡ goes new → ((mid : List Row) → AllListed ks mid → all_come_in k rs mid ≡ goes new → Strengthens ks rs mid new) → Strengthens ks (r ∷ rs) rows new
-    go (goes mid) f g i =
+    go : (n : Next) → come_in k r rows ≡ n → after n (all_come_in k rs) ≡ continues new → ((mid : List Row) → AllListed ks mid → all_come_in k rs mid ≡ continues new → Strengthens ks rs mid new) → Strengthens ks (r ∷ rs) rows new
+    go (continues mid) f g i =
         let t = come_in-strengthens ks k r rows mid h.0 a f in
         let s : Strengthens ks rs mid new = i mid t.0 g in
         record { listed = s.listed; stronger = λ x w. let u = s.stronger x w in let v = t.1 x u.0 in (v.0, (v.1, u.1)) }
@@ -127,10 +127,10 @@ all-strengthen ks k (r ∷ rs) rows new h a e = go (come_in k r rows) refl e (λ
 
 -- ---- no step ends with a point
 
-taken-no_point : (s : Row) (rows : List Row) (vs : List ℤ) → taken s rows ≡ ends (point vs) → ⊥
-taken-no_point s rows vs e = go (is_empty s.parts) (int_lt s.bound (pos 0)) (nat_le (length (joined s rows)) 20000) e
+with_reduced-no_point : (s : Row) (rows : List Row) (vs : List ℤ) → with_reduced s rows ≡ ends (point vs) → ⊥
+with_reduced-no_point s rows vs e = go (is_empty s.parts) (int_lt s.bound (pos 0)) (nat_le (length (joined s rows)) 20000) e
   where
-    go : (b c d : Bool) → (if b then (if c then ends refuted else goes rows) else (if d then goes (joined s rows) else ends many)) ≡ ends (point vs) → ⊥
+    go : (b c d : Bool) → (if b then (if c then ends refuted else continues rows) else (if d then continues (joined s rows) else ends many)) ≡ ends (point vs) → ⊥
     go true true d f = cc
     go true false d f = cc
     go false c true f = cc
@@ -139,8 +139,8 @@ taken-no_point s rows vs e = go (is_empty s.parts) (int_lt s.bound (pos 0)) (nat
 come_in-no_point : (k : ℕ) (r : Row) (rows : List Row) (vs : List ℤ) → come_in k r rows ≡ ends (point vs) → ⊥
 come_in-no_point k r rows vs e = go (is_within r) e
   where
-    go : (b : Bool) → (if b then taken (reduced r) rows else ends (wide k)) ≡ ends (point vs) → ⊥
-    go true f = taken-no_point (reduced r) rows vs f
+    go : (b : Bool) → (if b then with_reduced (reduced r) rows else ends (wide k)) ≡ ends (point vs) → ⊥
+    go true f = with_reduced-no_point (reduced r) rows vs f
     go false f = cc
 
 pub all_come_in-no_point : (k : ℕ) (rs rows : List Row) (vs : List ℤ) → all_come_in k rs rows ≡ ends (point vs) → ⊥
@@ -148,7 +148,7 @@ all_come_in-no_point k [] rows vs e = cc
 all_come_in-no_point k (r ∷ rs) rows vs e = go (come_in k r rows) refl e (λ mid f. all_come_in-no_point k rs mid vs f)
   where
     go : (n : Next) → come_in k r rows ≡ n → after n (all_come_in k rs) ≡ ends (point vs) → ((mid : List Row) → all_come_in k rs mid ≡ ends (point vs) → ⊥) → ⊥
-    go (goes mid) f g i = i mid g
+    go (continues mid) f g i = i mid g
     go (ends b) f g i = come_in-no_point k r rows vs (f ∙ g)
 
 -- ---- the rows after a column is eliminated
@@ -216,7 +216,7 @@ AllListed-free k ks (r ∷ rs) a = go (is_free k r) refl (AllListed-free k ks rs
     )
     go false e i = i
 
-eliminated-strengthens : (k : ℕ) (ks : List ℕ) (rows later : List Row) → AllListed (k ∷ ks) rows → eliminated k rows ≡ goes later → Strengthens ks (combinations k rows) (filter (is_free k) rows) later
+eliminated-strengthens : (k : ℕ) (ks : List ℕ) (rows later : List Row) → AllListed (k ∷ ks) rows → eliminated k rows ≡ continues later → Strengthens ks (combinations k rows) (filter (is_free k) rows) later
 eliminated-strengthens k ks rows later a e =
     all-strengthen ks k (combinations k rows) (filter (is_free k) rows) later (AllGood-combinations k ks rows rows a a) (AllListed-free k ks rows a) e
 
@@ -291,7 +291,7 @@ solved-meets (k ∷ ks) rows vs a e = first (eliminated k rows) refl e (λ later
     second later s many f e i = absurd (cc)
 
     first : (n : Next) → eliminated k rows ≡ n → answer_after n (λ later. chosen k ks rows (solved ks later)) ≡ point vs → Later → AllHold (value_of (k ∷ ks) vs) rows
-    first (goes later) f e i = second later (eliminated-strengthens k ks rows later a f) (solved ks later) refl e i
+    first (continues later) f e i = second later (eliminated-strengthens k ks rows later a f) (solved ks later) refl e i
     first (ends b) f e i = absurd (all_come_in-no_point k (combinations k rows) (filter (is_free k) rows) vs (f ∙ ap ends e))
 
 AllGood-inputs : (ks : List ℕ) (rows : List Row) → AllProper rows → AllColumnsIn ks rows → AllGood ks rows
@@ -303,7 +303,7 @@ pub elimination-meets : (rows : List Row) (vs : List ℤ) → AllProper rows →
 elimination-meets rows vs p e = go (all_come_in 0 rows []) refl e
   where
     go : (n : Next) → all_come_in 0 rows [] ≡ n → answer_after n (solved (columns rows)) ≡ point vs → AllHold (value_of (columns rows) vs) rows
-    go (goes list) f e =
+    go (continues list) f e =
         let s : Strengthens (columns rows) rows [] list = all-strengthen (columns rows) 0 rows [] list (AllGood-inputs (columns rows) rows p (in-columns rows)) tt f in
         (s.stronger (value_of (columns rows) vs) (solved-meets (columns rows) list vs s.listed e)).1
     go (ends b) f e = absurd (all_come_in-no_point 0 rows [] vs (f ∙ ap ends e))

@@ -6,22 +6,23 @@ use borrow.Author.Tests.{eqb-true, eqb-false}
 use Rattle.std.proofs.Common.{ℤ}
 use Rattle.std.specs.Prelude.{None, slice_index_or, option_and_then, if◌then◌else◌}
 use Rattle.sd_rows.specs.declared.row.Row.{Row}
-use Rattle.sd_linear.specs.declared.list.Held.{Held}
+use Rattle.sd_linear.specs.declared.list.DerivedRow.{DerivedRow}
 use Rattle.sd_linear.specs.declared.elimination.Eliminated.{Eliminated}
 use Rattle.sd_linear.specs.declared.elimination.Eliminated.TheVariants.{Refuted, Point, Gap, Wide, Many}
 use Rattle.sd_linear.specs.declared.elimination.Stop.{Stop}
 use Rattle.sd_linear.specs.declared.elimination.Stop.TheVariants.{Memory, Ends}
-use Rattle.sd_linear.specs.Elimination.{Answer, point, Next, goes, ends, answer_after, combinations, is_free, eliminated, factor_of, left_of, Range, limited, value_of, range_in, in_range, chosen, solved, all_come_in}
+use Rattle.sd_linear.specs.Elimination.{Answer, point, Next, continues, ends, answer_after, combinations, is_free, eliminated, factor_of, left_of, Range, limited, value_of, range_in, in_range, chosen, solved, all_come_in}
 use Rattle.sd_rows.specs.Rows.{AllComputable}
-use Rattle.sd_linear.specs.Held.{rows_of, answer_of, Justified, IsNoPoint, Stops, Fails, Descends, DescendsFrom, list_at, rows_at, has_column}
+use Rattle.sd_linear.specs.DerivedRows.{rows_of, Descends, list_at, rows_at, has_column}
+use Rattle.sd_linear.specs.Answers.{answer_of, Justified, IsNoPoint, Stops, Fails}
 use Rattle.sd_linear.proofs.Points.{all_come_in-no_point}
 
-solved-goes : (k : ℕ) (ks : List ℕ) (rows later : List Row) → eliminated k rows ≡ goes later → solved (k ∷ ks) rows ≡ chosen k ks rows (solved ks later)
-solved-goes k ks rows later e = ap (λ (n : Next). answer_after n (λ l. chosen k ks rows (solved ks l))) e
+solved-continues : (k : ℕ) (ks : List ℕ) (rows later : List Row) → eliminated k rows ≡ continues later → solved (k ∷ ks) rows ≡ chosen k ks rows (solved ks later)
+solved-continues k ks rows later e = ap (λ (n : Next). answer_after n (λ l. chosen k ks rows (solved ks l))) e
 
-pub solved-point : (k : ℕ) (ks : List ℕ) (rows later : List Row) (vs : List ℤ) → eliminated k rows ≡ goes later → solved ks later ≡ point vs
+pub solved-point : (k : ℕ) (ks : List ℕ) (rows later : List Row) (vs : List ℤ) → eliminated k rows ≡ continues later → solved ks later ≡ point vs
     → solved (k ∷ ks) rows ≡ in_range k vs (range_in k (value_of ks vs) rows (None, None))
-solved-point k ks rows later vs e f = solved-goes k ks rows later e ∙ ap (chosen k ks rows) f
+solved-point k ks rows later vs e f = solved-continues k ks rows later e ∙ ap (chosen k ks rows) f
 
 no_point : (e : Eliminated) → ((vs : List ℤ) → answer_of e ≡ point vs → ⊥) → IsNoPoint e
 no_point (Refuted steps) f = tt
@@ -42,9 +43,9 @@ pass inputs k ks rows (Gap j) a f n = ap (chosen k ks rows) f
 pass inputs k ks rows (Wide j) a f n = ap (chosen k ks rows) f
 pass inputs k ks rows Many a f n = ap (chosen k ks rows) f
 
-pub fails-later : (inputs : List Row) (stop : Stop) (k : ℕ) (ks : List ℕ) (rows later : List Row) → eliminated k rows ≡ goes later → Fails inputs stop (solved ks later) → Fails inputs stop (solved (k ∷ ks) rows)
+pub fails-later : (inputs : List Row) (stop : Stop) (k : ℕ) (ks : List ℕ) (rows later : List Row) → eliminated k rows ≡ continues later → Fails inputs stop (solved ks later) → Fails inputs stop (solved (k ∷ ks) rows)
 fails-later inputs Memory k ks rows later e s = tt
-fails-later inputs (Ends x) k ks rows later e s = (solved-goes k ks rows later e ∙ pass inputs k ks rows x (solved ks later) s.0 s.2, s.1, s.2)
+fails-later inputs (Ends x) k ks rows later e s = (solved-continues k ks rows later e ∙ pass inputs k ks rows x (solved ks later) s.0 s.2, s.1, s.2)
 
 -- ---- column after column
 
@@ -57,7 +58,7 @@ AllComputable-filter f (r ∷ rs) a = go (f r) (AllComputable-filter f rs a.1)
     go false i = i
 
 -- the lists lead from the first rows to those that are left now, once n columns are gone
-pub record Leads (columns : List ℕ) (n : ℕ) (first now : List Row) (lists : List (List Held)) : Type 0 where
+pub record Leads (columns : List ℕ) (n : ℕ) (first now : List Row) (lists : List (List DerivedRow)) : Type 0 where
   pub all : List (List Row)
   pub starts : rows_at all 0 ≡ first
   pub ends : rows_at all n ≡ now
@@ -85,13 +86,13 @@ older i n h = go (i == n) refl
     go true e = inr (eqb-true i n e)
     go false e = inl (omega (arith, eqb-false i n e))
 
-descends-push : (columns : List ℕ) (n : ℕ) (all : List (List Row)) (later : List Row) (lists lists' : List (List Held)) (with : List Held) → lists' ≡ lists ++ with ∷ []
-    → eliminated (slice_index_or columns n 0) (rows_at all n) ≡ goes later → rows_of with ≡ filter (has_column (slice_index_or columns n 0)) (rows_at all n) → AllComputable (rows_of with)
+descends-push : (columns : List ℕ) (n : ℕ) (all : List (List Row)) (later : List Row) (lists lists' : List (List DerivedRow)) (with : List DerivedRow) → lists' ≡ lists ++ with ∷ []
+    → eliminated (slice_index_or columns n 0) (rows_at all n) ≡ continues later → rows_of with ≡ filter (has_column (slice_index_or columns n 0)) (rows_at all n) → AllComputable (rows_of with)
     → Descends columns n all lists → Descends columns (n + 1) (all ++ later ∷ []) lists'
 descends-push columns n all later lists lists' with e g w a d = record {
   count = omega (arith, length-append all (later ∷ []), d.count);
-  later = λ i h. goes_on i (older i n h);
-  listed = ap (λ (l : List (List Held)). length l) e ∙ omega (arith, length-append lists (with ∷ []), d.listed);
+  later = λ i h. eliminated-at i (older i n h);
+  listed = ap (λ (l : List (List DerivedRow)). length l) e ∙ omega (arith, length-append lists (with ∷ []), d.listed);
   with_column = λ i h. has i (older i n h);
   computable = λ i h. computable i (older i n h);
 }
@@ -103,18 +104,18 @@ descends-push columns n all later lists lists' with e g w a d = record {
     row-new = ap (rows_at (all ++ later ∷ [])) (sym d.count) ∙ get_or-append_seam all later [] []
 
     list-old : (i : ℕ) → i < n → list_at lists' i ≡ list_at lists i
-    list-old i h = ap (λ (l : List (List Held)). list_at l i) e ∙ get_or-append lists (with ∷ []) [] i (omega (arith, d.listed))
+    list-old i h = ap (λ (l : List (List DerivedRow)). list_at l i) e ∙ get_or-append lists (with ∷ []) [] i (omega (arith, d.listed))
 
     list-new : (i : ℕ) → i ≡ n → list_at lists' i ≡ with
-    list-new i h = ap (λ (l : List (List Held)). list_at l i) e ∙ ap (list_at (lists ++ with ∷ [])) (h ∙ sym d.listed) ∙ get_or-append_seam lists with [] []
+    list-new i h = ap (λ (l : List (List DerivedRow)). list_at l i) e ∙ ap (list_at (lists ++ with ∷ [])) (h ∙ sym d.listed) ∙ get_or-append_seam lists with [] []
 
-    goes_on : (i : ℕ) → (i < n) ⊎ (i ≡ n) → eliminated (slice_index_or columns i 0) (rows_at (all ++ later ∷ []) i) ≡ goes (rows_at (all ++ later ∷ []) (i + 1))
-    goes_on i (inl h) = ap (eliminated (slice_index_or columns i 0)) (row-old i (omega arith)) ∙ d.later i h ∙ ap (λ (l : List Row). goes l) (sym (row-old (i + 1) (omega arith)))
-    goes_on i (inr h) =
+    eliminated-at : (i : ℕ) → (i < n) ⊎ (i ≡ n) → eliminated (slice_index_or columns i 0) (rows_at (all ++ later ∷ []) i) ≡ continues (rows_at (all ++ later ∷ []) (i + 1))
+    eliminated-at i (inl h) = ap (eliminated (slice_index_or columns i 0)) (row-old i (omega arith)) ∙ d.later i h ∙ ap (λ (l : List Row). continues l) (sym (row-old (i + 1) (omega arith)))
+    eliminated-at i (inr h) =
         ap (λ (j : ℕ). eliminated (slice_index_or columns j 0) (rows_at (all ++ later ∷ []) j)) h
         ∙ ap (eliminated (slice_index_or columns n 0)) (row-old n (omega arith))
         ∙ g
-        ∙ ap (λ (l : List Row). goes l) (sym row-new ∙ ap (λ (j : ℕ). rows_at (all ++ later ∷ []) (j + 1)) (sym h))
+        ∙ ap (λ (l : List Row). continues l) (sym row-new ∙ ap (λ (j : ℕ). rows_at (all ++ later ∷ []) (j + 1)) (sym h))
 
     has : (i : ℕ) → (i < n) ⊎ (i ≡ n) → rows_of (list_at lists' i) ≡ filter (has_column (slice_index_or columns i 0)) (rows_at (all ++ later ∷ []) i)
     has i (inl h) = ap rows_of (list-old i h) ∙ d.with_column i h ∙ ap (filter (has_column (slice_index_or columns i 0))) (sym (row-old i (omega arith)))
@@ -125,11 +126,11 @@ descends-push columns n all later lists lists' with e g w a d = record {
         ∙ ap (λ (j : ℕ). filter (has_column (slice_index_or columns j 0)) (rows_at (all ++ later ∷ []) j)) (sym h)
 
     computable : (i : ℕ) → (i < n) ⊎ (i ≡ n) → AllComputable (rows_of (list_at lists' i))
-    computable i (inl h) = subst (λ (l : List Held). AllComputable (rows_of l)) (sym (list-old i h)) (d.computable i h)
-    computable i (inr h) = subst (λ (l : List Held). AllComputable (rows_of l)) (sym (list-new i h)) a
+    computable i (inl h) = subst (λ (l : List DerivedRow). AllComputable (rows_of l)) (sym (list-old i h)) (d.computable i h)
+    computable i (inr h) = subst (λ (l : List DerivedRow). AllComputable (rows_of l)) (sym (list-new i h)) a
 
-pub leads-on : (columns : List ℕ) (n k : ℕ) (first now later : List Row) (lists lists' : List (List Held)) (with : List Held) → k ≡ slice_index_or columns n 0 → lists' ≡ lists ++ with ∷ []
-    → eliminated k now ≡ goes later → rows_of with ≡ filter (has_column k) now → AllComputable now → Leads columns n first now lists → Leads columns (n + 1) first later lists'
+pub leads-on : (columns : List ℕ) (n k : ℕ) (first now later : List Row) (lists lists' : List (List DerivedRow)) (with : List DerivedRow) → k ≡ slice_index_or columns n 0 → lists' ≡ lists ++ with ∷ []
+    → eliminated k now ≡ continues later → rows_of with ≡ filter (has_column k) now → AllComputable now → Leads columns n first now lists → Leads columns (n + 1) first later lists'
 leads-on columns n k first now later lists lists' with c e g w a l = record {
   all = l.all ++ later ∷ [];
   starts = get_or-append l.all (later ∷ []) [] 0 (omega (arith, l.descends.count)) ∙ l.starts;
@@ -142,18 +143,18 @@ leads-on columns n k first now later lists lists' with c e g w a l = record {
 }
 
 -- what fails at a column fails at the first
-climbs : (inputs : List Row) (stop : Stop) (columns : List ℕ) (n : ℕ) (all : List (List Row)) (lists : List (List Held)) (i : ℕ) → Descends columns n all lists → i ≤ n → n ≤ length columns
+climbs : (inputs : List Row) (stop : Stop) (columns : List ℕ) (n : ℕ) (all : List (List Row)) (lists : List (List DerivedRow)) (i : ℕ) → Descends columns n all lists → i ≤ n → n ≤ length columns
     → Fails inputs stop (solved (drop i columns) (rows_at all i)) → Fails inputs stop (solved columns (rows_at all 0))
 climbs inputs stop columns n all lists zero d h l f = f
 climbs inputs stop columns n all lists (suc i) d h l f =
     let k : ℕ = slice_index_or columns i 0 in
-    let e : eliminated k (rows_at all i) ≡ goes (rows_at all (suc i)) = d.later i (omega arith) ∙ ap (λ (j : ℕ). goes (rows_at all j)) (add-one i) in
+    let e : eliminated k (rows_at all i) ≡ continues (rows_at all (suc i)) = d.later i (omega arith) ∙ ap (λ (j : ℕ). continues (rows_at all j)) (add-one i) in
     let g : Fails inputs stop (solved (k ∷ drop (suc i) columns) (rows_at all i)) = fails-later inputs stop k (drop (suc i) columns) (rows_at all i) (rows_at all (suc i)) e f in
     climbs inputs stop columns n all lists i d (omega arith) l
     (subst (λ (ks : List ℕ). Fails inputs stop (solved ks (rows_at all i))) (sym (drop-cons columns i 0 (omega arith))) g)
 
 -- a column's elimination fails
-pub fails-column : (inputs : List Row) (stop : Stop) (columns : List ℕ) (n k : ℕ) (first now : List Row) (lists : List (List Held)) → Leads columns n first now lists → n < length columns → k ≡ slice_index_or columns n 0
+pub fails-column : (inputs : List Row) (stop : Stop) (columns : List ℕ) (n k : ℕ) (first now : List Row) (lists : List (List DerivedRow)) → Leads columns n first now lists → n < length columns → k ≡ slice_index_or columns n 0
     → Stops inputs stop (eliminated k now) → Fails inputs stop (solved columns first)
 fails-column inputs stop columns n k first now lists l h e s =
     let ks : List ℕ = drop (suc n) columns in
@@ -186,12 +187,12 @@ range_in-with k x (r ∷ rs) range = go (is_free k r) refl (λ g. range_in-with 
 abbrev pub choice : List ℕ → List ℕ → List ℤ → List Row → ℕ → Answer
 choice columns ks vs rows i = let k = slice_index_or columns i 0 in in_range k vs (range_in k (value_of ks vs) rows (None, None))
 
-pub solved-choice : (columns : List ℕ) (all : List (List Row)) (lists : List (List Held)) (i n : ℕ) (values : List ℤ) (ks : List ℕ) (vs : List ℤ) (hs : List Held) → n ≡ i + 1 → Descends columns (length columns) all lists → i < length columns
+pub solved-choice : (columns : List ℕ) (all : List (List Row)) (lists : List (List DerivedRow)) (i n : ℕ) (values : List ℤ) (ks : List ℕ) (vs : List ℤ) (hs : List DerivedRow) → n ≡ i + 1 → Descends columns (length columns) all lists → i < length columns
     → solved (drop n columns) (rows_at all n) ≡ point (drop n values) → ks ≡ drop n columns → vs ≡ drop n values → hs ≡ list_at lists i
     → solved (drop i columns) (rows_at all i) ≡ choice columns ks vs (rows_of hs) i
 solved-choice columns all lists i n values ks vs hs m d h p e f g =
     let k : ℕ = slice_index_or columns i 0 in
-    let q : eliminated k (rows_at all i) ≡ goes (rows_at all n) = d.later i h ∙ ap (λ (j : ℕ). goes (rows_at all j)) (sym m) in
+    let q : eliminated k (rows_at all i) ≡ continues (rows_at all n) = d.later i h ∙ ap (λ (j : ℕ). continues (rows_at all j)) (sym m) in
     let s : suc i ≡ n = sym (m ∙ add-one i) in
     let r : rows_of hs ≡ filter (has_column k) (rows_at all i) = ap rows_of g ∙ d.with_column i h in
     ap (λ (js : List ℕ). solved js (rows_at all i)) (drop-cons columns i 0 h ∙ ap (λ (j : ℕ). k ∷ drop j columns) s)
@@ -201,7 +202,7 @@ solved-choice columns all lists i n values ks vs hs m d h p e f g =
     ∙ ap (in_range k vs) (sym (ap (λ (rs : List Row). range_in k (value_of ks vs) rs (None, None)) r ∙ range_in-with k (value_of ks vs) (rows_at all i) (None, None)))
 
 -- no value is found for a column
-pub fails-value : (inputs : List Row) (columns : List ℕ) (all : List (List Row)) (lists : List (List Held)) (i : ℕ) (answer : Eliminated) → Descends columns (length columns) all lists → i < length columns
+pub fails-value : (inputs : List Row) (columns : List ℕ) (all : List (List Row)) (lists : List (List DerivedRow)) (i : ℕ) (answer : Eliminated) → Descends columns (length columns) all lists → i < length columns
     → solved (drop i columns) (rows_at all i) ≡ answer_of answer → Justified inputs answer → IsNoPoint answer → Fails inputs (Ends answer) (solved columns (rows_at all 0))
 fails-value inputs columns all lists i answer d h p j o = climbs inputs (Ends answer) columns (length columns) all lists i d (omega arith) (omega arith) (p, j, o)
 

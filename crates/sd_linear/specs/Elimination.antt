@@ -17,15 +17,15 @@ pub data Answer : Type 0 where
 
 -- the list of rows after a step, or the answer that the step ends with
 pub data Next : Type 0 where
-  goes : List Row → Next
+  continues : List Row → Next
   ends : Answer → Next
 
 abbrev pub after : Next → (List Row → Next) → Next
-after (goes rows) f = f rows
+after (continues rows) f = f rows
 after (ends a) f = ends a
 
 abbrev pub answer_after : Next → (List Row → Answer) → Answer
-answer_after (goes rows) f = f rows
+answer_after (continues rows) f = f rows
 answer_after (ends a) f = a
 
 -- ---- how a row comes into the list
@@ -43,17 +43,17 @@ joined r (s ∷ ss) =
     if same_parts r.parts s.parts then (if int_lt r.bound s.bound then r else s) ∷ ss else s ∷ joined r ss
 
 abbrev pub kept : List Row → Next
-kept rows = if nat_le (length rows) 20000 then goes rows else ends many
+kept rows = if nat_le (length rows) 20000 then continues rows else ends many
 
-abbrev pub taken : Row → List Row → Next
-taken r rows = if is_empty r.parts then (if int_lt r.bound (pos 0) then ends refuted else goes rows) else kept (joined r rows)
+abbrev pub with_reduced : Row → List Row → Next
+with_reduced r rows = if is_empty r.parts then (if int_lt r.bound (pos 0) then ends refuted else continues rows) else kept (joined r rows)
 
 -- while column k is eliminated
 abbrev pub come_in : ℕ → Row → List Row → Next
-come_in k r rows = if is_within r then taken (reduced r) rows else ends (wide k)
+come_in k r rows = if is_within r then with_reduced (reduced r) rows else ends (wide k)
 
 abbrev pub all_come_in : ℕ → List Row → List Row → Next
-all_come_in k [] rows = goes rows
+all_come_in k [] rows = continues rows
 all_come_in k (r ∷ rs) rows = after (come_in k r rows) (all_come_in k rs)
 
 -- ---- the rows without a column

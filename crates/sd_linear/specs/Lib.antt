@@ -1,5 +1,7 @@
 pub mod Elimination
 pub mod RowSteps
-pub mod Held
+pub mod DerivedRows
+pub mod Answers
 pub mod Values
 pub mod Pruning
+pub mod Laws

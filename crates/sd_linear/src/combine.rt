@@ -2,12 +2,13 @@ ghost use Rattle.std.specs.Prelude.{◌≡◌, ◌<◌, ◌≤◌, true, IfOk, I
 ghost use Rattle.sd_rows.specs.declared.row.Row.{Row};
 ghost use Rattle.sd_rows.specs.Rows.{IsProper, is_within};
 ghost use Rattle.sd_linear.specs.RowSteps.{rows_made, row_made, IsStep, IsUseful};
-ghost use Rattle.sd_linear.specs.Elimination.{factor_of, is_negative, come_in, all_come_in, combined, combined_with, combinations, is_positive, is_free, eliminated, goes, elimination};
-ghost use Rattle.sd_linear.specs.Held.{rows_of, IsHeld, AllHeld, IsDerived, Extends, Stops, has_column};
+ghost use Rattle.sd_linear.specs.Elimination.{factor_of, is_negative, come_in, all_come_in, combined, combined_with, combinations, is_positive, is_free, eliminated, continues, elimination};
+ghost use Rattle.sd_linear.specs.DerivedRows.{rows_of, IsDerivedRow, AreDerivedRows, IsDerivation, Extends, has_column};
+ghost use Rattle.sd_linear.specs.Answers.{Stops};
 ghost use Rattle.sd_rows.specs.Rows.{AllComputable};
 
 use crate::elimination::{Eliminated, Stop};
-use crate::list::{Held, cut, derive, join};
+use crate::list::{DerivedRow, cut, derive, join};
 use crate::refutation::needed;
 use crate::step::RowStep;
 use sd_base::NoMemory;
@@ -15,7 +16,7 @@ use sd_rows::{Row, multipliers};
 use sqlite_items::Items;
 use std::alloc::Global;
 
-/// How many rows are held at most.
+/// How many rows are kept at most.
 const MAX_ROWS: usize = 20000;
 
 /// The factor of a column, 0 where the row has none. The columns of a row ascend, so that no part after a greater one is looked at.
@@ -42,17 +43,17 @@ pub(crate) fn comes_in(
     column: u32,
     row: Row,
     how: RowStep,
-    list: &mut Items<Held>,
+    list: &mut Items<DerivedRow>,
     steps: &mut Items<RowStep>,
 ) -> Result<(), Stop>
     requires proper { IsProper row.parts }
     requires made { row_made inputs.now (rows_made inputs.now steps.old) how ≡ row }
     requires step { IsStep inputs.now (rows_made inputs.now steps.old) how }
     requires useful { IsUseful (rows_made inputs.now steps.old) how }
-    requires derived { IsDerived inputs.now steps.old list.old }
+    requires derived { IsDerivation inputs.now steps.old list.old }
 
-    ensures goes { OnOk result (come_in column row (rows_of list.old) ≡ goes (rows_of list.new)) }
-    ensures derived { OnOk result (IsDerived inputs.now steps.new list.new) }
+    ensures continues { OnOk result (come_in column row (rows_of list.old) ≡ continues (rows_of list.new)) }
+    ensures derived { OnOk result (IsDerivation inputs.now steps.new list.new) }
     ensures extends { OnOk result (Extends steps.old steps.new) }
     ensures stops { IfErr result (λ stop. Stops inputs.now stop (come_in column row (rows_of list.old))) }
 {
@@ -69,7 +70,7 @@ pub(crate) fn comes_in(
         return Ok(());
     }
     let step = derive(steps, how, is_cut)?;
-    join(list, Held { row, step })?;
+    join(list, DerivedRow { row, step })?;
     if list.len() > MAX_ROWS {
         return Err(Stop::Ends(Eliminated::Many));
     }
@@ -81,19 +82,19 @@ fn combine(
     alloc: Global,
     inputs: &[Row],
     column: u32,
-    r: &Held,
-    s: &Held,
-    list: &mut Items<Held>,
+    r: &DerivedRow,
+    s: &DerivedRow,
+    list: &mut Items<DerivedRow>,
     steps: &mut Items<RowStep>,
 ) -> Result<(), Stop>
     requires negative { is_negative column r.now.row ≡ true }
     requires positive { is_positive column s.now.row ≡ true }
-    requires first { IsHeld (rows_made inputs.now steps.old) r.now }
-    requires second { IsHeld (rows_made inputs.now steps.old) s.now }
-    requires derived { IsDerived inputs.now steps.old list.old }
+    requires first { IsDerivedRow (rows_made inputs.now steps.old) r.now }
+    requires second { IsDerivedRow (rows_made inputs.now steps.old) s.now }
+    requires derived { IsDerivation inputs.now steps.old list.old }
 
-    ensures goes { OnOk result (come_in column (combined column r.now.row s.now.row) (rows_of list.old) ≡ goes (rows_of list.new)) }
-    ensures derived { OnOk result (IsDerived inputs.now steps.new list.new) }
+    ensures continues { OnOk result (come_in column (combined column r.now.row s.now.row) (rows_of list.old) ≡ continues (rows_of list.new)) }
+    ensures derived { OnOk result (IsDerivation inputs.now steps.new list.new) }
     ensures extends { OnOk result (Extends steps.old steps.new) }
     ensures stops { IfErr result (λ stop. Stops inputs.now stop (come_in column (combined column r.now.row s.now.row) (rows_of list.old))) }
 {
@@ -127,18 +128,18 @@ fn combine_all(
     alloc: Global,
     inputs: &[Row],
     column: u32,
-    r: &Held,
-    rows: &[Held],
-    list: &mut Items<Held>,
+    r: &DerivedRow,
+    rows: &[DerivedRow],
+    list: &mut Items<DerivedRow>,
     steps: &mut Items<RowStep>,
 ) -> Result<(), Stop>
     requires negative { is_negative column r.now.row ≡ true }
-    requires first { IsHeld (rows_made inputs.now steps.old) r.now }
-    requires rows { AllHeld (rows_made inputs.now steps.old) rows.now }
-    requires derived { IsDerived inputs.now steps.old list.old }
+    requires first { IsDerivedRow (rows_made inputs.now steps.old) r.now }
+    requires rows { AreDerivedRows (rows_made inputs.now steps.old) rows.now }
+    requires derived { IsDerivation inputs.now steps.old list.old }
 
-    ensures goes { OnOk result (all_come_in column (combined_with column r.now.row (rows_of rows.now)) (rows_of list.old) ≡ goes (rows_of list.new)) }
-    ensures derived { OnOk result (IsDerived inputs.now steps.new list.new) }
+    ensures continues { OnOk result (all_come_in column (combined_with column r.now.row (rows_of rows.now)) (rows_of list.old) ≡ continues (rows_of list.new)) }
+    ensures derived { OnOk result (IsDerivation inputs.now steps.new list.new) }
     ensures extends { OnOk result (Extends steps.old steps.new) }
     ensures stops { IfErr result (λ stop. Stops inputs.now stop (all_come_in column (combined_with column r.now.row (rows_of rows.now)) (rows_of list.old))) }
 {
@@ -154,21 +155,21 @@ fn combine_all(
 fn partition(
     alloc: Global,
     column: u32,
-    rows: &[Held],
-) -> Result<(Items<Held>, Items<Held>), NoMemory>
+    rows: &[DerivedRow],
+) -> Result<(Items<DerivedRow>, Items<DerivedRow>), NoMemory>
     requires { AllComputable (rows_of rows.now) }
     ensures with { IfOk result (λ lists. rows_of lists.0 ≡ filter (has_column column) (rows_of rows.now)) }
     ensures free { IfOk result (λ lists. rows_of lists.1 ≡ filter (is_free column) (rows_of rows.now)) }
-    ensures held { IfOk result (λ lists. (made : List Row) → AllHeld made rows.now → AllHeld made lists.0 × AllHeld made lists.1) }
+    ensures derived { IfOk result (λ lists. (made : List Row) → AreDerivedRows made rows.now → AreDerivedRows made lists.0 × AreDerivedRows made lists.1) }
 {
     let mut with = Items::new(alloc);
     let mut free = Items::new(alloc);
     for r in rows {
-        let held = r.copy(alloc)?;
+        let copy = r.copy(alloc)?;
         if factor_of(&r.row, column) == 0 {
-            free.push(held)?;
+            free.push(copy)?;
         } else {
-            with.push(held)?;
+            with.push(copy)?;
         }
     }
     Ok((with, free))
@@ -179,15 +180,15 @@ fn combine_rows(
     alloc: Global,
     inputs: &[Row],
     column: u32,
-    rows: &[Held],
-    list: &mut Items<Held>,
+    rows: &[DerivedRow],
+    list: &mut Items<DerivedRow>,
     steps: &mut Items<RowStep>,
 ) -> Result<(), Stop>
-    requires rows { AllHeld (rows_made inputs.now steps.old) rows.now }
-    requires derived { IsDerived inputs.now steps.old list.old }
+    requires rows { AreDerivedRows (rows_made inputs.now steps.old) rows.now }
+    requires derived { IsDerivation inputs.now steps.old list.old }
 
-    ensures goes { OnOk result (all_come_in column (combinations column (rows_of rows.now)) (rows_of list.old) ≡ goes (rows_of list.new)) }
-    ensures derived { OnOk result (IsDerived inputs.now steps.new list.new) }
+    ensures continues { OnOk result (all_come_in column (combinations column (rows_of rows.now)) (rows_of list.old) ≡ continues (rows_of list.new)) }
+    ensures derived { OnOk result (IsDerivation inputs.now steps.new list.new) }
     ensures extends { OnOk result (Extends steps.old steps.new) }
     ensures stops { IfErr result (λ stop. Stops inputs.now stop (all_come_in column (combinations column (rows_of rows.now)) (rows_of list.old))) }
 {
@@ -204,14 +205,14 @@ pub(crate) fn eliminate_column(
     alloc: Global,
     inputs: &[Row],
     column: u32,
-    rows: &[Held],
+    rows: &[DerivedRow],
     steps: &mut Items<RowStep>,
-) -> Result<(Items<Held>, Items<Held>), Stop>
-    requires derived { IsDerived inputs.now steps.old rows.now }
+) -> Result<(Items<DerivedRow>, Items<DerivedRow>), Stop>
+    requires derived { IsDerivation inputs.now steps.old rows.now }
 
     ensures with { IfOk result (λ lists. rows_of lists.0 ≡ filter (has_column column) (rows_of rows.now)) }
-    ensures goes { IfOk result (λ lists. eliminated column (rows_of rows.now) ≡ goes (rows_of lists.1)) }
-    ensures derived { IfOk result (λ lists. IsDerived inputs.now steps.new lists.1) }
+    ensures continues { IfOk result (λ lists. eliminated column (rows_of rows.now) ≡ continues (rows_of lists.1)) }
+    ensures derived { IfOk result (λ lists. IsDerivation inputs.now steps.new lists.1) }
     ensures stops { IfErr result (λ stop. Stops inputs.now stop (eliminated column (rows_of rows.now))) }
 {
     let (with, mut list) = partition(alloc, column, rows)?;

@@ -1,12 +1,13 @@
 ghost use Rattle.std.specs.Prelude.{◌≡◌, ℕ, ◌+◌, ◌<◌, [], IfOk, IfErr, length, drop, List};
 ghost use Rattle.sd_rows.specs.declared.row.Row.{Row};
 ghost use Rattle.sd_rows.specs.Rows.{AllComputable};
-ghost use Rattle.sd_linear.specs.Elimination.{all_come_in, goes, solved, point, elimination};
-ghost use Rattle.sd_linear.specs.Held.{rows_of, IsDerived, Stops, Fails, answer_of, Justified, DescendsFrom, list_at};
+ghost use Rattle.sd_linear.specs.Elimination.{all_come_in, continues, solved, point, elimination};
+ghost use Rattle.sd_linear.specs.DerivedRows.{rows_of, IsDerivation, DescendsFrom, list_at};
+ghost use Rattle.sd_linear.specs.Answers.{Stops, Fails, answer_of, Justified};
 
 use crate::columns::columns_of;
 use crate::combine::{comes_in, eliminate_column};
-use crate::list::Held;
+use crate::list::DerivedRow;
 use crate::step::RowStep;
 use crate::value::choose;
 use sd_base::NoMemory;
@@ -34,7 +35,7 @@ pub enum Eliminated {
 /// Why elimination ends before its last column.
 #[derive(Drop)]
 pub enum Stop {
-    /// Memory is wanting, or a number of a step is.
+    /// There is no memory, or no number for a row or a step.
     Memory,
     /// The answer, which is no point.
     Ends(Eliminated),
@@ -63,7 +64,7 @@ impl From<AllocError> for Stop {
 /// Eliminates the columns in ascending order, and then chooses a value for each, from the last to the first, as near to 0 as the rows
 /// let it be (Fourier-Motzkin elimination; Dantzig and Eaves 1973).
 ///
-/// Out of memory is the only error. More than 2^32 - 1 rows or steps count as such.
+/// Out of memory is the only error. More than 2^32 rows, or a step after 2^32 - 1 others, count as such.
 pub fn eliminate(alloc: Global, rows: &[Row]) -> Result<Eliminated, NoMemory>
     requires { AllComputable rows.now }
     ensures answer { IfOk result (λ answer. answer_of answer ≡ elimination rows.now) }
@@ -94,11 +95,11 @@ fn take_inputs(
     alloc: Global,
     inputs: &[Row],
     steps: &mut Items<RowStep>,
-) -> Result<Items<Held>, Stop>
+) -> Result<Items<DerivedRow>, Stop>
     requires computable { AllComputable inputs.now }
     requires none { steps.old ≡ [] }
-    ensures goes { IfOk result (λ list. all_come_in 0 inputs.now [] ≡ goes (rows_of list)) }
-    ensures derived { IfOk result (λ list. IsDerived inputs.now steps.new list) }
+    ensures continues { IfOk result (λ list. all_come_in 0 inputs.now [] ≡ continues (rows_of list)) }
+    ensures derived { IfOk result (λ list. IsDerivation inputs.now steps.new list) }
     ensures stops { IfErr result (λ stop. Stops inputs.now stop (all_come_in 0 inputs.now [])) }
 {
     let mut list = Items::new(alloc);
@@ -121,7 +122,7 @@ fn take_inputs(
 }
 
 /// The list at a place.
-fn list_at(lists: &[Items<Held>], place: usize) -> &[Held]
+fn list_at(lists: &[Items<DerivedRow>], place: usize) -> &[DerivedRow]
     requires { place < length lists.now }
     ensures { result.now ≡ list_at lists.now place }
 {
@@ -141,10 +142,10 @@ fn eliminate_columns(
     alloc: Global,
     inputs: &[Row],
     columns: &[u32],
-    first: Items<Held>,
+    first: Items<DerivedRow>,
     steps: &mut Items<RowStep>,
-) -> Result<Items<Items<Held>>, Stop>
-    requires derived { IsDerived inputs.now steps.old first }
+) -> Result<Items<Items<DerivedRow>>, Stop>
+    requires derived { IsDerivation inputs.now steps.old first }
     ensures descends { IfOk result (λ lists. DescendsFrom columns.now (rows_of first) lists) }
     ensures fails { IfErr result (λ stop. Fails inputs.now stop (solved columns.now (rows_of first))) }
 {
@@ -163,7 +164,7 @@ fn choose_values(
     alloc: Global,
     inputs: &[Row],
     columns: &[u32],
-    lists: &[Items<Held>],
+    lists: &[Items<DerivedRow>],
 ) -> Result<Items<i128>, Stop>
     requires count { length lists.now ≡ length columns.now }
     requires computable { (i : ℕ) → i < length columns.now → AllComputable (rows_of (list_at lists.now i)) }

@@ -4,7 +4,7 @@ ghost use Rattle.sd_rows.specs.Rows.{IsProper, is_within};
 ghost use Rattle.sd_rows.specs.Divisors.{greatest_divisor};
 ghost use Rattle.sd_rows.specs.RowOps.{reduced, sizes};
 ghost use Rattle.sd_linear.specs.Elimination.{joined, same_parts};
-ghost use Rattle.sd_linear.specs.Held.{rows_of, unheld, IsHeld, AllHeld, with_cut};
+ghost use Rattle.sd_linear.specs.DerivedRows.{rows_of, default_row, IsDerivedRow, AreDerivedRows, with_cut};
 
 use crate::step::RowStep;
 use sd_base::NoMemory;
@@ -14,21 +14,21 @@ use std::alloc::Global;
 
 /// A row of a list, with the number of the step that derives it.
 #[derive(Drop)]
-pub struct Held {
+pub struct DerivedRow {
     pub row: Row,
     pub step: u32,
 }
 
-impl Held {
-    pub(crate) fn copy(&self, alloc: Global) -> Result<Held, NoMemory>
-        ensures { IfOk result (λ held. held ≡ self.now) }
+impl DerivedRow {
+    pub(crate) fn copy(&self, alloc: Global) -> Result<DerivedRow, NoMemory>
+        ensures { IfOk result (λ copy. copy ≡ self.now) }
     {
         let parts = Items::from_slice(alloc, self.row.parts.as_slice())?;
         let row = Row {
             parts,
             bound: self.row.bound,
         };
-        Ok(Held {
+        Ok(DerivedRow {
             row,
             step: self.step,
         })
@@ -43,7 +43,7 @@ fn same_left(a: &[(u32, i128)], b: &[(u32, i128)]) -> bool
 }
 
 /// The first row with this left side.
-fn place_of(list: &[Held], parts: &[(u32, i128)]) -> Option<usize>
+fn place_of(list: &[DerivedRow], parts: &[(u32, i128)]) -> Option<usize>
     ensures { result ≡ position (λ h. same_parts parts.now h.row.parts) list.now }
 {
     list.iter()
@@ -51,25 +51,25 @@ fn place_of(list: &[Held], parts: &[(u32, i128)]) -> Option<usize>
 }
 
 /// Whether the bound is less than that of the row at a place.
-fn is_less(list: &[Held], place: usize, bound: i128) -> bool
+fn is_less(list: &[DerivedRow], place: usize, bound: i128) -> bool
     requires { place < length list.now }
-    ensures { result ≡ int_lt bound (slice_index_or list.now place unheld).row.bound }
+    ensures { result ≡ int_lt bound (slice_index_or list.now place default_row).row.bound }
 {
     bound < list[place].row.bound
 }
 
-/// The lesser bound takes the place of the row with the same left side, or the row goes last.
-pub(crate) fn join(list: &mut Items<Held>, held: Held) -> Result<(), NoMemory>
-    ensures rows { OnOk result (rows_of list.new ≡ joined held.row (rows_of list.old)) }
-    ensures held { OnOk result ((made : List Row) → IsHeld made held → AllHeld made list.old → AllHeld made list.new) }
+/// The lesser bound takes the place of the row with the same left side, or the row continues last.
+pub(crate) fn join(list: &mut Items<DerivedRow>, derived: DerivedRow) -> Result<(), NoMemory>
+    ensures rows { OnOk result (rows_of list.new ≡ joined derived.row (rows_of list.old)) }
+    ensures derived { OnOk result ((made : List Row) → IsDerivedRow made derived → AreDerivedRows made list.old → AreDerivedRows made list.new) }
 {
-    match place_of(list.as_slice(), held.row.parts.as_slice()) {
+    match place_of(list.as_slice(), derived.row.parts.as_slice()) {
         Some(place) => {
-            if is_less(list.as_slice(), place, held.row.bound) {
-                list.set(place, held);
+            if is_less(list.as_slice(), place, derived.row.bound) {
+                list.set(place, derived);
             }
         }
-        None => list.push(held)?,
+        None => list.push(derived)?,
     }
     Ok(())
 }

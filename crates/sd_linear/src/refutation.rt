@@ -3,7 +3,7 @@ ghost use Rattle.sd_rows.specs.declared.row.Row.{Row};
 ghost use Rattle.sd_linear.specs.RowSteps.{rows_made, Refutes, names, AreUseful};
 ghost use Rattle.sd_linear.specs.Values.{AllWithin};
 ghost use Rattle.sd_linear.specs.Pruning.{AllEarlier, AreNeeded, is_marked, renumbered};
-ghost use Rattle.sd_linear.specs.Held.{IsRefutation};
+ghost use Rattle.sd_linear.specs.Answers.{IsRefutation};
 
 use crate::step::RowStep;
 use sd_base::NoMemory;

@@ -1,13 +1,14 @@
 ghost use Rattle.std.specs.Prelude.{◌≡◌, ◌≢◌, pos, [], neg_ℤ, ◌≤◌, ◌<◌, ◌^◌, true, unsigned_abs, List, ◌∷◌, IfOk, IfErr, ◌*ℤ◌, ◌-ℤ◌, if◌then◌else◌};
 ghost use Rattle.sd_rows.specs.Rows.{IsProper, is_within, AllComputable};
 ghost use Rattle.sd_linear.specs.Elimination.{fits, value_of, left_of, factor_of, limited, range_in, nearest, from, up_to, in_range, point};
-ghost use Rattle.sd_linear.specs.Held.{rows_of, answer_of, Justified, IsNoPoint};
+ghost use Rattle.sd_linear.specs.DerivedRows.{rows_of};
+ghost use Rattle.sd_linear.specs.Answers.{answer_of, Justified, IsNoPoint};
 ghost use Rattle.sd_rows.specs.declared.row.Row.{Row};
 ghost use Rattle.sd_linear.specs.Values.{AllNear};
 
 use crate::combine::factor_of;
 use crate::elimination::Eliminated;
-use crate::list::Held;
+use crate::list::DerivedRow;
 use sd_rows::{Row, quotient_down};
 
 /// The value of a column, 0 where it has none.
@@ -121,7 +122,7 @@ fn nearest(range: Range) -> Option<i128>
 }
 
 /// The range that the rows with the column give for its value.
-fn range_in(column: u32, columns: &[u32], values: &[i128], rows: &[Held]) -> Option<Range>
+fn range_in(column: u32, columns: &[u32], values: &[i128], rows: &[DerivedRow]) -> Option<Range>
     requires rows { AllComputable (rows_of rows.now) }
     requires values { AllNear values.now }
     ensures { result ≡ range_in column (value_of columns.now values.now) (rows_of rows.now) (None, None) }
@@ -156,7 +157,7 @@ pub(crate) fn choose(
     column: u32,
     columns: &[u32],
     values: &[i128],
-    rows: &[Held],
+    rows: &[DerivedRow],
 ) -> Result<i128, Eliminated>
     requires rows { AllComputable (rows_of rows.now) }
     requires values { AllNear values.now }

@@ -1,7 +1,7 @@
 use Rattle.std.proofs.Common.{ap, sym, ◌∙◌, subst, List, All, length, map}
 use Rattle.sd_kernel.specs.Facts.{trail_of}
 use Rattle.sd_linear.specs.declared.step.RowStep.{RowStep}
-use Rattle.sd_linear.specs.Held.{Justified}
+use Rattle.sd_linear.specs.Answers.{Justified}
 use Rattle.sd_arith.specs.Lines.{HasInput, line_of}
 use Rattle.sd_arith.specs.Gathered.{rows_of_terms}
 use Rattle.sd_arith.proofs.Closing.{takes-inputs, closes_branch}

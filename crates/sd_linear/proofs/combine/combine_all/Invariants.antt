@@ -1,5 +1,5 @@
 use Rattle.sd_linear.specs.Elimination.{all_come_in, combined_with}
-use Rattle.sd_linear.specs.Held.{rows_of}
+use Rattle.sd_linear.specs.DerivedRows.{rows_of}
 use Rattle.sd_linear.proofs.Combining.{Continues, from_place}
 use Rattle.sd_linear.proofs.combine.combine_all.Given as goal
 

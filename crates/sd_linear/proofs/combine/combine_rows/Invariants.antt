@@ -1,5 +1,5 @@
 use Rattle.sd_linear.specs.Elimination.{all_come_in, combinations}
-use Rattle.sd_linear.specs.Held.{rows_of}
+use Rattle.sd_linear.specs.DerivedRows.{rows_of}
 use Rattle.sd_linear.proofs.Combining.{Continues, from_place, combined_from}
 use Rattle.sd_linear.proofs.combine.combine_rows.Given as goal
 

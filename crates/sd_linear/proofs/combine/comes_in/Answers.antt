@@ -2,12 +2,13 @@ use Rattle.std.proofs.Common.{rules, ◌≡◌, ◌≢◌, sym, true, false, Lis
 use Rattle.sd_rows.specs.Rows.{is_within}
 use Rattle.sd_rows.specs.Divisors.{greatest_divisor}
 use Rattle.sd_rows.specs.RowOps.{reduced, sizes}
-use Rattle.sd_linear.specs.Held.{rows_of, AllHeld, with_cut, IsRefutation}
+use Rattle.sd_linear.specs.DerivedRows.{rows_of, AreDerivedRows, with_cut}
+use Rattle.sd_linear.specs.Answers.{IsRefutation}
 use Rattle.sd_linear.specs.RowSteps.{rows_made, Refutes}
 use Rattle.sd_rows.specs.Rows.{IsAbsurd}
 use Rattle.sd_linear.specs.Elimination.{joined}
-use Rattle.sd_linear.proofs.Deriving.{Derives, derives, IsHeld-derived, Refutes-derived, AllHeld-extended}
-use Rattle.sd_linear.proofs.Coming.{come_in-refuted, come_in-goes, come_in-many}
+use Rattle.sd_linear.proofs.Deriving.{Derives, derives, IsDerivedRow-derived, Refutes-derived, AreDerivedRows-extended}
+use Rattle.sd_linear.proofs.Coming.{come_in-refuted, come_in-continues, come_in-many}
 use Rattle.sd_linear.specs.declared.step.RowStep.{RowStep}
 use Rattle.sd_linear.proofs.combine.comes_in.Goals as goal
 
@@ -47,14 +48,14 @@ returns-then-len-gt-MAX_ROWS-clause-stops c =
     let l : 20000 < length c.join.new.list = search rules in
     (come_in-many c.args.column c.args.row c.in_ok-row.row (rows_of c.args.list.now) c.join.new.list w e p j l, tt)
 
-pub returns-clause-goes : goal.returns-clause-goes
-returns-clause-goes c =
+pub returns-clause-continues : goal.returns-clause-continues
+returns-clause-continues c =
     let w : is_within c.args.row ≡ true = search rules in
     let e : c.in_ok-row.row ≡ reduced c.args.row = search rules in
     let p : c.in_ok-row.row.parts ≢ [] = search rules in
     let j : rows_of c.join.new.list ≡ joined c.in_ok-row.row (rows_of c.args.list.now) = search rules in
     let l : length c.join.new.list ≤ 20000 = search rules in
-    come_in-goes c.args.column c.args.row c.in_ok-row.row (rows_of c.args.list.now) c.join.new.list w e p j l
+    come_in-continues c.args.column c.args.row c.in_ok-row.row (rows_of c.args.list.now) c.join.new.list w e p j l
 
 pub returns-clause-derived : goal.returns-clause-derived
 returns-clause-derived c =
@@ -67,12 +68,12 @@ returns-clause-derived c =
     let d : Derives c.args.inputs.now c.derive-2.new.steps c.args.row =
     derives c.args.inputs.now c.args.steps.now c.derive-2.new.steps c.args.how c.args.row c.in_ok-row.is_cut c.requires.made c.requires.step c.requires.useful c.requires.derived.are_steps c.requires.derived.within c.requires.derived.useful w s o f in
     let n : c.in_ok-step.step + 1 ≡ length c.derive-2.new.steps = search rules in
-    let a : AllHeld (rows_made c.args.inputs.now c.derive-2.new.steps) c.args.list.now =
-    subst (λ s. AllHeld (rows_made c.args.inputs.now s) c.args.list.now) (sym f) (AllHeld-extended c.args.inputs.now c.args.steps.now more c.args.list.now c.requires.derived.held) in
+    let a : AreDerivedRows (rows_made c.args.inputs.now c.derive-2.new.steps) c.args.list.now =
+    subst (λ s. AreDerivedRows (rows_made c.args.inputs.now s) c.args.list.now) (sym f) (AreDerivedRows-extended c.args.inputs.now c.args.steps.now more c.args.list.now c.requires.derived.rows) in
     record {
       are_steps = d.are_steps;
       within = d.within;
       useful = d.useful;
-      held = c.in_ok-join.ensures.held (rows_made c.args.inputs.now c.derive-2.new.steps)
-          (IsHeld-derived c.args.inputs.now c.derive-2.new.steps c.args.row (record { row = c.in_ok-row.row; step = c.in_ok-step.step }) d c.requires.proper w e n) a;
+      rows = c.in_ok-join.ensures.derived (rows_made c.args.inputs.now c.derive-2.new.steps)
+          (IsDerivedRow-derived c.args.inputs.now c.derive-2.new.steps c.args.row (record { row = c.in_ok-row.row; step = c.in_ok-step.step }) d c.requires.proper w e n) a;
     }

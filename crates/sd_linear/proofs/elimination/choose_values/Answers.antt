@@ -1,10 +1,11 @@
 use Rattle.std.proofs.Common.{rules, arith, ◌≡◌, ◌∙◌, ◌-◌, ◌+◌, ◌<◌, ◌∷◌, ap, sym, subst, length, drop, set, length-set, ℕ, List}
 use Rattle.std.proofs.Common.{ℤ}
 use Rattle.sd_rows.specs.declared.row.Row.{Row}
-use Rattle.sd_linear.specs.declared.list.Held.{Held}
+use Rattle.sd_linear.specs.declared.list.DerivedRow.{DerivedRow}
 use Rattle.sd_linear.specs.Values.{AllNear}
 use Rattle.sd_linear.specs.Elimination.{solved, point}
-use Rattle.sd_linear.specs.Held.{rows_of, rows_at, list_at, answer_of, Fails}
+use Rattle.sd_linear.specs.DerivedRows.{rows_of, rows_at, list_at}
+use Rattle.sd_linear.specs.Answers.{answer_of, Fails}
 use Rattle.sd_linear.specs.declared.elimination.Stop.TheVariants.{Ends}
 use Rattle.sd_linear.proofs.Solving.{choice, solved-choice, fails-value, drop-put}
 use Rattle.sd_linear.proofs.elimination.choose_values.Goals as goal
@@ -17,7 +18,7 @@ loop-i-preserved c =
     let j : i < length c.loop-i.values = omega arith in
     let ks : List ℕ = c.after-later_columns.result.now in
     let vs : List ℤ = c.after-later_values.result.now in
-    let hs : List Held = c.list_at.result.now in
+    let hs : List DerivedRow = c.list_at.result.now in
     let e : ks ≡ drop c.loop-i.i c.args.columns.now = c.after-later_columns.ensures ∙ ap (λ (j : ℕ). drop j c.args.columns.now) (sym m) in
     let f : vs ≡ drop c.loop-i.i c.loop-i.values =
     c.after-later_values.ensures ∙ ap (λ (j : ℕ). drop j c.as_slice.result.now) (sym m) ∙ ap (λ (l : List ℤ). drop c.loop-i.i l) c.as_slice.ensures in
@@ -42,7 +43,7 @@ returns-in-Err-clause-fails c = λ first q.
     let h : i < length c.args.columns.now = omega arith in
     let ks : List ℕ = c.after-later_columns.result.now in
     let vs : List ℤ = c.after-later_values.result.now in
-    let hs : List Held = c.list_at.result.now in
+    let hs : List DerivedRow = c.list_at.result.now in
     let e : ks ≡ drop c.loop-i.i c.args.columns.now = c.after-later_columns.ensures ∙ ap (λ (j : ℕ). drop j c.args.columns.now) (sym m) in
     let f : vs ≡ drop c.loop-i.i c.loop-i.values =
     c.after-later_values.ensures ∙ ap (λ (j : ℕ). drop j c.as_slice.result.now) (sym m) ∙ ap (λ (l : List ℤ). drop c.loop-i.i l) c.as_slice.ensures in

@@ -2,7 +2,7 @@ use Rattle.std.proofs.Common.{◌≡◌, drop, length, List}
 use Rattle.sd_rows.specs.declared.row.Row.{Row}
 use Rattle.sd_linear.specs.Elimination.{solved, point}
 use Rattle.sd_linear.specs.Values.{AllNear}
-use Rattle.sd_linear.specs.Held.{Descends, rows_at}
+use Rattle.sd_linear.specs.DerivedRows.{Descends, rows_at}
 use Rattle.sd_linear.proofs.elimination.choose_values.Given as goal
 
 abbrev pub invariant-loop-i : goal.invariant-loop-i

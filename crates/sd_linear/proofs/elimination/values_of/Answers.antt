@@ -1,6 +1,6 @@
 use Rattle.std.proofs.Common.{rules, []}
 use Rattle.sd_linear.specs.Elimination.{solved, columns, elimination}
-use Rattle.sd_linear.specs.Held.{Fails}
+use Rattle.sd_linear.specs.Answers.{Fails}
 use Rattle.sd_linear.proofs.Solving.{fails-step}
 use Rattle.sd_linear.proofs.elimination.values_of.Goals as goal
 

@@ -1,6 +1,6 @@
 use Rattle.std.proofs.Common.{◌≡◌, None}
 use Rattle.sd_linear.specs.Elimination.{value_of, range_in}
-use Rattle.sd_linear.specs.Held.{rows_of}
+use Rattle.sd_linear.specs.DerivedRows.{rows_of}
 use Rattle.sd_linear.proofs.Combining.{from_place}
 use Rattle.sd_linear.proofs.value.range_in.Given as goal
 
