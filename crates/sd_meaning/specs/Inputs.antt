@@ -81,8 +81,10 @@ pub record IsInput (P : Program) (f : Text) (ins : List Value) (globals : Store)
   pub globals_typed : IsStoreOf (globals_in P.decls) globals
 
 -- The in-parameters are equal by position, and so is each global that both programs declare with one name and type.
-pub record SameInput (P Q : Program) (f g : Text) (ins : List Value) (globals : Store) (ins' : List Value) (globals' : Store) : Type 0 where
+pub record SameInput (P Q : Program) (f g : Text) (ins : List Value) (globals : Store) (ins' : List Value)
+    (globals' : Store) : Type 0 where
   pub old_input : IsInput P f ins globals
   pub new_input : IsInput Q g ins' globals'
   pub same_ins : ins ≡ ins'
-  pub same_globals : (x : Var) → Contains (globals_in P.decls) x → Contains (globals_in Q.decls) x → value_of globals x.name ≡ value_of globals' x.name
+  pub same_globals : (x : Var) → Contains (globals_in P.decls) x → Contains (globals_in Q.decls) x
+      → value_of globals x.name ≡ value_of globals' x.name

@@ -81,7 +81,10 @@ is_in (w ∷ ws) x = if same_text x w.0 then true else is_in ws x
 -- A local hides a global of its name.
 abbrev pub set : State → Text → Value → State
 set s x v =
-    if is_in s.locals x then record s { locals = assigned s.locals x v } else record s { globals = assigned s.globals x v }
+    if is_in s.locals x then record s {
+      locals =
+          assigned s.locals x v;
+    } else record s { globals = assigned s.globals x v }
 
 abbrev pub set_all : State → List Text → List Value → State
 set_all s (x ∷ xs) (v ∷ vs) = set_all (set s x v) xs vs
@@ -119,7 +122,12 @@ before p ins globals = record { globals = globals; entry = globals; locals = nam
 
 abbrev pub after : Proc → List Value → List Value → Store → Store → State
 after p ins outs entry globals =
-    record { globals = globals; entry = entry; locals = named (names_of p.head.ins) ins ++ named (names_of p.head.outs) outs }
+    record {
+      globals = globals;
+      entry = entry;
+      locals = named (names_of p.head.ins) ins
+          ++ named (names_of p.head.outs) outs;
+    }
 
 -- where a body begins
 abbrev pub entered : Interpretation → Routine → List Value → Store → State
@@ -138,7 +146,8 @@ if_ensured Blocks o = Blocked
 abbrev pub returned : Interpretation → Routine → List Value → State → Outcome
 returned I r ins s =
     let outs : List Value = map (λ v. variable I s v.name) r.head.outs in
-    if_ensured (verdict I (after r.declared ins outs s.entry s.globals) (ensures_of r.declared.specs)) (Ended outs s.globals)
+    if_ensured (verdict I (after r.declared ins outs s.entry s.globals) (ensures_of r.declared.specs))
+    (Ended outs s.globals)
 
 abbrev pub outcome_of : Interpretation → Routine → List Value → Flow → Outcome
 outcome_of I r ins (Next s) = returned I r ins s
@@ -191,7 +200,8 @@ after_turn Unfinished again = Unfinished
 abbrev pub reach : Interpretation → Option Level → Expr → List Clause → List StmtKind → StmtKind → State → Flow
 reach I None guard invs body loop s = Unfinished
 reach I (Some lower) guard invs body loop s =
-    if_holds (verdict I s invs) (if truth_of (value I s guard.kind) then after_turn (each lower.stmt body s) (lower.stmt loop) else Next s)
+    if_holds (verdict I s invs)
+    (if truth_of (value I s guard.kind) then after_turn (each lower.stmt body s) (lower.stmt loop) else Next s)
 
 abbrev mutual
   pub step : Program → Interpretation → Option Level → StmtKind → State → Flow
