@@ -1,8 +1,7 @@
 -- rows that may be computed with
-use Rattle.std.proofs.Common.{◌≡◌, ℕ, zero, suc, ◌<◌, List, [], ◌∷◌, ◌++◌, length, subst, true, arith}
-use Rattle.std.specs.Prelude.{slice_index_or}
+use Rattle.std.proofs.Common.{◌≡◌, List, [], ◌∷◌, ◌++◌, true}
 use Rattle.sd_rows.specs.declared.row.Row.{Row}
-use Rattle.sd_rows.specs.Rows.{IsProper, is_within, AllComputable, nothing}
+use Rattle.sd_rows.specs.Rows.{IsProper, is_within, AllComputable}
 
 pub computable-push : (rs : List Row) (r : Row) → AllComputable rs → IsProper r.parts → is_within r ≡ true → AllComputable (rs ++ r ∷ [])
 computable-push [] r a p w = ((p, w), tt)

@@ -1,5 +1,5 @@
 -- a row divided by a common divisor of its factors
-use Rattle.std.proofs.Common.{◌≡◌, ℕ, zero, suc, ◌+◌, ◌*◌, ◌/◌, ◌%◌, ◌<◌, ◌≤◌, List, [], ◌∷◌, refl, sym, ap, ◌∙◌, subst, Bool, true, false, cond, arith, ◌==◌, ◌&&◌, unsigned_abs, ◌++◌, drop, get_or, length, append_assoc, add-one, drop-cons}
+use Rattle.std.proofs.Common.{◌≡◌, ℕ, zero, suc, ◌+◌, ◌*◌, ◌/◌, ◌%◌, ◌<◌, ◌≤◌, List, [], ◌∷◌, refl, sym, ap, ◌∙◌, subst, Bool, true, false, arith, ◌==◌, ◌&&◌, unsigned_abs, ◌++◌, drop, get_or, length, append_assoc, add-one, drop-cons}
 use Rattle.std.proofs.Common.{ℤ, pos, negsuc, ◌+ℤ◌, ◌*ℤ◌, ◌≤ℤ◌, neg_ℤ}
 use Rattle.std.specs.Int.RustNames.{int_div, int_rem}
 use Rattle.std.proofs.lemmas.Int.{ints, quot-rem}
@@ -63,20 +63,12 @@ one_divides (n ∷ ns) = rw (mod-one n) (one_divides ns)
 pub divisor_up_to-divides : (m : ℕ) (ns : List ℕ) → divides_all (divisor_up_to m ns) ns ≡ true
 unfolding divisor_up_to
 divisor_up_to-divides zero ns = one_divides ns
-divisor_up_to-divides (suc m) ns = go (divides_all (suc m) ns) refl (divisor_up_to-divides m ns)
-  where
-    go : (b : Bool) → divides_all (suc m) ns ≡ b → divides_all (divisor_up_to m ns) ns ≡ true → divides_all (cond b (suc m) (divisor_up_to m ns)) ns ≡ true
-    go true e h = e
-    go false e h = h
+divisor_up_to-divides (suc m) ns = grind (arith, divisor_up_to-divides m ns)
 
 pub divisor_up_to-positive : (m : ℕ) (ns : List ℕ) → 0 < divisor_up_to m ns
 unfolding divisor_up_to
 divisor_up_to-positive zero ns = omega arith
-divisor_up_to-positive (suc m) ns = go (divides_all (suc m) ns) (divisor_up_to-positive m ns)
-  where
-    go : (b : Bool) → 0 < divisor_up_to m ns → 0 < cond b (suc m) (divisor_up_to m ns)
-    go true h = omega arith
-    go false h = h
+divisor_up_to-positive (suc m) ns = grind (arith, divisor_up_to-positive m ns)
 
 pub greatest_divisor-divides : (ns : List ℕ) → divides_all (greatest_divisor ns) ns ≡ true
 greatest_divisor-divides [] = refl

@@ -1,5 +1,5 @@
 -- forms within the bounds, and what the code computes of them
-use Rattle.std.proofs.Common.{◌≡◌, ℕ, ◌*◌, ◌≤◌, ◌^◌, [], ◌∷◌, refl, ap, ◌∙◌, Bool, true, false, ◌&&◌, arith, nat_le, unsigned_abs}
+use Rattle.std.proofs.Common.{◌≡◌, ℕ, ◌*◌, ◌≤◌, ◌^◌, [], ◌∷◌, refl, ap, ◌∙◌, true, false, ◌&&◌, arith, nat_le, unsigned_abs}
 use Rattle.std.proofs.Common.{ℤ, pos, negsuc, ◌+ℤ◌, ◌*ℤ◌, to_z, of_z}
 use Rattle.std.specs.Prelude.{if◌then◌else◌}
 use mir.Syntax.{w128}
@@ -8,8 +8,8 @@ use Rattle.std.proofs.lemmas.Int.{ints, unsigned_abs-mul, to_z-of_z}
 use Rattle.std.proofs.Math.Nat.{mul-le-mul}
 use borrow.Author.Tests.{leb-true}
 use Rattle.sd_rows.specs.declared.form.Form.{Form}
-use Rattle.sd_rows.specs.Rows.{Parts, AllAbove, IsProper, are_small, is_empty}
-use Rattle.sd_rows.specs.RowOps.{same_number, times, sum_of}
+use Rattle.sd_rows.specs.Rows.{Parts, AllAbove, IsProper, are_small}
+use Rattle.sd_rows.specs.RowOps.{times, sum_of}
 use Rattle.sd_rows.specs.Forms.{IsFit, times_by, plus, scaled, less, constant, column, bounded, product}
 use Rattle.sd_rows.proofs.Cuts.{and-left, and-right}
 use Rattle.sd_rows.proofs.Proper.{AllAbove-unless_zero, IsAscending-unless_zero, HasNoZero-unless_zero, IsProper-sum_of}
@@ -64,16 +64,8 @@ IsProper-times_by z (p ∷ ps) h =
 are_small-negative : (ps : Parts) → are_small ps ≡ true → are_small (times_by (negsuc 0) ps) ≡ true
 are_small-negative [] e = refl
 are_small-negative (p ∷ ps) e =
-    go (same_number (negsuc 0 *ℤ p.1) (pos 0)) (are_small-negative ps (and-right (nat_le (unsigned_abs p.1) (2 ^ 58)) (are_small ps) e))
-  where
-    head : nat_le (unsigned_abs (negsuc 0 *ℤ p.1)) (2 ^ 58) ≡ true
-    head =
-        let same : unsigned_abs (negsuc 0 *ℤ p.1) ≡ unsigned_abs p.1 = omega (arith, unsigned_abs-mul (negsuc 0) p.1) in
-        ap (λ (n : ℕ). nat_le n (2 ^ 58)) same ∙ and-left (nat_le (unsigned_abs p.1) (2 ^ 58)) (are_small ps) e
-
-    go : (b : Bool) → are_small (times_by (negsuc 0) ps) ≡ true → are_small (if b then times_by (negsuc 0) ps else (p.0, negsuc 0 *ℤ p.1) ∷ times_by (negsuc 0) ps) ≡ true
-    go true rest = rest
-    go false rest = λ i. head i && rest i
+    let same : unsigned_abs (negsuc 0 *ℤ p.1) ≡ unsigned_abs p.1 = omega (arith, unsigned_abs-mul (negsuc 0) p.1) in
+    grind (arith, are_small-negative ps, ap (λ (n : ℕ). nat_le n (2 ^ 58)) same)
 
 -- ---- forms that may be computed with
 
@@ -91,15 +83,10 @@ IsFit-negative f h = record {
 }
 
 pub IsFit-bounded : (k : ℕ) (f : Form) → IsProper f.parts → IsFit (bounded k f)
-IsFit-bounded k f h = go (are_small f.parts && nat_le (unsigned_abs f.constant) (2 ^ 66)) refl
-  where
-    go : (b : Bool) → are_small f.parts && nat_le (unsigned_abs f.constant) (2 ^ 66) ≡ b → IsFit (if b then f else column k)
-    go true e = record {
-      proper = h;
-      small = and-left (are_small f.parts) (nat_le (unsigned_abs f.constant) (2 ^ 66)) e;
-      near = leb-true (unsigned_abs f.constant) (2 ^ 66) (and-right (are_small f.parts) (nat_le (unsigned_abs f.constant) (2 ^ 66)) e);
-    }
-    go false e = IsFit-column k
+IsFit-bounded k f h = elim (are_small f.parts && nat_le (unsigned_abs f.constant) (2 ^ 66)) as (λ b. (are_small f.parts && nat_le (unsigned_abs f.constant) (2 ^ 66) ≡ b) → IsFit (if b then f else column k)) [
+  | true ↦ λ e. record { proper = h; small = and-left _ _ e; near = leb-true _ _ (and-right _ _ e) }
+  | false ↦ λ e. IsFit-column k
+] refl
 
 pub IsProper-plus : (f g : Form) → IsProper f.parts → IsProper g.parts → IsProper (plus f g).parts
 IsProper-plus f g h k = IsProper-sum_of f.parts g.parts h k
@@ -108,12 +95,8 @@ pub IsProper-less : (f g : Form) → IsProper f.parts → IsProper g.parts → I
 IsProper-less f g h k = IsProper-plus f (scaled (negsuc 0) g) h (IsProper-times_by (negsuc 0) g.parts k)
 
 pub IsFit-product : (k : ℕ) (f g : Form) → IsProper f.parts → IsProper g.parts → IsFit (product k f g)
-IsFit-product k f g h i = go (is_empty f.parts) (is_empty g.parts)
-  where
-    go : (b c : Bool) → IsFit (if b then bounded k (scaled f.constant g) else (if c then bounded k (scaled g.constant f) else column k))
-    go true c = IsFit-bounded k (scaled f.constant g) (IsProper-times_by f.constant g.parts i)
-    go false true = IsFit-bounded k (scaled g.constant f) (IsProper-times_by g.constant f.parts h)
-    go false false = IsFit-column k
+IsFit-product k f g h i =
+    grind (arith, IsFit-bounded k (scaled f.constant g) (IsProper-times_by f.constant g.parts i), IsFit-bounded k (scaled g.constant f) (IsProper-times_by g.constant f.parts h), IsFit-column k)
 
 -- the constant of a difference
 pub less-near : (f g : Form) → IsFit f → IsFit g → unsigned_abs (less f g).constant ≤ 2 ^ 67

@@ -1,10 +1,10 @@
 -- the values of forms
-use Rattle.std.proofs.Common.{◌≡◌, ℕ, [], ◌∷◌, refl, sym, ap, ◌∙◌, Bool, true, false, ◌&&◌, arith, nat_le, unsigned_abs, ◌^◌}
+use Rattle.std.proofs.Common.{◌≡◌, ℕ, [], ◌∷◌, refl, sym, ap, ◌∙◌, Bool, true, false, arith}
 use Rattle.std.proofs.Common.{ℤ, pos, negsuc, ◌+ℤ◌, ◌-ℤ◌, ◌*ℤ◌, ◌≤ℤ◌}
 use Rattle.std.specs.Prelude.{if◌then◌else◌}
 use Rattle.std.proofs.lemmas.Int.{ints}
 use Rattle.std.proofs.Math.IntN.{*ℤ_comm}
-use Rattle.sd_rows.specs.Rows.{Parts, sum_at, are_small, is_empty, Holds}
+use Rattle.sd_rows.specs.Rows.{Parts, sum_at, is_empty, Holds}
 use Rattle.sd_rows.specs.RowOps.{sum_of}
 use Rattle.sd_rows.specs.declared.form.Form.{Form}
 use Rattle.sd_rows.specs.Forms.{value_at, times_by, plus, less, scaled, constant, column, bounded, product, at_most}
@@ -29,11 +29,7 @@ pub value_at-column : (x : ℕ → ℤ) (k : ℕ) → value_at x (column k) ≡ 
 value_at-column x k = omega (arith, ints)
 
 pub value_at-bounded : (x : ℕ → ℤ) (k : ℕ) (f : Form) (z : ℤ) → x k ≡ z → value_at x f ≡ z → value_at x (bounded k f) ≡ z
-value_at-bounded x k f z e g = go (are_small f.parts && nat_le (unsigned_abs f.constant) (2 ^ 66))
-  where
-    go : (b : Bool) → value_at x (if b then f else column k) ≡ z
-    go true = g
-    go false = value_at-column x k ∙ e
+value_at-bounded x k f z e g = grind (arith, value_at-column x k)
 
 pub constant-only : (x : ℕ → ℤ) (f : Form) → is_empty f.parts ≡ true → value_at x f ≡ f.constant
 constant-only x f e = ap (λ (v : ℤ). v +ℤ f.constant) (nothing f.parts e) ∙ (omega (arith, ints))
@@ -60,10 +56,10 @@ value_at-number x z = omega (arith, ints)
 
 pub value_at-less : (x : ℕ → ℤ) (f g : Form) → value_at x (less f g) ≡ value_at x f -ℤ value_at x g
 value_at-less x f g =
-    value_at-plus x f (scaled (negsuc 0) g) ∙ ap (λ (v : ℤ). value_at x f +ℤ v) (value_at-scaled x (negsuc 0) g) ∙ taken (value_at x f) (value_at x g)
+    value_at-plus x f (scaled (negsuc 0) g) ∙ ap (λ (v : ℤ). value_at x f +ℤ v) (value_at-scaled x (negsuc 0) g) ∙ difference (value_at x f) (value_at x g)
   where
-    taken : (a b : ℤ) → a +ℤ negsuc 0 *ℤ b ≡ a -ℤ b
-    taken a b = omega (arith, ints)
+    difference : (a b : ℤ) → a +ℤ negsuc 0 *ℤ b ≡ a -ℤ b
+    difference a b = omega (arith, ints)
 
 -- the row that a form is at most a number says so
 pub Holds-at_most : (x : ℕ → ℤ) (c : ℤ) (f : Form) → value_at x f ≤ℤ c → Holds x (at_most c f)

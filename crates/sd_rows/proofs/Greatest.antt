@@ -1,16 +1,18 @@
 -- the common divisor that Euclid's steps give is the greatest
-use Rattle.std.proofs.Common.{◌≡◌, ◌≢◌, ℕ, zero, suc, ◌+◌, ◌*◌, ◌%◌, ◌/◌, ◌<◌, ◌≤◌, max, [], ◌∷◌, refl, sym, ◌∙◌, subst, Bool, true, false, cond, arith, ◌==◌, length, drop, get_or, add-one, drop-cons}
-use Rattle.std.proofs.Common.{ℤ, pos, negsuc}
+use Rattle.std.proofs.Common.{◌≡◌, ◌≢◌, ℕ, zero, suc, ◌+◌, ◌*◌, ◌%◌, ◌/◌, ◌<◌, ◌≤◌, max, [], ◌∷◌, refl, sym, ◌∙◌, subst, true, arith, ◌==◌, length, drop, get_or, add-one, drop-cons}
+use Rattle.std.proofs.Common.{ℤ, pos}
 use Rattle.std.specs.Prelude.{unsigned_abs}
 use Rattle.std.specs.Int.{IsGcd, ◌∣◌}
-use Rattle.std.proofs.lemmas.Nat.Gcd.{dvd_refl, dvd-zero, dvd_trans, le_of_dvd, dvd_of_mod-eq-zero, mod-eq-zero_of_dvd}
+use Rattle.std.proofs.lemmas.Nat.Gcd.{dvd_refl, dvd_trans, le_of_dvd, dvd_of_mod-eq-zero, mod-eq-zero_of_dvd}
 use Rattle.std.proofs.Math.Nat.{pos_of_dvd_of_pos, eq-zero_of_zero-dvd}
 use Rattle.std.proofs.lemmas.Nat.{le-div}
-use borrow.Author.Tests.{eqb-true, eqb-false}
+use borrow.Author.Tests.{eqb-true}
+use Rattle.std.proofs.lemmas.Bool.{and_parts}
+use Rattle.std.proofs.lemmas.Int.{ints}
 use Rattle.sd_rows.specs.Rows.{Part, Parts, IsProper}
 use Rattle.sd_rows.specs.Divisors.{divides_all, divisor_up_to, greatest_divisor}
 use Rattle.sd_rows.specs.RowOps.{sizes}
-use Rattle.sd_rows.proofs.Cuts.{and-left, and-right, greatest_divisor-divides, greatest_divisor-positive}
+use Rattle.sd_rows.proofs.Cuts.{greatest_divisor-divides, greatest_divisor-positive}
 
 -- e divides each factor
 abbrev pub Divides : ℕ → Parts → Type 0
@@ -36,10 +38,9 @@ gathers-at d g i parts all z h k m =
 
 test-Divides : (e : ℕ) (ps : Parts) → divides_all e (sizes ps) ≡ true → Divides e ps
 test-Divides e [] h = tt
-test-Divides e (p ∷ ps) h = (
-  dvd_of_mod-eq-zero e (eqb-true (unsigned_abs p.1 % e) 0 (and-left (unsigned_abs p.1 % e == 0) (divides_all e (sizes ps)) h)),
-  test-Divides e ps (and-right (unsigned_abs p.1 % e == 0) (divides_all e (sizes ps)) h),
-)
+test-Divides e (p ∷ ps) h =
+    let both = and_parts (unsigned_abs p.1 % e == 0) (divides_all e (sizes ps)) h in
+    (dvd_of_mod-eq-zero e (eqb-true (unsigned_abs p.1 % e) 0 both.0), test-Divides e ps both.1)
 
 Divides-test : (e : ℕ) (ps : Parts) → Divides e ps → divides_all e (sizes ps) ≡ true
 Divides-test e [] h = refl
@@ -48,20 +49,17 @@ Divides-test e (p ∷ ps) h = rw (mod-eq-zero_of_dvd e h.0) (Divides-test e ps h
 up_to : (d m : ℕ) (ps : Parts) → 0 < d → d ≤ m → Divides d ps → ((e : ℕ) → Divides e ps → e ∣ d) → divisor_up_to m (sizes ps) ≡ d
 unfolding divisor_up_to
 up_to d zero ps z h k m = absurd (omega arith)
-up_to d (suc n) ps z h k m = go (divides_all (suc n) (sizes ps)) refl (λ l. up_to d n ps z l k m)
-  where
-    other : (b : Bool) → (d == suc n) ≡ b → divides_all (suc n) (sizes ps) ≡ false → d ≤ n
-    other true f e = absurd (let x : divides_all (suc n) (sizes ps) ≡ true = subst (λ (i : ℕ). divides_all i (sizes ps) ≡ true) (eqb-true d (suc n) f) (Divides-test d ps k) in cc)
-    other false f e = omega (arith, eqb-false d (suc n) f)
-
-    go : (b : Bool) → divides_all (suc n) (sizes ps) ≡ b → (d ≤ n → divisor_up_to n (sizes ps) ≡ d) → cond b (suc n) (divisor_up_to n (sizes ps)) ≡ d
-    go true e f = let l : suc n ≤ d = le_of_dvd z (m (suc n) (test-Divides (suc n) ps e)) in omega arith
-    go false e f = f (other (d == suc n) refl e)
+up_to d (suc n) ps z h k m =
+    grind (
+      arith,
+      λ (l : d ≤ n). up_to d n ps z l k m,
+      Divides-test d ps k,
+      λ (e : divides_all (suc n) (sizes ps) ≡ true). le_of_dvd z (m (suc n) (test-Divides (suc n) ps e)),
+      λ (e : d ≡ suc n). subst (λ i. divides_all i (sizes ps) ≡ true) e (Divides-test d ps k),
+    )
 
 not_zero : (z : ℤ) → z ≢ pos 0 → 0 < unsigned_abs z
-not_zero (pos zero) n = absurd (n refl)
-not_zero (pos (suc k)) n = omega arith
-not_zero (negsuc k) n = omega arith
+not_zero z n = omega (arith, ints)
 
 pub gathered : (d : ℕ) (ps : Parts) → IsProper ps → Gathers d [] ps → max d 1 ≡ greatest_divisor (sizes ps)
 gathered d [] h g = let z : d ≡ 0 = eq-zero_of_zero-dvd (g.back 0 tt).0 in omega arith

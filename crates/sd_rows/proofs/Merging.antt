@@ -1,44 +1,23 @@
 -- two ascending lists of parts are added from the front
-use Rattle.std.proofs.Common.{◌≡◌, ◌≢◌, ℕ, ◌<◌, ◌≤◌, [], ◌∷◌, ◌++◌, refl, sym, ap, ◌∙◌, subst, Bool, true, false, arith, nat_lt, ◌==◌, append_assoc, length}
+use Rattle.std.proofs.Common.{◌≡◌, ◌≢◌, ℕ, ◌<◌, ◌≤◌, [], ◌∷◌, ◌++◌, refl, sym, ap, ◌∙◌, subst, true, arith, append_assoc, length}
 use Rattle.std.proofs.Common.{ℤ, pos, ◌+ℤ◌, ◌*ℤ◌}
-use Rattle.std.specs.Prelude.{if◌then◌else◌, unsigned_abs, nat_le, ◌^◌}
-use borrow.Author.Tests.{ltb-true, ltb-false, eqb-true, eq-eqb}
+use Rattle.std.specs.Prelude.{unsigned_abs, nat_le, ◌^◌}
+use Rattle.std.proofs.lemmas.Int.{ints}
+use Rattle.std.proofs.lemmas.Bool.Decides.{nat_tests}
 use Rattle.sd_rows.specs.Rows.{Part, Parts, AllAbove, IsProper, are_small}
 use Rattle.sd_rows.specs.RowOps.{same_number, unless_zero, with_part, sum_of, times}
-use Rattle.sd_rows.proofs.Integers.{same_number_is}
 use Rattle.sd_rows.proofs.Cuts.{and-right}
 use Rattle.sd_rows.proofs.Proper.{AllAbove-lower, AllAbove-with_part, AllAbove-times}
 
-lt_yes : (a b : ℕ) → a < b → nat_lt a b ≡ true
-lt_yes a b h = go (nat_lt a b) refl
-  where
-    go : (t : Bool) → nat_lt a b ≡ t → t ≡ true
-    go true e = refl
-    go false e = absurd (omega (arith, ltb-false a b e))
-
-lt_no : (a b : ℕ) → b ≤ a → nat_lt a b ≡ false
-lt_no a b h = go (nat_lt a b) refl
-  where
-    go : (t : Bool) → nat_lt a b ≡ t → t ≡ false
-    go true e = absurd (omega (arith, ltb-true a b e))
-    go false e = refl
-
-eq_no : (a b : ℕ) → b < a → (a == b) ≡ false
-eq_no a b h = go (a == b) refl
-  where
-    go : (t : Bool) → (a == b) ≡ t → t ≡ false
-    go true e = absurd (omega (arith, eqb-true a b e))
-    go false e = refl
-
 pub with_part-front : (p : Part) (ps : Parts) → AllAbove p.0 ps → with_part p ps ≡ p ∷ ps
 with_part-front p [] a = refl
-with_part-front p (q ∷ qs) a = rw (lt_yes p.0 q.0 a.0) refl
+with_part-front p (q ∷ qs) a = grind (arith, nat_tests)
 
 with_part-later : (p q : Part) (qs : Parts) → q.0 < p.0 → with_part p (q ∷ qs) ≡ q ∷ with_part p qs
-with_part-later p q qs h = rw (lt_no p.0 q.0 (omega arith), eq_no p.0 q.0 h) refl
+with_part-later p q qs h = grind (arith, nat_tests)
 
 with_part-met : (p q : Part) (qs : Parts) → p.0 ≡ q.0 → with_part p (q ∷ qs) ≡ unless_zero (p.0, p.1 +ℤ q.1) qs
-with_part-met p q qs e = rw (lt_no p.0 q.0 (omega arith), eq-eqb p.0 q.0 e) refl
+with_part-met p q qs e = grind (arith, nat_tests)
 
 AllAbove-sum_of : (k : ℕ) (ps qs : Parts) → AllAbove k ps → AllAbove k qs → AllAbove k (sum_of ps qs)
 AllAbove-sum_of k [] qs a b = b
@@ -102,11 +81,7 @@ sum_of-met m n p q ps qs e a =
     ∙ with_part-met (p.0, pos m *ℤ p.1) (q.0, pos n *ℤ q.1) (sum_of (times m ps) (times n qs)) e
 
 unless_zero-no : (p : Part) (ps : Parts) → p.1 ≢ pos 0 → unless_zero p ps ≡ p ∷ ps
-unless_zero-no p ps h = go (same_number p.1 (pos 0)) refl
-  where
-    go : (b : Bool) → same_number p.1 (pos 0) ≡ b → (if b then ps else p ∷ ps) ≡ p ∷ ps
-    go true e = absurd (h (same_number_is p.1 (pos 0) e))
-    go false e = refl
+unless_zero-no p ps h = grind (arith, ints)
 
 unless_zero-yes : (p : Part) (ps : Parts) → p.1 ≡ pos 0 → unless_zero p ps ≡ ps
 unless_zero-yes p ps h = rw (ap (λ (v : ℤ). same_number v (pos 0)) h) refl

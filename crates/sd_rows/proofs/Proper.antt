@@ -1,13 +1,12 @@
 -- sums, multiples and quotients of proper parts are proper
-use Rattle.std.proofs.Common.{◌≡◌, ◌≢◌, ℕ, zero, suc, ◌<◌, ◌≤◌, [], ◌∷◌, refl, sym, ap, ◌∙◌, subst, Bool, true, false, arith, nat_lt, ◌==◌}
+use Rattle.std.proofs.Common.{◌≡◌, ◌≢◌, ℕ, zero, suc, ◌<◌, ◌≤◌, [], ◌∷◌, refl, sym, ap, ◌∙◌, subst, true, arith}
 use Rattle.std.proofs.Common.{ℤ, pos, negsuc, ◌+ℤ◌, ◌*ℤ◌}
-use Rattle.std.specs.Prelude.{if◌then◌else◌}
 use Rattle.std.proofs.lemmas.Int.{ints}
 use Rattle.std.proofs.Math.Nat.{mul-zero}
-use borrow.Author.Tests.{ltb-true, ltb-false, eqb-true, eqb-false}
+use Rattle.std.proofs.lemmas.Bool.Decides.{nat_tests}
 use Rattle.sd_rows.specs.Rows.{Part, Parts, AllAbove, IsAscending, HasNoZero, IsProper}
 use Rattle.sd_rows.specs.Divisors.{divides_all}
-use Rattle.sd_rows.specs.RowOps.{same_number, unless_zero, with_part, sum_of, times, over, sizes}
+use Rattle.sd_rows.specs.RowOps.{unless_zero, with_part, sum_of, times, over, sizes}
 use Rattle.sd_rows.proofs.Cuts.{exact, and-left, and-right}
 
 pub AllAbove-lower : (j k : ℕ) (ps : Parts) → j < k → AllAbove k ps → AllAbove j ps
@@ -15,55 +14,33 @@ AllAbove-lower j k [] h a = tt
 AllAbove-lower j k (p ∷ ps) h a = (omega (arith, a.0), AllAbove-lower j k ps h a.1)
 
 pub AllAbove-unless_zero : (k : ℕ) (p : Part) (ps : Parts) → k < p.0 → AllAbove k ps → AllAbove k (unless_zero p ps)
-AllAbove-unless_zero k p ps h a = go (same_number p.1 (pos 0))
-  where
-    go : (b : Bool) → AllAbove k (if b then ps else p ∷ ps)
-    go true = a
-    go false = (h, a)
+AllAbove-unless_zero k p ps h a = grind arith
 
 pub AllAbove-with_part : (k : ℕ) (p : Part) (ps : Parts) → k < p.0 → AllAbove k ps → AllAbove k (with_part p ps)
 AllAbove-with_part k p [] h a = (h, tt)
-AllAbove-with_part k p (q ∷ qs) h a = go (nat_lt p.0 q.0) (p.0 == q.0) (AllAbove-with_part k p qs h a.1)
-  where
-    go : (b c : Bool) → AllAbove k (with_part p qs)
-        → AllAbove k (if b then p ∷ q ∷ qs else (if c then unless_zero (p.0, p.1 +ℤ q.1) qs else q ∷ with_part p qs))
-    go true c i = (h, a)
-    go false true i = AllAbove-unless_zero k (p.0, p.1 +ℤ q.1) qs h a.1
-    go false false i = (a.0, i)
+AllAbove-with_part k p (q ∷ qs) h a = grind (arith, AllAbove-with_part k p qs h a.1, AllAbove-unless_zero k (p.0, p.1 +ℤ q.1) qs h a.1)
 
 pub IsAscending-unless_zero : (p : Part) (ps : Parts) → AllAbove p.0 ps → IsAscending ps → IsAscending (unless_zero p ps)
-IsAscending-unless_zero p ps a h = go (same_number p.1 (pos 0))
-  where
-    go : (b : Bool) → IsAscending (if b then ps else p ∷ ps)
-    go true = h
-    go false = (a, h)
+IsAscending-unless_zero p ps a h = grind arith
 
 pub IsAscending-with_part : (p : Part) (ps : Parts) → IsAscending ps → IsAscending (with_part p ps)
 IsAscending-with_part p [] h = (tt, tt)
-IsAscending-with_part p (q ∷ qs) h = go (nat_lt p.0 q.0) (p.0 == q.0) refl refl (IsAscending-with_part p qs h.1)
-  where
-    go : (b c : Bool) → nat_lt p.0 q.0 ≡ b → (p.0 == q.0) ≡ c → IsAscending (with_part p qs)
-        → IsAscending (if b then p ∷ q ∷ qs else (if c then unless_zero (p.0, p.1 +ℤ q.1) qs else q ∷ with_part p qs))
-    go true c e f i = let l : p.0 < q.0 = ltb-true p.0 q.0 e in ((l, AllAbove-lower p.0 q.0 qs l h.0), h)
-    go false true e f i = IsAscending-unless_zero (p.0, p.1 +ℤ q.1) qs (subst (λ (k : ℕ). AllAbove k qs) (sym (eqb-true p.0 q.0 f)) h.0) h.1
-    go false false e f i = (AllAbove-with_part q.0 p qs (omega (arith, ltb-false p.0 q.0 e, eqb-false p.0 q.0 f)) h.0, i)
+IsAscending-with_part p (q ∷ qs) h =
+    grind (
+      arith,
+      nat_tests,
+      IsAscending-with_part p qs h.1,
+      λ (l : p.0 < q.0). AllAbove-lower p.0 q.0 qs l h.0,
+      λ (l : q.0 < p.0). AllAbove-with_part q.0 p qs l h.0,
+      λ (e : p.0 ≡ q.0). IsAscending-unless_zero (p.0, p.1 +ℤ q.1) qs (subst (λ (k : ℕ). AllAbove k qs) (sym e) h.0) h.1,
+    )
 
 pub HasNoZero-unless_zero : (p : Part) (ps : Parts) → HasNoZero ps → HasNoZero (unless_zero p ps)
-HasNoZero-unless_zero p ps h = go (same_number p.1 (pos 0)) refl
-  where
-    go : (b : Bool) → same_number p.1 (pos 0) ≡ b → HasNoZero (if b then ps else p ∷ ps)
-    go true e = h
-    go false e = ((λ z. let y : same_number p.1 (pos 0) ≡ true = ap (λ (v : ℤ). same_number v (pos 0)) z in cc), h)
+HasNoZero-unless_zero p ps h = grind (arith, ints)
 
 pub HasNoZero-with_part : (p : Part) (ps : Parts) → p.1 ≢ pos 0 → HasNoZero ps → HasNoZero (with_part p ps)
 HasNoZero-with_part p [] n h = (n, tt)
-HasNoZero-with_part p (q ∷ qs) n h = go (nat_lt p.0 q.0) (p.0 == q.0) (HasNoZero-with_part p qs n h.1)
-  where
-    go : (b c : Bool) → HasNoZero (with_part p qs)
-        → HasNoZero (if b then p ∷ q ∷ qs else (if c then unless_zero (p.0, p.1 +ℤ q.1) qs else q ∷ with_part p qs))
-    go true c i = (n, h)
-    go false true i = HasNoZero-unless_zero (p.0, p.1 +ℤ q.1) qs h.1
-    go false false i = (h.0, i)
+HasNoZero-with_part p (q ∷ qs) n h = grind (arith, HasNoZero-with_part p qs n h.1, HasNoZero-unless_zero (p.0, p.1 +ℤ q.1) qs h.1)
 
 pub IsProper-sum_of : (ps qs : Parts) → IsProper ps → IsProper qs → IsProper (sum_of ps qs)
 IsProper-sum_of [] qs h k = k

@@ -1,20 +1,17 @@
 -- the value of a sum of rows
-use Rattle.std.proofs.Common.{◌≡◌, ℕ, [], ◌∷◌, refl, sym, ap, ◌∙◌, subst, Bool, true, false, nat_lt, ◌==◌}
+use Rattle.std.proofs.Common.{◌≡◌, ℕ, [], ◌∷◌, refl, sym, ap, ◌∙◌, subst, arith, Bool, true, false, nat_lt, ◌==◌}
+use Rattle.std.proofs.lemmas.Int.{ints}
 use Rattle.std.proofs.Common.{ℤ, pos, ◌+ℤ◌, ◌*ℤ◌, ◌≤ℤ◌}
 use Rattle.std.specs.Prelude.{if◌then◌else◌}
 use borrow.Author.Tests.{eqb-true}
 use Rattle.std.proofs.Math.Nat.{mul-zero}
 use Rattle.sd_rows.specs.declared.row.Row.{Row}
 use Rattle.sd_rows.specs.Rows.{Part, Parts, sum_at, Holds}
-use Rattle.sd_rows.specs.RowOps.{same_number, unless_zero, with_part, sum_of, times, added}
-use Rattle.sd_rows.proofs.Integers.{*ℤ-+ℤ_left, *ℤ-+ℤ_right, *ℤ_assoc, zero_*ℤ, swapped, reassoc, zero_left, same_number_is, times-≤ℤ, +ℤ-≤ℤ}
+use Rattle.sd_rows.specs.RowOps.{unless_zero, with_part, sum_of, times, added}
+use Rattle.sd_rows.proofs.Integers.{*ℤ-+ℤ_left, *ℤ-+ℤ_right, *ℤ_assoc, zero_*ℤ, swapped, reassoc, zero_left, times-≤ℤ, +ℤ-≤ℤ}
 
 pub sum_at-unless_zero : (x : ℕ → ℤ) (p : Part) (ps : Parts) → sum_at x (unless_zero p ps) ≡ p.1 *ℤ x p.0 +ℤ sum_at x ps
-sum_at-unless_zero x p ps = go (same_number p.1 (pos 0)) refl
-  where
-    go : (b : Bool) → same_number p.1 (pos 0) ≡ b → sum_at x (if b then ps else p ∷ ps) ≡ p.1 *ℤ x p.0 +ℤ sum_at x ps
-    go true e = sym (rw (same_number_is p.1 (pos 0) e, zero_*ℤ) (zero_left (sum_at x ps)))
-    go false e = refl
+sum_at-unless_zero x p ps = grind (arith, ints, λ (e : p.1 ≡ pos 0). ap (λ (z : ℤ). z *ℤ x p.0) e ∙ zero_*ℤ (x p.0))
 
 pub sum_at-with_part : (x : ℕ → ℤ) (p : Part) (ps : Parts) → sum_at x (with_part p ps) ≡ p.1 *ℤ x p.0 +ℤ sum_at x ps
 sum_at-with_part x p [] = refl
