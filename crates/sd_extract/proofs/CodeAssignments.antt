@@ -1,5 +1,8 @@
 -- Assignments as code sees them.
 use Rattle.std.proofs.Common.{◌≡◌, ◌∙◌, sym, ap, refl, ℕ, zero, suc, ◌+◌, ◌<◌, ◌≤◌, List, [], ◌∷◌, ◌++◌, length, take, drop, get_or, map, arith}
+use Rattle.std.proofs.lemmas.List.{append-nil}
+use Rattle.std.proofs.Math.ListN.{drop_of_length-le}
+use Rattle.sd_base.proofs.Lists.{drop-at, take-at}
 use Rattle.sd_ast.specs.declared.Expr.{Expr}
 use Rattle.sd_ast.specs.declared.Left.{Left}
 use Rattle.sd_core.specs.declared.CoreExpr.{CoreExpr, Op}
@@ -7,17 +10,6 @@ use Rattle.sd_core.specs.declared.CoreOp.TheVariants as op
 use Rattle.sd_extract.specs.Names.{Names, both, core_of}
 use Rattle.sd_extract.specs.Extract.{stored, cores, all_stored}
 use Rattle.sd_extract.specs.Scopes.{reads}
-use Rattle.sd_extract.proofs.CodeLists.{drop_next}
-
-append_none : {A : Type 0} (xs : List A) → xs ++ [] ≡ xs
-append_none [] = refl
-append_none (x ∷ xs) = ap (λ ys. x ∷ ys) (append_none xs)
-
-drop_all : {A : Type 0} (xs : List A) (n : ℕ) → length xs ≤ n → drop n xs ≡ []
-drop_all [] zero le = refl
-drop_all [] (suc n) le = refl
-drop_all (x ∷ xs) zero le = absurd (omega (arith, le))
-drop_all (x ∷ xs) (suc n) le = drop_all xs n (omega (arith, le))
 
 none_right : (N : Names) (ls : List Left) → all_stored N ls [] ≡ []
 none_right N [] = refl
@@ -29,20 +21,13 @@ none_left N (e ∷ es) = refl
 
 pub lefts_done : (N : Names) (ls : List Left) (es : List Expr) (n : ℕ) (list whole : List CoreExpr) → length ls ≤ n → list ++ all_stored N (drop n ls) (drop n es) ≡ whole → list ≡ whole
 lefts_done N ls es n list whole le so =
-    sym (append_none list) ∙ (sym (ap (λ (ys : List CoreExpr). list ++ ys) (ap (λ (ms : List Left). all_stored N ms (drop n es)) (drop_all ls n le) ∙ none_left N (drop n es))) ∙ so)
+    sym (append-nil list) ∙ (sym (ap (λ (ys : List CoreExpr). list ++ ys) (ap (λ (ms : List Left). all_stored N ms (drop n es)) (drop_of_length-le ls le) ∙ none_left N (drop n es))) ∙ so)
 
 pub rights_done : (N : Names) (ls : List Left) (es : List Expr) (n : ℕ) (list whole : List CoreExpr) → length es ≤ n → list ++ all_stored N (drop n ls) (drop n es) ≡ whole → list ≡ whole
 rights_done N ls es n list whole le so =
-    sym (append_none list) ∙ (sym (ap (λ (ys : List CoreExpr). list ++ ys) (ap (all_stored N (drop n ls)) (drop_all es n le) ∙ none_right N (drop n ls))) ∙ so)
+    sym (append-nil list) ∙ (sym (ap (λ (ys : List CoreExpr). list ++ ys) (ap (all_stored N (drop n ls)) (drop_of_length-le es le) ∙ none_right N (drop n ls))) ∙ so)
 
 -- ---- into maps
-
-take_next : {A : Type 0} (xs : List A) (i : ℕ) (x : A) → i < length xs → x ≡ get_or xs i x → take (i + 1) xs ≡ take i xs ++ x ∷ []
-take_next [] i x lt at = absurd (omega (arith, lt))
-take_next (y ∷ ys) zero x lt at = ap (λ z. z ∷ []) (sym at)
-take_next (y ∷ ys) (suc i) x lt at =
-    let more : suc (i + 1) ≡ suc i + 1 = omega arith in
-    sym (ap (λ k. take k (y ∷ ys)) more) ∙ ap (λ zs. y ∷ zs) (take_next ys i x (omega (arith, lt)) at)
 
 cores_append : (N : Names) (xs : List Expr) (y : Expr) → cores N (xs ++ y ∷ []) ≡ cores N xs ++ core_of N y.kind ∷ []
 cores_append N [] y = refl
@@ -59,7 +44,7 @@ stored_more N is p n x m e e' new map index next lt at with found old made =
     let i = core_of N x.kind in
     let rest = cores N (drop (p + 1) is) in
     let up : reads m (cores N (take n is)) ≡ both op.Read M i =
-    ap (λ k. reads m (cores N (take k is))) next ∙ (ap (λ (l : List Expr). reads m (cores N l)) (take_next is p x lt at) ∙ (ap (reads m) (cores_append N (take p is) x) ∙ reads_append m (cores N (take p is)) i)) in
+    ap (λ k. reads m (cores N (take k is))) next ∙ (ap (λ (l : List Expr). reads m (cores N l)) (take-at is p x lt at) ∙ (ap (reads m) (cores_append N (take p is) x) ∙ reads_append m (cores N (take p is)) i)) in
     let inner : e ≡ stored (both op.Read M i) rest new =
     old ∙ (λ j. stored (up j) (cores N (drop (next j) is)) new) in
-    made ∙ ((λ j. Op op.Write (found j ∷ with j ∷ inner j ∷ [])) ∙ sym (ap (λ (l : List Expr). stored M (cores N l) new) (drop_next is p x lt at)))
+    made ∙ ((λ j. Op op.Write (found j ∷ with j ∷ inner j ∷ [])) ∙ sym (ap (λ (l : List Expr). stored M (cores N l) new) (drop-at is p x lt at)))

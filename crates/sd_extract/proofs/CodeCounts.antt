@@ -1,5 +1,5 @@
 -- Counts as code sees them.
-use Rattle.std.proofs.Common.{◌≡◌, ◌∙◌, sym, ap, refl, ℕ, ◌+◌, ◌<◌, Bool, true, false, List, ◌∷◌, length, drop, get_or, arith}
+use Rattle.std.proofs.Common.{◌≡◌, ◌∙◌, sym, ap, refl, ℕ, ◌+◌, ◌<◌, Bool, List, ◌∷◌, length, drop, get_or, arith}
 use Rattle.std.specs.Prelude.{◌||◌}
 use Rattle.sd_ast.specs.declared.Expr.{Expr}
 use Rattle.sd_ast.specs.declared.Invariant.{Invariant}
@@ -7,7 +7,7 @@ use Rattle.sd_ast.specs.declared.Stmt.{Stmt}
 use Rattle.sd_ast.specs.declared.StmtKind.{StmtKind, If, While, Row_of-Stmt, end_of-Stmt, more_of-Stmt, items-the_row-Stmt, items_hidden-the_row-Stmt-0}
 use Rattle.sd_ast.specs.declared.StmtKind.TheBlock.{hidden-the_row-Stmt-0}
 use Rattle.sd_meaning.specs.Run.{kinds_of, kinds_in}
-use Rattle.sd_extract.specs.Extract.{Counts, none, plus, of_loop, counts, counts_all, counts_each, has_return, has_returns}
+use Rattle.sd_extract.specs.Extract.{Counts, plus, of_loop, counts, counts_all, counts_each, has_return, has_returns}
 use Rattle.sd_extract.specs.Counted.{has_return_among}
 use Rattle.sd_extract.proofs.CodeLists.{kinds_next}
 
@@ -69,10 +69,6 @@ counts_next ss i s was more now whole lt at with sum so =
     let rest = counts_each (kinds_of (drop (i + 1) ss)) in
     ap (λ (t : Counts). plus t rest) (sum ∙ ap (plus was) with)
     ∙ (plus_assoc was (counts s.kind) rest ∙ (sym (ap (λ (ks : List StmtKind). plus was (counts_each ks)) (kinds_next ss i s lt at)) ∙ so))
-
-or_assoc : (a b c : Bool) → ((a || b) || c) ≡ (a || (b || c))
-or_assoc true b c = refl
-or_assoc false b c = refl
 
 -- after a choice, whose branches were counted one after the other
 pub plus_next : (at m n t next last : Counts) → next ≡ plus at m → last ≡ plus next n → plus m n ≡ t → last ≡ plus at t

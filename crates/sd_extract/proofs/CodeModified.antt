@@ -3,28 +3,15 @@ use Rattle.std.proofs.Common.{◌≡◌, ◌∙◌, sym, ap, refl, ℕ, ◌+◌,
 use Rattle.std.specs.Prelude.{Option, Some, ◌||◌, if◌then◌else◌}
 use Rattle.std.specs.Option.{is_some}
 use Rattle.std.specs.Cmp.Lexicographic.{nat_list_eq_equiv}
+use Rattle.std.proofs.lemmas.List.{append-nil}
+use Rattle.std.proofs.Math.ListN.{drop_of_length-le}
+use Rattle.std.proofs.lemmas.List.Folds.{list_any-append}
 use Rattle.sd_base.specs.Value.{Text, same_text}
+use Rattle.sd_base.proofs.Texts.{same_text-is, same_text-flip}
 use Rattle.sd_ast.specs.declared.Spec.{Spec}
 use Rattle.sd_ast.specs.declared.Spec.TheVariants.{Modifies, Requires, Ensures}
 use Rattle.sd_extract.specs.Extract.{is_among, new_names, modified_names}
 use Rattle.sd_extract.specs.Modified.{HasSeen, with_new, all_new, specs_new}
-use Rattle.sd_extract.proofs.CodeLists.{drop_next, drop_all}
-use Rattle.sd_extract.proofs.CodeNumbers.{same_text_exact}
-
-flip : (a b : Text) → same_text a b ≡ same_text b a
-flip a b = nat_list_eq_equiv.symm a b
-
-append_none : {A : Type 0} (xs : List A) → xs ++ [] ≡ xs
-append_none [] = refl
-append_none (x ∷ xs) = ap (λ ys. x ∷ ys) (append_none xs)
-
-or_assoc : (a b c : Bool) → ((a || b) || c) ≡ (a || (b || c))
-or_assoc true b c = refl
-or_assoc false b c = refl
-
-among_append : (x : Text) (ys zs : List Text) → is_among x (ys ++ zs) ≡ (is_among x ys || is_among x zs)
-among_append x [] zs = refl
-among_append x (y ∷ ys) zs = ap (λ b. same_text x y || b) (among_append x ys zs) ∙ sym (or_assoc (same_text x y) (is_among x ys) (is_among x zs))
 
 -- ---- one name
 
@@ -32,9 +19,9 @@ pub seen_pushed : (was now : Text → Option ℕ) (names out : List Text) (name 
 seen_pushed was now names out name name' name'' n seen same same' updated pushed x =
     ap is_some (updated x)
     ∙ (go (same_text name' x)
-    ∙ ((λ i. (ap (λ (y : Text). same_text y x) same ∙ flip name x) i || seen x i)
+    ∙ ((λ i. (ap (λ (y : Text). same_text y x) same ∙ same_text-flip name x) i || seen x i)
     ∙ (swap (same_text x name) (is_among x names)
-    ∙ (ap (λ (y : Text). is_among x names || (same_text x y || false)) (sym same') ∙ (sym (among_append x names (name'' ∷ [])) ∙ ap (is_among x) (sym pushed))))))
+    ∙ (ap (λ (y : Text). is_among x names || (same_text x y || false)) (sym same') ∙ (sym (list_any-append (same_text x) names (name'' ∷ [])) ∙ ap (is_among x) (sym pushed))))))
   where
     go : (b : Bool) → is_some (cond b (Some n) (was x)) ≡ (b || is_some (was x))
     go true = refl
@@ -52,11 +39,11 @@ abbrev AreSame : List Text → List Text → Type 0
 AreSame ks seen = (x : Text) → is_among x ks ≡ is_among x seen
 
 same_append : (ks seen more : List Text) → AreSame ks seen → AreSame (ks ++ more) (seen ++ more)
-same_append ks seen more h x = among_append x ks more ∙ (ap (λ b. b || is_among x more) (h x) ∙ sym (among_append x seen more))
+same_append ks seen more h x = list_any-append (same_text x) ks more ∙ (ap (λ b. b || is_among x more) (h x) ∙ sym (list_any-append (same_text x) seen more))
 
 -- a name that is there adds nothing
 among_again : (seen : List Text) (y : Text) → is_among y seen ≡ true → AreSame seen (seen ++ y ∷ [])
-among_again seen y is x = sym (among_append x seen (y ∷ []) ∙ go (same_text x y) refl)
+among_again seen y is x = sym (list_any-append (same_text x) seen (y ∷ []) ∙ go (same_text x y) refl)
   where
     none : (b : Bool) → (b || false) ≡ b
     none true = refl
@@ -64,7 +51,7 @@ among_again seen y is x = sym (among_append x seen (y ∷ []) ∙ go (same_text 
 
     go : (b : Bool) → same_text x y ≡ b → (is_among x seen || (same_text x y || false)) ≡ is_among x seen
     go true e =
-        let here : is_among x seen ≡ true = ap (λ (z : Text). is_among z seen) (same_text_exact x y e) ∙ is in
+        let here : is_among x seen ≡ true = ap (λ (z : Text). is_among z seen) (same_text-is x y e) ∙ is in
         ap (λ b. b || (same_text x y || false)) here ∙ sym here
     go false e = ap (λ b. is_among x seen || (b || false)) e ∙ none (is_among x seen)
 
@@ -76,11 +63,11 @@ with_same ks seen y h = go (is_among y ks) refl
     go false e = same_append ks seen (y ∷ []) h
 
 all_same : (ks seen xs : List Text) → AreSame ks seen → AreSame (all_new ks xs) (seen ++ xs)
-all_same ks seen [] h = λ x. h x ∙ ap (is_among x) (sym (append_none seen))
+all_same ks seen [] h = λ x. h x ∙ ap (is_among x) (sym (append-nil seen))
 all_same ks seen (y ∷ ys) h = λ x. all_same (with_new ks y) (seen ++ y ∷ []) ys (with_same ks seen y h) x ∙ ap (is_among x) (append_assoc seen (y ∷ []) ys)
 
 all_new_is : (ks seen xs : List Text) → AreSame ks seen → all_new ks xs ≡ ks ++ new_names xs seen
-all_new_is ks seen [] h = sym (append_none ks)
+all_new_is ks seen [] h = sym (append-nil ks)
 all_new_is ks seen (y ∷ ys) h = go (is_among y ks) refl (all_new_is ks seen ys h) (all_new_is (ks ++ y ∷ []) (seen ++ y ∷ []) ys (same_append ks seen (y ∷ []) h))
   where
     go : (b : Bool) → is_among y ks ≡ b → all_new ks ys ≡ ks ++ new_names ys seen → all_new (ks ++ y ∷ []) ys ≡ (ks ++ y ∷ []) ++ new_names ys (seen ++ y ∷ []) → all_new (with_new ks y) ys ≡ ks ++ new_names (y ∷ ys) seen
@@ -91,7 +78,7 @@ all_new_is ks seen (y ∷ ys) h = go (is_among y ks) refl (all_new_is ks seen ys
         ∙ (other ∙ (append_assoc ks (y ∷ []) _ ∙ sym (ap (λ b. ks ++ (if b then new_names ys seen else y ∷ new_names ys (seen ++ y ∷ []))) (sym (h y) ∙ e))))
 
 specs_new_is : (ks seen : List Text) (specs : List Spec) → AreSame ks seen → specs_new ks specs ≡ ks ++ modified_names specs seen
-specs_new_is ks seen [] h = sym (append_none ks)
+specs_new_is ks seen [] h = sym (append-nil ks)
 specs_new_is ks seen (Modifies xs ∷ specs) h =
     specs_new_is (all_new ks xs) (seen ++ xs) specs (all_same ks seen xs h) ∙ (ap (λ l. l ++ modified_names specs (seen ++ xs)) (all_new_is ks seen xs h) ∙ append_assoc ks (new_names xs seen) _)
 specs_new_is ks seen (_ ∷ specs) h = specs_new_is ks seen specs h
@@ -103,4 +90,4 @@ specs_first : (ks : List Text) (s : Spec) (specs : List Spec) → specs_new ks (
 specs_first ks _ specs = refl
 
 pub specs_done : (specs : List Spec) (i : ℕ) (names : List Text) → length specs ≤ i → specs_new names (drop i specs) ≡ specs_new [] specs → names ≡ modified_names specs []
-specs_done specs i names le so = sym (ap (specs_new names) (drop_all specs i le)) ∙ (so ∙ modified_is specs)
+specs_done specs i names le so = sym (ap (specs_new names) (drop_of_length-le specs le)) ∙ (so ∙ modified_is specs)

@@ -6,22 +6,18 @@ use Rattle.sd_base.specs.declared.Var.{Var}
 use Rattle.sd_ast.specs.Tree.{names_of}
 use Rattle.sd_extract.specs.Extract.{index_in, var_in}
 use Rattle.std.specs.Cmp.Lexicographic.{nat_list_eq_equiv}
+use Rattle.std.proofs.lemmas.Option.{same_Some}
 use Rattle.sd_base.specs.Value.{Text, same_text}
+use Rattle.sd_base.proofs.Texts.{same_text-flip}
 use Rattle.sd_core.specs.declared.Spot.{Spot}
 use Rattle.sd_extract.specs.Names.{place_in}
 use Rattle.sd_extract.specs.Positions.{position_from}
-
-some_is : (a b : ℕ) → ◌≡◌ {A = Option ℕ} (Some a) (Some b) → a ≡ b
-some_is a b e = cc
-
-pub flip : (a b : Text) → same_text a b ≡ same_text b a
-flip a b = nat_list_eq_equiv.symm a b
 
 -- one name more at the front
 pub position_more : (place : ℕ) (ys : List Text) (x y name : Text) (next : ℕ) (was now : Option ℕ) → next ≡ suc place → place < length ys → y ≡ get_or ys place y → name ≡ y
     → was ≡ position_from next (drop next ys) x → now ≡ cond (same_text name x) (Some place) was → now ≡ position_from place (drop place ys) x
 position_more place ys x y name next was now is within at named old updated =
-    updated ∙ ((λ i. cond ((ap (λ (n : Text). same_text n x) named ∙ flip y x) i) (Some place) (old i))
+    updated ∙ ((λ i. cond ((ap (λ (n : Text). same_text n x) named ∙ same_text-flip y x) i) (Some place) (old i))
     ∙ ((λ i. if same_text x y then Some place else position_from (is i) (drop (is i) ys) x)
     ∙ sym (ap (λ (zs : List Text). position_from place zs x) (drop-cons ys place y within ∙ ap (λ (z : Text). z ∷ drop (suc place) ys) (sym at)))))
 
@@ -36,10 +32,10 @@ position_stands n (y ∷ ys) ps x i found = go (same_text x y) refl ps found (λ
   where
     go : (b : Bool) → same_text x y ≡ b → (qs : List Spot) → (if b then Some n else position_from (suc n) ys x) ≡ Some i → ((qs : List Spot) → position_from (suc n) ys x ≡ Some i → Stands (suc n) ys qs x i) → Stands n (y ∷ ys) qs x i
     go true is [] here rest =
-        let same : n ≡ i = some_is n i here in
+        let same : n ≡ i = same_Some n i here in
         record { from = omega arith; is = refl }
     go true is (q ∷ qs) here rest =
-        let same : n ≡ i = some_is n i here in
+        let same : n ≡ i = same_Some n i here in
         let none : i - n ≡ 0 = omega arith in
         record { from = omega arith; is = ap (slice_get (q ∷ qs)) none ∙ sym (ap (λ b. if b then Some q else place_in ys qs x) is) }
     go false is [] there rest =
@@ -94,9 +90,9 @@ index_var [] x i e = absurd (cc)
 index_var (v ∷ vs) x i e = go (same_text x v.name) (index_in vs x) i e (λ k h. index_var vs x k h)
   where
     go : (b : Bool) (o : Option ℕ) (i : ℕ) → (if b then Some 0 else option_map (λ k. suc k) o) ≡ Some i → ((k : ℕ) → o ≡ Some k → slice_get vs k ≡ var_in vs x) → slice_get (v ∷ vs) i ≡ (if b then Some v else var_in vs x)
-    go true o i e rest = ap (slice_get (v ∷ vs)) (sym (some_is 0 i e))
+    go true o i e rest = ap (slice_get (v ∷ vs)) (sym (same_Some 0 i e))
     go false None i e rest = absurd (let bad : ◌≡◌ {A = Option ℕ} None (Some i) = e in cc)
-    go false (Some k) i e rest = ap (slice_get (v ∷ vs)) (sym (some_is (suc k) i e)) ∙ rest k refl
+    go false (Some k) i e rest = ap (slice_get (v ∷ vs)) (sym (same_Some (suc k) i e)) ∙ rest k refl
 
 pub index_none : (vs : List Var) (x : Text) → index_in vs x ≡ None → var_in vs x ≡ None
 index_none [] x e = refl

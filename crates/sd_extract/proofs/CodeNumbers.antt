@@ -4,34 +4,30 @@ use Rattle.std.specs.Prelude.{Option, Some, None, unwrap_or, if◌then◌else◌
 use Rattle.std.specs.Cmp.Lexicographic.{nat_list_eq_equiv}
 use Rattle.std.proofs.lemmas.Slice.Eq.{slice_eq-Decides}
 use Rattle.std.proofs.lemmas.Bool.Decides.{Decides-eqb}
+use Rattle.std.proofs.Math.ListN.{drop_of_length-le}
 use Rattle.sd_base.specs.Value.{Text, same_text}
+use Rattle.sd_base.proofs.Texts.{same_text-is, same_text-flip}
 use Rattle.sd_ast.specs.declared.Decl.{Decl}
 use Rattle.sd_ast.specs.declared.Decl.TheVariants.{Procedure}
 use Rattle.sd_ast.specs.declared.Proc.{Proc}
 use Rattle.sd_ast.specs.declared.Program.{Program}
 use Rattle.sd_meaning.specs.Routine.{routine_named}
 use Rattle.sd_extract.specs.Extract.{number_from, size_of}
-use Rattle.sd_extract.proofs.CodeLists.{drop_next, drop_all}
-
-pub same_text_exact : (x y : Text) → same_text x y ≡ true → x ≡ y
-same_text_exact x y = (slice_eq-Decides Decides-eqb x y (same_text x y) refl).0
-
-flip : (a b : Text) → same_text a b ≡ same_text b a
-flip a b = nat_list_eq_equiv.symm a b
+use Rattle.sd_extract.proofs.CodeLists.{drop-at}
 
 pub put_found : (g : Text → Option ℕ) (name f : Text) (number v : ℕ) → g name ≡ Some v → g f ≡ (if same_text f name then Some (unwrap_or (g f) number) else g f)
 put_found g name f number v is = go (same_text f name) refl
   where
     go : (b : Bool) → same_text f name ≡ b → g f ≡ (if b then Some (unwrap_or (g f) number) else g f)
-    go true e = let here : g f ≡ Some v = ap g (same_text_exact f name e) ∙ is in here ∙ sym (ap (λ (o : Option ℕ). Some (unwrap_or o number)) here)
+    go true e = let here : g f ≡ Some v = ap g (same_text-is f name e) ∙ is in here ∙ sym (ap (λ (o : Option ℕ). Some (unwrap_or o number)) here)
     go false e = refl
 
 pub put_new : (g : Text → Option ℕ) (name name' f : Text) (number : ℕ) (now : Option ℕ) → g name ≡ None → name' ≡ name → now ≡ cond (same_text name' f) (Some number) (g f) → now ≡ (if same_text f name then Some (unwrap_or (g f) number) else g f)
 put_new g name name' f number now none same updated =
-    updated ∙ (ap (λ b. cond b (Some number) (g f)) (ap (λ (n : Text). same_text n f) same ∙ flip name f) ∙ go (same_text f name) refl)
+    updated ∙ (ap (λ b. cond b (Some number) (g f)) (ap (λ (n : Text). same_text n f) same ∙ same_text-flip name f) ∙ go (same_text f name) refl)
   where
     go : (b : Bool) → same_text f name ≡ b → cond b (Some number) (g f) ≡ (if b then Some (unwrap_or (g f) number) else g f)
-    go true e = sym (ap (λ (o : Option ℕ). Some (unwrap_or o number)) (ap g (same_text_exact f name e) ∙ none))
+    go true e = sym (ap (λ (o : Option ℕ). Some (unwrap_or o number)) (ap g (same_text-is f name e) ∙ none))
     go false e = refl
 
 pub number_more : (P : Program) (p : Proc) (next after size : ℕ) (f : Text) (ds : List Decl) (was now : Option ℕ) → now ≡ (if same_text f p.head.name then Some (unwrap_or was next) else was) → size ≡ size_of (routine_named P p.head.name) → after ≡ next + size
@@ -48,7 +44,7 @@ pub numbers_next : (P : Program) (ds : List Decl) (i : ℕ) (d : Decl) (next aft
     → unwrap_or now (number_from P after (drop (i + 1) ds) f) ≡ unwrap_or was (number_from P next (d ∷ drop (i + 1) ds) f) → unwrap_or was (number_from P next (drop i ds) f) ≡ whole
     → unwrap_or now (number_from P after (drop (i + 1) ds) f) ≡ whole
 numbers_next P ds i d next after f was now whole lt at entered so =
-    entered ∙ (sym (ap (λ (es : List Decl). unwrap_or was (number_from P next es f)) (drop_next ds i d lt at)) ∙ so)
+    entered ∙ (sym (ap (λ (es : List Decl). unwrap_or was (number_from P next es f)) (drop-at ds i d lt at)) ∙ so)
 
 pub numbers_done : (P : Program) (ds : List Decl) (i next : ℕ) (f : Text) (was : Option ℕ) (whole : ℕ) → length ds ≤ i → unwrap_or was (number_from P next (drop i ds) f) ≡ whole → unwrap_or was next ≡ whole
-numbers_done P ds i next f was whole le so = sym (ap (λ (es : List Decl). unwrap_or was (number_from P next es f)) (drop_all ds i le)) ∙ so
+numbers_done P ds i next f was whole le so = sym (ap (λ (es : List Decl). unwrap_or was (number_from P next es f)) (drop_of_length-le ds le)) ∙ so

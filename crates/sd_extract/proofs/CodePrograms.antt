@@ -9,6 +9,7 @@ use Rattle.sd_ast.specs.declared.Decl.TheVariants.{Procedure}
 use Rattle.sd_ast.specs.declared.Proc.{Proc}
 use Rattle.sd_ast.specs.declared.Program.{Program}
 use Rattle.sd_base.specs.declared.Var.{Var}
+use Rattle.sd_base.proofs.Lists.{drop-at}
 use Rattle.sd_meaning.specs.Inputs.{globals_in, uniques_in}
 use Rattle.sd_meaning.specs.Run.{kinds_of}
 use Rattle.sd_meaning.specs.Routine.{Routine, routine_named}
@@ -18,7 +19,6 @@ use Rattle.sd_core.specs.declared.CoreExpr.{CoreExpr}
 use Rattle.sd_core.specs.declared.Function.{Function}
 use Rattle.sd_core.specs.declared.CoreProgram.{CoreProgram}
 use Rattle.sd_extract.specs.Programs.{functions_in, axioms_in, core_axiom, core_program}
-use Rattle.sd_extract.proofs.CodeLists.{drop_next}
 
 -- a procedure without a body
 pub procs_none : (P : Program) (p : Proc) (n : ℕ) (ds : List Decl) (out : List CoreProc) → routine_named P p.head.name ≡ None → out ++ procs_from P n ds ≡ out ++ procs_from P n (Procedure p ∷ ds)
@@ -38,7 +38,7 @@ procs_some P p r n next ds vars out out' is same made sum =
 pub decls_next : (P : Program) (ds : List Decl) (i : ℕ) (d : Decl) (n next : ℕ) (out out' whole : List CoreProc) → i < length ds → d ≡ get_or ds i d
     → ((es : List Decl) → out' ++ procs_from P next es ≡ out ++ procs_from P n (d ∷ es)) → out ++ procs_from P n (drop i ds) ≡ whole → out' ++ procs_from P next (drop (i + 1) ds) ≡ whole
 decls_next P ds i d n next out out' whole lt at made so =
-    made (drop (i + 1) ds) ∙ (sym (ap (λ (es : List Decl). out ++ procs_from P n es) (drop_next ds i d lt at)) ∙ so)
+    made (drop (i + 1) ds) ∙ (sym (ap (λ (es : List Decl). out ++ procs_from P n es) (drop-at ds i d lt at)) ∙ so)
 
 pub program_made : (P Q : Program) (ds : List Decl) (procs : List CoreProc) (globals : List Var) (functions : List Function) (axioms : List CoreExpr) (uniques : List Var) → Q.decls ≡ P.decls → ds ≡ P.decls → procs ≡ procs_from Q 0 Q.decls
     → globals ≡ globals_in ds → functions ≡ functions_in ds → axioms ≡ map core_axiom (axioms_in ds) → uniques ≡ uniques_in ds

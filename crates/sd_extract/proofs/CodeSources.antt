@@ -1,5 +1,6 @@
 -- Where code keeps variables.
 use Rattle.std.proofs.Common.{◌≡◌, ◌∙◌, sym, ap, refl, ℕ, zero, suc, ◌+◌, ◌≤◌, List, [], ◌∷◌, ◌++◌, append_assoc, length, drop, arith}
+use Rattle.std.proofs.Math.ListN.{drop_of_length-le}
 use Rattle.sd_core.specs.declared.Spot.{Spot}
 use Rattle.sd_core.specs.declared.Spot.TheVariants.{Slot}
 use Rattle.sd_core.specs.Run.{slots_from}
@@ -15,18 +16,12 @@ pub state_pushed : {A : Type 0} (first next : ℕ) (xs ys : List A) (o o' : List
 state_pushed first next xs ys o o' made is =
     (λ i. made i ++ slots_from (is i) ys) ∙ (append_assoc o (slots_from first xs) (slots_from (first + length xs) ys) ∙ ap (λ ps. o ++ ps) (slots_append first xs ys))
 
-drop_all : {A : Type 0} (xs : List A) (n : ℕ) → length xs ≤ n → drop n xs ≡ []
-drop_all [] zero le = refl
-drop_all [] (suc n) le = refl
-drop_all (x ∷ xs) zero le = absurd (omega (arith, le))
-drop_all (x ∷ xs) (suc n) le = drop_all xs n (omega (arith, le))
-
 no_new : {A : Type 0} (xs : List A) (is : List ℕ) → set_all xs is [] ≡ xs
 no_new xs [] = refl
 no_new xs (i ∷ is) = refl
 
 pub places_done : {A : Type 0} (xs : List A) (is : List ℕ) (new : List A) (n : ℕ) (whole : List A) → length is ≤ n → set_all xs (drop n is) (drop n new) ≡ whole → xs ≡ whole
-places_done xs is new n whole le so = sym (ap (λ (js : List ℕ). set_all xs js (drop n new)) (drop_all is n le)) ∙ so
+places_done xs is new n whole le so = sym (ap (λ (js : List ℕ). set_all xs js (drop n new)) (drop_of_length-le is le)) ∙ so
 
 pub new_done : {A : Type 0} (xs : List A) (is : List ℕ) (new : List A) (n : ℕ) (whole : List A) → length new ≤ n → set_all xs (drop n is) (drop n new) ≡ whole → xs ≡ whole
-new_done xs is new n whole le so = sym (ap (set_all xs (drop n is)) (drop_all new n le) ∙ no_new xs (drop n is)) ∙ so
+new_done xs is new n whole le so = sym (ap (set_all xs (drop n is)) (drop_of_length-le new le) ∙ no_new xs (drop n is)) ∙ so

@@ -6,7 +6,7 @@ use Rattle.sd_ast.specs.declared.BinOp.{BinOp}
 use Rattle.sd_ast.specs.declared.BinOp.TheVariants as bin
 use Rattle.sd_ast.specs.declared.UnOp.{UnOp}
 use Rattle.sd_ast.specs.declared.UnOp.TheVariants as un
-use Rattle.sd_ast.specs.declared.ExprKind.{ExprKind, Num, Truth as Literal, Var, Apply', Row_of-Expr, end_of-Expr, more_of-Expr}
+use Rattle.sd_ast.specs.declared.ExprKind.{ExprKind, Var, Apply', Row_of-Expr, end_of-Expr, more_of-Expr}
 use Rattle.sd_ast.specs.Tree.{OldOf, UnaryOf, BinaryOf, SelectOf, StoreOf}
 use Rattle.sd_base.specs.Meaning.{Interpretation}
 use Rattle.sd_meaning.specs.Evaluate.{State, value_of, variable, unary, binary, value, values}

@@ -3,10 +3,14 @@ use Rattle.std.proofs.Common.{◌≡◌, ℕ, zero, suc, ◌+◌, ◌<◌, ◌�
 use Rattle.std.specs.Prelude.{◌&&◌, if◌then◌else◌}
 use Rattle.std.specs.List.{AllByRecursion, Contains, IsDistinct, slice_index_or}
 use Rattle.std.specs.Cmp.Lexicographic.{bytes_decides}
-use Rattle.sd_base.specs.declared.Sort.{Sort, Int, Bool as BoolSort, Named}
+use Rattle.std.proofs.lemmas.Option.{same_Some}
+use Rattle.std.proofs.lemmas.Bool.{and_parts}
+use Rattle.sd_base.specs.declared.Sort.{Sort}
 use Rattle.sd_base.specs.declared.Var.{Var}
 use Rattle.sd_base.specs.Value.{Text, same_text, Value}
-use Rattle.sd_base.specs.Sorts.{MapOf}
+use Rattle.sd_base.proofs.Lists.{all-append, all-front, all-back}
+use Rattle.sd_base.proofs.Texts.{same_text-other_way}
+use Rattle.sd_base.proofs.SortLemmas.{same_sort-is, same_sort-refl}
 use Rattle.sd_ast.specs.Tree.{names_of}
 use Rattle.sd_meaning.specs.Evaluate.{Store, value_of}
 use Rattle.sd_meaning.specs.Run.{named}
@@ -16,8 +20,6 @@ use Rattle.sd_core.specs.Run.{nothing}
 use Rattle.sd_core.specs.Formed.{sorts_of, same_sort}
 use Rattle.sd_core.specs.Meanings.{HaveSorts}
 use Rattle.sd_core.specs.Failure.{place_from, shared_at, shared_from, shared_of}
-use Rattle.sd_extract.proofs.PropositionalLemmas.{all_append}
-use Rattle.sd_extract.proofs.FailureMeanings.{all_left, all_right}
 
 -- ---- stores
 
@@ -69,13 +71,6 @@ contains_of n (y ∷ ys) x k s = elim s [
 
 -- ---- values of variables
 
-apart-sym : (s t : Text) → same_text s t ≡ false → same_text t s ≡ false
-apart-sym s t h = go (same_text t s) refl
-  where
-    go : (b : Bool) → same_text t s ≡ b → b ≡ false
-    go true e = absurd (let k : same_text s t ≡ true = (bytes_decides s t).1 (sym ((bytes_decides t s).0 e)) in cc)
-    go false e = refl
-
 stands_apart : (n : ℕ) (s : Text) (ys : List Var) (k : ℕ) (x : Var) → AllByRecursion (λ t. same_text s t ≡ false) (names_of ys) → Stands n ys k x → same_text s x.name ≡ false
 stands_apart n s [] k x a h = absurd h
 stands_apart n s (y ∷ ys) k x a h = elim h [
@@ -97,7 +92,7 @@ value_of-from [] vs whole n k x d l h s = absurd s
 value_of-from (y ∷ ys) [] whole n k x d l h s = absurd (omega arith)
 value_of-from (y ∷ ys) (v ∷ vs) whole n k x d l h s = elim s [
   | inl e ↦ picked (same_text x.name y.name) (Some v) (value_of (named (names_of ys) vs) x.name) ((bytes_decides x.name y.name).1 (ap (λ (z : Var). z.name) (sym e.1))) ∙ ap Some (sym (h 0) ∙ ap (λ m. get_or whole m nothing) (let j : n + 0 ≡ k = omega arith in j))
-  | inr r ↦ passed (same_text x.name y.name) (Some v) (value_of (named (names_of ys) vs) x.name) (apart-sym y.name x.name (stands_apart (suc n) y.name ys k x d.0 r)) ∙ value_of-from ys vs whole (suc n) k x d.1 (omega arith) (λ i. ap (λ m. get_or whole m nothing) (let j : suc n + i ≡ n + suc i = omega arith in j) ∙ h (suc i)) r
+  | inr r ↦ passed (same_text x.name y.name) (Some v) (value_of (named (names_of ys) vs) x.name) (same_text-other_way y.name x.name (stands_apart (suc n) y.name ys k x d.0 r)) ∙ value_of-from ys vs whole (suc n) k x d.1 (omega arith) (λ i. ap (λ m. get_or whole m nothing) (let j : suc n + i ≡ n + suc i = omega arith in j) ∙ h (suc i)) r
 ]
 
 -- a global by its name is the one at its place
@@ -106,32 +101,14 @@ value_of-at xs vs k x d l s = value_of-from xs vs vs 0 k x d l (λ i. ap (λ m. 
 
 -- ---- the same variable
 
-both_true : (p q : Bool) → (p && q) ≡ true → (p ≡ true) × (q ≡ true)
-both_true true q h = (refl, h)
-both_true false q h = absurd (cc)
-
-sort_is : (s t : Sort) → same_sort s t ≡ true → s ≡ t
-sort_is Int Int h = refl
-sort_is BoolSort BoolSort h = refl
-sort_is (Named t) (Named u) h = ap Named ((bytes_decides t u).0 h)
-sort_is (MapOf i v) (MapOf j w) h =
-    let k = both_true (same_sort i j) (same_sort v w) h in λ l. MapOf (sort_is i j k.0 l) (sort_is v w k.1 l)
-sort_is _ _ h = absurd (cc)
-
-same_sort-refl : (s : Sort) → same_sort s s ≡ true
-same_sort-refl Int = refl
-same_sort-refl BoolSort = refl
-same_sort-refl (Named t) = (bytes_decides t t).1 refl
-same_sort-refl (MapOf i v) = rw (same_sort-refl i, same_sort-refl v) refl
-
 abbrev is_same : Var → Var → Bool
 is_same x y = same_text x.name y.name && same_sort x.sort y.sort
 
 same_is : (x y : Var) → is_same x y ≡ true → y ≡ x
 same_is x y h =
-    let k = both_true (same_text x.name y.name) (same_sort x.sort y.sort) h in
+    let k = and_parts (same_text x.name y.name) (same_sort x.sort y.sort) h in
     let name : y.name ≡ x.name = sym ((bytes_decides x.name y.name).0 k.0) in
-    let sort : y.sort ≡ x.sort = sym (sort_is x.sort y.sort k.1) in
+    let sort : y.sort ≡ x.sort = sym (same_sort-is x.sort y.sort k.1) in
     λ i. record { name = name i; sort = sort i }
 
 is_same-refl : (x : Var) → is_same x x ≡ true
@@ -165,7 +142,7 @@ module _ (R : Shared → Type 0) (news : List Var) where
   all_shared : (n : ℕ) (olds : List Var) → ((x : Var) (i j : ℕ) → Stands n olds i x → place_from 0 news x ≡ Some j → R (pair_of i j)) → AllByRecursion R (shared_from n olds news)
   all_shared n [] h = tt
   all_shared n (x ∷ olds) h =
-      all_append R (shared_at n (place_from 0 news x)) (shared_from (suc n) olds news) (first (place_from 0 news x) refl) (all_shared (suc n) olds (λ y i j s p. h y i j (inr s) p))
+      all-append R (shared_at n (place_from 0 news x)) (shared_from (suc n) olds news) (first (place_from 0 news x) refl) (all_shared (suc n) olds (λ y i j s p. h y i j (inr s) p))
     where
       first : (o : Option ℕ) → place_from 0 news x ≡ o → AllByRecursion R (shared_at n o)
       first None e = tt
@@ -174,13 +151,9 @@ module _ (R : Shared → Type 0) (news : List Var) where
   each_shared : (n : ℕ) (olds : List Var) → AllByRecursion R (shared_from n olds news) → (x : Var) (i j : ℕ) → Stands n olds i x → place_from 0 news x ≡ Some j → R (pair_of i j)
   each_shared n [] a x i j s p = absurd s
   each_shared n (y ∷ olds) a x i j s p = elim s [
-    | inl e ↦ let here = all_left R (shared_at n (place_from 0 news y)) (shared_from (suc n) olds news) a in let is : place_from 0 news y ≡ Some j = ap (place_from 0 news) e.1 ∙ p in let one = subst (λ (o : Option ℕ). AllByRecursion R (shared_at n o)) is here in subst (λ m. R (pair_of m j)) (sym e.0) one.0
-    | inr r ↦ each_shared (suc n) olds (all_right R (shared_at n (place_from 0 news y)) (shared_from (suc n) olds news) a) x i j r p
+    | inl e ↦ let here = all-front R (shared_at n (place_from 0 news y)) (shared_from (suc n) olds news) a in let is : place_from 0 news y ≡ Some j = ap (place_from 0 news) e.1 ∙ p in let one = subst (λ (o : Option ℕ). AllByRecursion R (shared_at n o)) is here in subst (λ m. R (pair_of m j)) (sym e.0) one.0
+    | inr r ↦ each_shared (suc n) olds (all-back R (shared_at n (place_from 0 news y)) (shared_from (suc n) olds news) a) x i j r p
   ]
-
--- what both hold of a variable
-some_is : {A : Type 0} (x y : A) → Some x ≡ Some y → x ≡ y
-some_is x y e = cc
 
 module _ (olds news : List Var) (vs vs' : List Value) (distinct : IsDistinct same_text (names_of olds)) (distinct' : IsDistinct same_text (names_of news)) (fit : length vs ≡ length olds) (fit' : length vs' ≡ length news) where
   abbrev pub ByName : Type 0
@@ -192,7 +165,7 @@ module _ (olds news : List Var) (vs vs' : List Value) (distinct : IsDistinct sam
   pub by_place : ByName → ByPlace
   by_place h = all_shared (λ s. get_or vs s.old nothing ≡ get_or vs' s.new nothing) news 0 olds (λ x i j s p.
       let t = place_stands 0 news x j p in
-      some_is (get_or vs i nothing) (get_or vs' j nothing)
+      same_Some (get_or vs i nothing) (get_or vs' j nothing)
       (sym (value_of-at olds vs i x distinct fit s) ∙ h x (contains_of 0 olds x i s) (contains_of 0 news x j t) ∙ value_of-at news vs' j x distinct' fit' t))
 
   pub by_name : ByPlace → ByName

@@ -1,5 +1,5 @@
 -- The meanings that count for a program are those that count for its core program.
-use Rattle.std.proofs.Common.{List, [], ◌∷◌, ◌++◌, map, refl, sym, subst}
+use Rattle.std.proofs.Common.{List, [], ◌∷◌, map, refl, sym, subst}
 use Rattle.std.specs.Prelude.{IsTrue}
 use Rattle.std.specs.List.{AllByRecursion}
 use Rattle.sd_base.specs.declared.Sort.{Sort}
@@ -7,8 +7,9 @@ use Rattle.sd_base.specs.declared.Var.{Var}
 use Rattle.sd_base.specs.Value.{Text, Value}
 use Rattle.sd_base.specs.Sorts.{HasSort}
 use Rattle.sd_base.specs.Meaning.{Meaning, Table, interpretation, truth_of}
+use Rattle.sd_base.proofs.Lists.{all-append, all-front, all-back, all-weaker}
 use Rattle.sd_ast.specs.declared.Decl.{Decl}
-use Rattle.sd_ast.specs.declared.Decl.TheVariants.{Types, Const, Function, Axiom, Globals, Procedure, Implementation}
+use Rattle.sd_ast.specs.declared.Decl.TheVariants.{Const, Function, Axiom}
 use Rattle.sd_ast.specs.declared.Expr.{Expr}
 use Rattle.sd_ast.specs.declared.Program.{Program}
 use Rattle.sd_meaning.specs.Evaluate.{value}
@@ -17,21 +18,8 @@ use Rattle.sd_core.specs.Run.{is_true}
 use Rattle.sd_core.specs.Meanings.{HaveSorts, FitsTable, Fits, Differ, IsMeaningOf}
 use Rattle.sd_extract.specs.Programs.{constants_named, functions_in, axioms_in, core_axiom, core_program}
 use Rattle.sd_extract.specs.Laws.{AxiomsAreKept}
-use Rattle.sd_extract.proofs.PropositionalLemmas.{all_append}
 
 -- ---- lists
-
-all_also : {A : Type 0} (P Q : A → Type 0) → ((a : A) → P a → Q a) → (xs : List A) → AllByRecursion P xs → AllByRecursion Q xs
-all_also P Q h [] a = tt
-all_also P Q h (x ∷ xs) a = (h x a.0, all_also P Q h xs a.1)
-
-pub all_left : {A : Type 0} (P : A → Type 0) (xs ys : List A) → AllByRecursion P (xs ++ ys) → AllByRecursion P xs
-all_left P [] ys a = tt
-all_left P (x ∷ xs) ys a = (a.0, all_left P xs ys a.1)
-
-pub all_right : {A : Type 0} (P : A → Type 0) (xs ys : List A) → AllByRecursion P (xs ++ ys) → AllByRecursion P ys
-all_right P [] ys a = a
-all_right P (x ∷ xs) ys a = all_right P xs ys a.1
 
 into_map : {A B : Type 0} (Q : B → Type 0) (f : A → B) (xs : List A) → AllByRecursion (λ a. Q (f a)) xs → AllByRecursion Q (map f xs)
 into_map Q f [] a = tt
@@ -57,11 +45,11 @@ has_sorts (s ∷ ss) (v ∷ vs) h = (h.0, has_sorts ss vs h.1)
 
 fits_table : (args : List Sort) (result : Sort) (t : Table) → HasSignature args result t → FitsTable args result t
 fits_table args result t h =
-    (h.0, all_also (λ row. HasSorts args row.0 × HasSort result row.1) (λ row. HaveSorts args row.0 × HasSort result row.1) (λ row k. (have_sorts args row.0 k.0, k.1)) t.rows h.1)
+    (h.0, all-weaker (λ row. HasSorts args row.0 × HasSort result row.1) (λ row. HaveSorts args row.0 × HasSort result row.1) (λ row k. (have_sorts args row.0 k.0, k.1)) t.rows h.1)
 
 has_signature : (args : List Sort) (result : Sort) (t : Table) → FitsTable args result t → HasSignature args result t
 has_signature args result t h =
-    (h.0, all_also (λ row. HaveSorts args row.0 × HasSort result row.1) (λ row. HasSorts args row.0 × HasSort result row.1) (λ row k. (has_sorts args row.0 k.0, k.1)) t.rows h.1)
+    (h.0, all-weaker (λ row. HaveSorts args row.0 × HasSort result row.1) (λ row. HasSorts args row.0 × HasSort result row.1) (λ row k. (has_sorts args row.0 k.0, k.1)) t.rows h.1)
 
 -- ---- functions, constants and axioms
 
@@ -77,7 +65,7 @@ module _ (P : Program) (M : Meaning) where
   functions_fit : (ds : List Decl) → AllByRecursion (IsTrueOf P M) ds → AllByRecursion (Fits M) (functions_in ds)
   functions_fit [] h = tt
   functions_fit (Function f args result ∷ ds) h = (fits_table args result (M.function f) h.0, functions_fit ds h.1)
-  functions_fit (Const unique names sort ∷ ds) h = all_append (Fits M) (constants_named names sort) (functions_in ds) (constants_fit names sort h.0) (functions_fit ds h.1)
+  functions_fit (Const unique names sort ∷ ds) h = all-append (Fits M) (constants_named names sort) (functions_in ds) (constants_fit names sort h.0) (functions_fit ds h.1)
   functions_fit (_ ∷ ds) h = functions_fit ds h.1
 
   abbrev HoldsHere : Expr → Type 0
@@ -92,7 +80,7 @@ module _ (P : Program) (M : Meaning) where
   all_true [] h k = tt
   all_true (Function f args result ∷ ds) h k = (has_signature args result (M.function f) h.0, all_true ds h.1 k)
   all_true (Const unique names sort ∷ ds) h k =
-      (constants_have names sort (all_left (Fits M) (constants_named names sort) (functions_in ds) h), all_true ds (all_right (Fits M) (constants_named names sort) (functions_in ds) h) k)
+      (constants_have names sort (all-front (Fits M) (constants_named names sort) (functions_in ds) h), all_true ds (all-back (Fits M) (constants_named names sort) (functions_in ds) h) k)
   all_true (Axiom e ∷ ds) h k = (k.0, all_true ds h k.1)
   all_true (_ ∷ ds) h k = (tt, all_true ds h k)
 

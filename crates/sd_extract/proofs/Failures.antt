@@ -2,6 +2,7 @@
 use Rattle.std.proofs.Common.{◌≡◌, ℕ, List, length, Some, sym, ap, ◌∙◌, subst}
 use Rattle.std.specs.Prelude.{slice_get}
 use Rattle.std.proofs.lemmas.List.{length-map}
+use Rattle.std.proofs.lemmas.Option.{same_Some}
 use Rattle.sd_base.specs.Value.{Text, Value}
 use Rattle.sd_base.specs.Meaning.{Meaning, interpretation}
 use Rattle.sd_ast.specs.declared.Program.{Program}
@@ -24,9 +25,6 @@ use Rattle.sd_extract.proofs.FailureMeanings.{have_sorts, has_sorts, core_meanin
 use Rattle.sd_extract.proofs.FormedDeclarations.{is_typed, routine_fine}
 use Rattle.sd_extract.proofs.FormedFrames.{declared_of}
 use Rattle.sd_extract.proofs.FailureGlobals.{values_in, store_named, store_sorts, is_store, as_many, by_place, by_name}
-
-some_is : {A : Type 0} (x y : A) → Some x ≡ Some y → x ≡ y
-some_is x y e = cc
 
 module _ (runs : RunsAreKept) (procedures : ProceduresAreKept) where
   -- ---- one program
@@ -56,7 +54,7 @@ module _ (runs : RunsAreKept) (procedures : ProceduresAreKept) where
     -- the procedure that was found is the one that is kept
     input_is : (p : CoreProc) (ins globals : List Value) → slice_get (core_program P).procs (number_of P f) ≡ Some p → IsInputOf (core_program P) p ins globals → IsInput P f ins (named names globals)
     input_is p ins globals found w =
-        let same : core ≡ p = some_is core p (sym core_found ∙ found) in
+        let same : core ≡ p = same_Some core p (sym core_found ∙ found) in
         record {
           ins_typed = subst (λ ss. HasSorts ss ins) (ap (λ (q : CoreProc). sorts_of q.ins) (sym same) ∙ sym ins_same) (has_sorts (sorts_of p.ins) ins w.ins_typed);
           globals_typed = is_store (globals_in P.decls) globals w.globals_typed;

@@ -8,10 +8,11 @@ use Rattle.std.proofs.lemmas.List.{append-nil}
 use Rattle.std.proofs.lemmas.List.Folds.{list_any-append}
 use Rattle.sd_base.specs.declared.Place.{Place}
 use Rattle.sd_base.specs.Value.{Text, same_text}
+use Rattle.sd_base.proofs.Texts.{same_text-refl}
 use Rattle.sd_ast.specs.declared.Expr.{Expr}
 use Rattle.sd_ast.specs.declared.Left.{Left}
 use Rattle.sd_ast.specs.declared.Stmt.{Stmt}
-use Rattle.sd_ast.specs.declared.StmtKind.{StmtKind, Assert, Assume, Assign, Call, If', While', Break, Return, Row_of-Stmt, end_of-Stmt, more_of-Stmt}
+use Rattle.sd_ast.specs.declared.StmtKind.{StmtKind, Assign, Call, If', While', Row_of-Stmt, end_of-Stmt, more_of-Stmt}
 use Rattle.sd_meaning.specs.Run.{kinds_of, kinds_in}
 use Rattle.sd_types.specs.declared.refusal.TypeError.{TypeError}
 use Rattle.sd_types.specs.declared.refusal.TypeError.TheVariants.{Twice}
@@ -27,9 +28,6 @@ use Rattle.sd_types.proofs.TypingLemmas.{parts, ok_is}
 
 -- ---- names that are declared one after another
 
-pub same_itself : (x : Text) → same_text x x ≡ true
-same_itself x = (bytes_decides x x).1 refl
-
 name_new : (seen : List Text) (x : Text) (all : List Text) → with_name seen x ≡ Ok all → (is_among seen x ≡ false) × (seen ++ (x ∷ []) ≡ all)
 name_new seen x all = go (is_among seen x) refl
   where
@@ -42,7 +40,7 @@ or_last true b e = refl
 or_last false b e = ap (λ (c : Bool). c || false) e
 
 among_last : (seen : List Text) (x : Text) → is_among (seen ++ (x ∷ [])) x ≡ true
-among_last seen x = list_any-append (same_text x) seen (x ∷ []) ∙ or_last (is_among seen x) (same_text x x) (same_itself x)
+among_last seen x = list_any-append (same_text x) seen (x ∷ []) ∙ or_last (is_among seen x) (same_text x x) (same_text-refl x)
 
 among_more : (seen : List Text) (x y : Text) → is_among seen y ≡ true → is_among (seen ++ (x ∷ [])) y ≡ true
 among_more seen x y h = list_any-append (same_text y) seen (x ∷ []) ∙ ap (λ (b : Bool). b || is_among (x ∷ []) y) h

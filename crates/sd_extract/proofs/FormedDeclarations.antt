@@ -1,25 +1,26 @@
 -- What the rules on declarations say of a program, its procedures and their bodies.
 use Rattle.std.proofs.Common.{◌≡◌, List, [], ◌∷◌, ◌++◌, Option, Some, None, Ok, Err, refl, sym, ◌∙◌, ap, subst}
-use Rattle.std.specs.Prelude.{Bool as Test, true, false, ◌&&◌, Result, option_map, if◌then◌else◌}
+use Rattle.std.specs.Prelude.{Bool as Test, true, false, ◌&&◌, option_map, if◌then◌else◌}
 use Rattle.std.specs.List.{AllByRecursion, IsDistinct}
+use Rattle.std.proofs.lemmas.Option.{same_Some, none-some}
+use Rattle.std.proofs.lemmas.Bool.{and_parts}
 use Rattle.sd_base.specs.declared.Sort.{Sort, Int, Bool, Named}
 use Rattle.sd_base.specs.declared.Var.{Var}
 use Rattle.sd_base.specs.Value.{Text, same_text}
 use Rattle.sd_base.specs.Sorts.{MapOf}
 use Rattle.sd_ast.specs.Tree.{names_of}
 use Rattle.sd_ast.specs.declared.Decl.{Decl}
-use Rattle.sd_ast.specs.declared.Decl.TheVariants.{Types, Const, Function, Axiom, Globals, Procedure, Implementation}
+use Rattle.sd_ast.specs.declared.Decl.TheVariants.{Const, Function, Globals}
 use Rattle.sd_ast.specs.declared.Proc.{Proc}
 use Rattle.sd_ast.specs.declared.Impl.{Impl}
 use Rattle.sd_ast.specs.declared.Body.{Body}
 use Rattle.sd_ast.specs.declared.Head.{Head}
 use Rattle.sd_ast.specs.declared.Expr.{Expr}
 use Rattle.sd_ast.specs.declared.Spec.{Spec}
-use Rattle.sd_ast.specs.declared.Spec.TheVariants.{Modifies, Requires, Ensures}
+use Rattle.sd_ast.specs.declared.Spec.TheVariants.{Requires, Ensures}
 use Rattle.sd_ast.specs.declared.Program.{Program}
 use Rattle.sd_meaning.specs.Routine.{Routine, procedure_in, implementation_in, with_body, routine_named, requires_of, ensures_of}
 use Rattle.sd_meaning.specs.Run.{kinds_of}
-use Rattle.sd_types.specs.declared.refusal.TypeError.{TypeError}
 use Rattle.sd_types.specs.declared.refusal.TypeError.TheVariants.{Kind}
 use Rattle.sd_types.specs.declared.scope.Callee.{Callee}
 use Rattle.sd_types.specs.declared.scope.Scope.{Scope}
@@ -43,7 +44,6 @@ use Rattle.sd_extract.proofs.FormedChecks.{is_declared, each_all, EachChecked, E
 use Rattle.sd_extract.proofs.FormedTables.{OnceEach, entries_names, entries_once, global_entries, function_entries, procedure_entries, OwnNames, Entered, entered, own_distinct}
 use Rattle.sd_extract.proofs.FormedLookups.{procedure_named, procedure_has, implementation_has}
 use Rattle.sd_extract.proofs.FormedPlaces.{IsScope}
-use Rattle.sd_extract.proofs.FormedLists.{some_is, none_is}
 
 -- ---- types
 
@@ -196,16 +196,12 @@ body_fine G h modifies b e =
     let k = parts (known_vars G.types b.locals) (λ _. body_stmts_rule G h modifies b) tt e in
     record { locals = vars_fit G.types b.locals k.0 k.1; checked = stmts_checked (routine G (body_variables h b) modifies) false b.stmts tt k.2 }
 
-and_both : (a b : Test) → (a && b) ≡ true → (a ≡ true) × (b ≡ true)
-and_both true b h = (refl, h)
-and_both false b h = absurd (cc)
-
 same_sorts : (ss : List Sort) (vs : List Var) → have_sorts ss vs ≡ true → sorts_of vs ≡ ss
 same_sorts [] [] h = refl
 same_sorts [] (v ∷ vs) h = absurd (cc)
 same_sorts (s ∷ ss) [] h = absurd (cc)
 same_sorts (s ∷ ss) (v ∷ vs) h =
-    let k = and_both (same_sort s v.sort) (have_sorts ss vs) h in
+    let k = and_parts (same_sort s v.sort) (have_sorts ss vs) h in
     let e = sort_is s v.sort k.0 in let f = same_sorts ss vs k.1 in
     λ i. sym e i ∷ f i
 
@@ -214,7 +210,7 @@ types_same h q u = go (have_sorts q.ins h.ins && have_sorts q.outs h.outs) refl
   where
     go : (b : Test) → (have_sorts q.ins h.ins && have_sorts q.outs h.outs) ≡ b → (if b then Ok tt else Err (Kind h.at)) ≡ Ok u → (sorts_of h.ins ≡ q.ins) × (sorts_of h.outs ≡ q.outs)
     go true e k =
-        let t = and_both (have_sorts q.ins h.ins) (have_sorts q.outs h.outs) e in
+        let t = and_parts (have_sorts q.ins h.ins) (have_sorts q.outs h.outs) e in
         (same_sorts q.ins h.ins t.0, same_sorts q.outs h.outs t.1)
     go false e k = absurd (cc)
 
@@ -254,8 +250,8 @@ module _ (P : Program) (G : Scope) (typed : IsTyped P G) where
       let m = parts (same_types i.head l.0) (λ _. body_rule G i.head l.0.modifies i.body) tt l.2 in
       let n = parts (known_vars G.types i.head.ins) (λ _. known_vars G.types i.head.outs) k.0 k.1 in
       let found : named G.procedures i.head.name ≡ Some (callee_of p) = ap (λ (x : Text). named G.procedures x) (sym h.1) ∙ ap (λ (l : List (Text × Callee)). named l f) (sym (procedures_are P G typed)) ∙ procedure_named P.decls f p e in
-      let checked_as : l.0 ≡ callee_of p = some_is l.0 (callee_of p) (sym (is_declared i.head.name (named G.procedures i.head.name) l.0 l.1) ∙ found) in
-      let typed_as : bodies.0 ≡ callee_of p = some_is bodies.0 (callee_of p) (sym bodies.1 ∙ found) in
+      let checked_as : l.0 ≡ callee_of p = same_Some l.0 (callee_of p) (sym (is_declared i.head.name (named G.procedures i.head.name) l.0 l.1) ∙ found) in
+      let typed_as : bodies.0 ≡ callee_of p = same_Some bodies.0 (callee_of p) (sym bodies.1 ∙ found) in
       let body : BodyFine G i.head (modifies_of p.specs) i.body = subst (λ (q : Callee). BodyFine G i.head q.modifies i.body) checked_as (body_fine G i.head l.0.modifies i.body m.2) in
       let stmts : IsTypedBody G i.head (modifies_of p.specs) i.body = subst (λ (q : Callee). IsTypedBody G i.head q.modifies i.body) typed_as bodies.2 in
       let sorts = types_same i.head l.0 m.0 m.1 in
@@ -276,10 +272,10 @@ module _ (P : Program) (G : Scope) (typed : IsTyped P G) where
   routine_fine f r h = go (procedure_in P.decls f) (implementation_in P.decls f) refl refl h
     where
       body : (p : Proc) → procedure_in P.decls f ≡ Some p → (o : Option Body) → p.body ≡ o → option_map (λ b. record { declared = p; head = p.head; body = b }) o ≡ Some r → RoutineFine G f r
-      body p e None is k = absurd (none_is r k)
-      body p e (Some b) is k = subst (RoutineFine G f) (some_is _ _ k) (own_fine f p b e is)
+      body p e None is k = absurd (none-some r k)
+      body p e (Some b) is k = subst (RoutineFine G f) (same_Some _ _ k) (own_fine f p b e is)
 
       go : (o : Option Proc) (i : Option Impl) → procedure_in P.decls f ≡ o → implementation_in P.decls f ≡ i → with_body o i ≡ Some r → RoutineFine G f r
-      go None i e is k = absurd (none_is r k)
-      go (Some p) (Some i) e is k = subst (RoutineFine G f) (some_is _ _ k) (impl_fine f p i e is)
+      go None i e is k = absurd (none-some r k)
+      go (Some p) (Some i) e is k = subst (RoutineFine G f) (same_Some _ _ k) (impl_fine f p i e is)
       go (Some p) None e is k = body p e p.body refl k

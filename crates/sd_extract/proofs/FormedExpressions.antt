@@ -9,7 +9,7 @@ use Rattle.sd_ast.specs.declared.BinOp.TheVariants as bin
 use Rattle.sd_ast.specs.declared.UnOp.{UnOp}
 use Rattle.sd_ast.specs.declared.UnOp.TheVariants as un
 use Rattle.sd_ast.specs.declared.Expr.{Expr}
-use Rattle.sd_ast.specs.declared.ExprKind.{ExprKind, Num, Truth, Var, Apply', Row_of-Expr, end_of-Expr, more_of-Expr}
+use Rattle.sd_ast.specs.declared.ExprKind.{ExprKind, Var, Apply', Row_of-Expr, end_of-Expr, more_of-Expr}
 use Rattle.sd_ast.specs.Tree.{OldOf, UnaryOf, BinaryOf, SelectOf, StoreOf}
 use Rattle.sd_types.specs.declared.scope.Variable.{Variable}
 use Rattle.sd_types.specs.declared.scope.Signature.{Signature}

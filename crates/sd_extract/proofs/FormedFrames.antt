@@ -3,8 +3,9 @@ use Rattle.std.proofs.Common.{◌≡◌, ◌≢◌, ℕ, suc, ◌+◌, ◌≤◌
 use Rattle.std.specs.Prelude.{Bool, true, false, cond, Result, slice_get, Contains, option_map, if◌then◌else◌}
 use Rattle.std.specs.List.{AllByRecursion, filter_map}
 use Rattle.std.proofs.Common.{append_assoc, length-append}
-use Rattle.sd_base.proofs.Lists.{slice_get-between}
+use Rattle.sd_base.proofs.Lists.{slice_get-between, all-append, all-weaker}
 use Rattle.std.proofs.lemmas.List.{length-map}
+use Rattle.std.proofs.lemmas.Option.{same_Some, none-some}
 use Rattle.sd_base.specs.declared.Sort.{Sort}
 use Rattle.sd_base.specs.declared.Var.{Var}
 use Rattle.sd_base.specs.Value.{Text, same_text}
@@ -50,7 +51,6 @@ use Rattle.sd_extract.proofs.FormedModifies.{numbers_match, modifies_there, all_
 use Rattle.sd_extract.proofs.FormedSpots.{Holds, spots_hold, slot_below, slots_apart, slots_before, slots_targets}
 use Rattle.sd_extract.proofs.FormedNumbers.{LoopIs, each_loop_placed, StandsIn, stands_in}
 use Rattle.sd_extract.proofs.FormedStatements.{CalleeAt, Fits, EachLoopsAt}
-use Rattle.sd_extract.proofs.FormedLists.{some_is, none_is, all_join, all_map}
 
 pub sorts_length : (vs : List Var) → length vs ≡ length (sorts_of vs)
 sorts_length vs = sym (length-map vs (λ v. v.sort))
@@ -58,13 +58,13 @@ sorts_length vs = sym (length-map vs (λ v. v.sort))
 -- ---- a routine with its declaration
 
 declared_first : (o : Option Proc) (i : Option Impl) (r : SourceRoutine) → with_body o i ≡ Some r → o ≡ Some r.declared
-declared_first None i r e = absurd (none_is r e)
-declared_first (Some p) (Some i) r e = ap (λ (x : SourceRoutine). Some x.declared) (some_is _ _ e)
+declared_first None i r e = absurd (none-some r e)
+declared_first (Some p) (Some i) r e = ap (λ (x : SourceRoutine). Some x.declared) (same_Some _ _ e)
 declared_first (Some p) None r e = go p.body e
   where
     go : (b : Option Body) → option_map (λ b. record { declared = p; head = p.head; body = b }) b ≡ Some r → Some p ≡ Some r.declared
-    go None k = absurd (none_is r k)
-    go (Some b) k = ap (λ (x : SourceRoutine). Some x.declared) (some_is _ _ k)
+    go None k = absurd (none-some r k)
+    go (Some b) k = ap (λ (x : SourceRoutine). Some x.declared) (same_Some _ _ k)
 
 pub declared_of : (P : Program) (f : Text) (r : SourceRoutine) → routine_named P f ≡ Some r → procedure_in P.decls f ≡ Some r.declared
 declared_of P f r e = declared_first (procedure_in P.decls f) (implementation_in P.decls f) r e
@@ -80,7 +80,7 @@ has_routine P f d e h = go (implementation_in P.decls f) refl
     go : (o : Option Impl) → implementation_in P.decls f ≡ o → (r : SourceRoutine) × (routine_named P f ≡ Some r)
     go (Some i) k = (record { declared = d; head = i.head; body = i.body }, λ j. with_body (e j) (k j))
     go None k = ⊎_elim
-        (λ (l : (i : Impl) × (implementation_in P.decls f ≡ Some i)). absurd (none_is l.0 (sym k ∙ l.1)))
+        (λ (l : (i : Impl) × (implementation_in P.decls f ≡ Some i)). absurd (none-some l.0 (sym k ∙ l.1)))
         (λ (r : (p : Proc) × (b : Body) × (procedure_in P.decls f ≡ Some p) × (p.body ≡ Some b)). own r.0 r.1 r.2 r.3 k)
         h
 
@@ -117,7 +117,7 @@ all_slots k (x ∷ xs) = (tt, all_slots (suc k) xs)
 pub two_apart : {A B : Type 0} (k l : ℕ) (xs : List A) (ys : List B) → k + length xs ≤ l → AreApart (slots_from k xs ++ slots_from l ys)
 two_apart k l [] ys h = slots_apart l ys
 two_apart k l (x ∷ xs) ys h =
-    (all_join (λ q. Slot k ≢ q) (slots_from (suc k) xs) (slots_from l ys) (slot_below k (suc k) xs (omega arith)) (slot_below k l ys (omega (arith, h))), two_apart (suc k) l xs ys (omega (arith, h)))
+    (all-append (λ q. Slot k ≢ q) (slots_from (suc k) xs) (slots_from l ys) (slot_below k (suc k) xs (omega arith)) (slot_below k l ys (omega (arith, h))), two_apart (suc k) l xs ys (omega (arith, h)))
 
 slot_is_within : (ms : List ℕ) (q : Spot) → IsSlot q → Within ms (q ∷ [])
 slot_is_within ms (Slot i) h = tt
@@ -142,7 +142,7 @@ module _ (P : Program) (G : Scope) (typed : IsTyped P G) where
 
   -- a name with a number is a global
   index_named : (vs : List Var) (x : Text) (i : ℕ) → index_in vs x ≡ Some i → named (variables_as nature.Global vs) x ≡ None → ⊥
-  index_named [] x i e h = none_is i e
+  index_named [] x i e h = none-some i e
   index_named (v ∷ vs) x i e h = go (same_text x v.name) e h (index_named vs x)
     where
       go : (b : Bool) → (if b then Some 0 else option_map (λ n. suc n) (index_in vs x)) ≡ Some i → cond b (Some (record { sort = v.sort; nature = nature.Global })) (named (variables_as nature.Global vs) x) ≡ None → ((j : ℕ) → index_in vs x ≡ Some j → named (variables_as nature.Global vs) x ≡ None → ⊥) → ⊥
@@ -150,7 +150,7 @@ module _ (P : Program) (G : Scope) (typed : IsTyped P G) where
       go false k l rec = step (index_in vs x) refl k
         where
           step : (o : Option ℕ) → index_in vs x ≡ o → option_map (λ n. suc n) o ≡ Some i → ⊥
-          step None f m = none_is i m
+          step None f m = none-some i m
           step (Some j) f m = rec j f l
 
   index_global : (x : Text) (i : ℕ) → index_in globals x ≡ Some i → is_global (named G.globals x) ≡ true
@@ -195,12 +195,12 @@ module _ (P : Program) (G : Scope) (typed : IsTyped P G) where
       let among : is_among (body_names P.decls) f ≡ true = ap (λ (l : List Text). is_among l f) bodies ∙ is_with_body G.bodies f tt body in
       let o = has_routine P f k.procedure k.found (has_a_body P.decls f (procedures_once P G typed) among) in
       let r = o.0 in
-      let is_first : k.procedure ≡ r.declared = some_is k.procedure r.declared (sym k.found ∙ declared_of P f r o.1) in
+      let is_first : k.procedure ≡ r.declared = same_Some k.procedure r.declared (sym k.found ∙ declared_of P f r o.1) in
       let fine = routine_fine P G typed f r o.1 in
       let as_callee : callee_of r.declared ≡ q = ap callee_of (sym is_first) ∙ k.callee in
       let theirs : AllByRecursion (λ x. modified_rule (routine G locals (modifies_of specs)) x ≡ Ok tt) (modifies_of r.declared.specs) = subst (λ (c : Callee). AllByRecursion (λ x. modified_rule (routine G locals (modifies_of specs)) x ≡ Ok tt) c.modifies) (sym as_callee) mods in
       let mine = filter_map (index_in globals) (modified_names specs []) in
-      let numbers : AllByRecursion (λ x. (i : ℕ) → index_in globals x ≡ Some i → Contains mine i) (modified_names r.declared.specs []) = all_modified (λ x. (i : ℕ) → index_in globals x ≡ Some i → Contains mine i) r.declared.specs [] (all_map (λ x. modified_rule (routine G locals (modifies_of specs)) x ≡ Ok tt) (λ x. (i : ℕ) → index_in globals x ≡ Some i → Contains mine i) (modifies_of r.declared.specs) (λ x h i e. modified_number locals specs x i h e) theirs) in
+      let numbers : AllByRecursion (λ x. (i : ℕ) → index_in globals x ≡ Some i → Contains mine i) (modified_names r.declared.specs []) = all_modified (λ x. (i : ℕ) → index_in globals x ≡ Some i → Contains mine i) r.declared.specs [] (all-weaker (λ x. modified_rule (routine G locals (modifies_of specs)) x ≡ Ok tt) (λ x. (i : ℕ) → index_in globals x ≡ Some i → Contains mine i) (λ x h i e. modified_number locals specs x i h e) (modifies_of r.declared.specs) theirs) in
       let allowed : AllByRecursion (Contains p.modifies) (source_at P f r).modifies = subst (λ (ms : List ℕ). AllByRecursion (Contains ms) (source_at P f r).modifies) (sym same) (numbers_have globals (Contains mine) (modified_names r.declared.specs []) numbers) in
       record {
         routine = r;
@@ -256,14 +256,14 @@ module _ (P : Program) (G : Scope) (typed : IsTyped P G) where
     locals_at T a c laid = record {
       found = λ x v e m. laid_found T locals (names_at S a c).local_names (names_at S a c).locals x v laid e;
       absent = λ x e. laid_none T locals (names_at S a c).local_names (names_at S a c).locals x laid e;
-      sorts = all_join (λ e. IsSort e.1.sort) (parameters r.head) (variables_as nature.Local r.body.locals) (all_join (λ e. IsSort e.1.sort) (variables_as nature.Input r.head.ins) (variables_as nature.Output r.head.outs) (sorts_as nature.Input r.head.ins fine.ins) (sorts_as nature.Output r.head.outs fine.outs)) (sorts_as nature.Local r.body.locals fine.locals);
+      sorts = all-append (λ e. IsSort e.1.sort) (parameters r.head) (variables_as nature.Local r.body.locals) (all-append (λ e. IsSort e.1.sort) (variables_as nature.Input r.head.ins) (variables_as nature.Output r.head.outs) (sorts_as nature.Input r.head.ins fine.ins) (sorts_as nature.Output r.head.outs fine.outs)) (sorts_as nature.Local r.body.locals fine.locals);
     }
 
     separate : (a c : ℕ) → length r.head.ins ≤ a → Separate (names_at S a c)
     separate a c h = record {
       locals_apart = two_apart 0 a r.head.ins (state_of S) (omega (arith, h));
       globals_apart = globals_apart 0 globals;
-      locals = all_join IsSlot (slots_from 0 r.head.ins) (slots_from a (state_of S)) (all_slots 0 r.head.ins) (all_slots a (state_of S));
+      locals = all-append IsSlot (slots_from 0 r.head.ins) (slots_from a (state_of S)) (all_slots 0 r.head.ins) (all_slots a (state_of S));
       globals = all_global 0 globals;
     }
 
@@ -296,7 +296,7 @@ module _ (P : Program) (G : Scope) (typed : IsTyped P G) where
         go (Some w) e j =
             let N = names_at S a c in
             let at = laid_found (state_sorts K p) locals N.local_names N.locals x v laid (e ∙ j) in
-            let slot = place_has IsSlot N.local_names N.locals x at.spot (all_join IsSlot (slots_from 0 r.head.ins) (slots_from a (state_of S)) (all_slots 0 r.head.ins) (all_slots a (state_of S))) at.found in
+            let slot = place_has IsSlot N.local_names N.locals x at.spot (all-append IsSlot (slots_from 0 r.head.ins) (slots_from a (state_of S)) (all_slots 0 r.head.ins) (all_slots a (state_of S))) at.found in
             (at.spot, ap (λ (o : Option Spot). either_place o (place_in N.global_names N.globals x)) at.found, at.sort, slot_is_within p.modifies at.spot slot)
         go None e j =
             assigned_global p a c same x v (laid_none (state_sorts K p) locals (names_at S a c).local_names (names_at S a c).locals x laid e) j ok

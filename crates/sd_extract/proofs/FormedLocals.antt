@@ -5,19 +5,20 @@ use Rattle.std.specs.Fmt.{decimal}
 use Rattle.std.specs.List.{AllByRecursion, IsDistinct, filter}
 use Rattle.std.proofs.Common.{append_assoc}
 use Rattle.std.proofs.lemmas.List.{append-nil, map-append}
+use Rattle.std.proofs.lemmas.List.Elements.{filter-append}
 use Rattle.sd_base.specs.declared.Sort.{Sort, Bool as BoolSort}
 use Rattle.sd_base.specs.declared.Var.{Var}
 use Rattle.sd_base.specs.Value.{Text, same_text}
+use Rattle.sd_base.proofs.Lists.{all-append, all-filter}
 use Rattle.sd_ast.specs.declared.Program.{Program}
 use Rattle.sd_ast.specs.declared.Expr.{Expr}
-use Rattle.sd_ast.specs.declared.StmtKind.{StmtKind, Assert, Assume, Assign, Call, If', While', Break, Return, Row_of-Stmt, end_of-Stmt, more_of-Stmt}
+use Rattle.sd_ast.specs.declared.StmtKind.{StmtKind, Call, If', While', Row_of-Stmt, end_of-Stmt, more_of-Stmt}
 use Rattle.sd_meaning.specs.Routine.{Clause, procedure_in}
 use Rattle.sd_core.specs.declared.CoreProgram.{CoreProgram}
 use Rattle.sd_core.specs.Formed.{sorts_of, state_sorts, names_of, is_plain, IsSort}
 use Rattle.sd_extract.specs.Extract.{Counts, plus, counts, counts_all, none, has_returns, Source, state_of, copies_of, kinds, arg_vars, ins_of, args_in, all_args_in, each_args_in, lefts_in, all_lefts_in, each_left_in, hidden, body_proc, loop_proc}
 use Rattle.sd_extract.proofs.FormedSpots.{Holds, holds_within}
 use Rattle.sd_extract.proofs.FormedStatements.{left_sort_if, arg_sorts, all_arg_sorts, each_arg_sorts, left_sorts, all_left_sorts, each_left_sorts}
-use Rattle.sd_extract.proofs.FormedLists.{all_join, all_filter, filter_append}
 
 -- ---- types of hidden locals
 
@@ -132,34 +133,34 @@ module _ (P : Program) (known : (f : Text) → AllByRecursion IsSort (sorts_of (
     args_fit : (k : StmtKind) → AllByRecursion IsSort (arg_sorts P k)
     args_fit (Call xs f es) = known f
     args_fit (If' e shape a shape' b) =
-        all_join IsSort (all_arg_sorts P a) (all_arg_sorts P b) (all_args_fit a) (all_args_fit b)
+        all-append IsSort (all_arg_sorts P a) (all_arg_sorts P b) (all_args_fit a) (all_args_fit b)
     args_fit _ = tt
 
     all_args_fit : {m : _} (ks : Row_of-Stmt m) → AllByRecursion IsSort (all_arg_sorts P ks)
     all_args_fit end_of-Stmt = tt
-    all_args_fit (more_of-Stmt p k ks) = all_join IsSort (arg_sorts P k) (all_arg_sorts P ks) (args_fit k) (all_args_fit ks)
+    all_args_fit (more_of-Stmt p k ks) = all-append IsSort (arg_sorts P k) (all_arg_sorts P ks) (args_fit k) (all_args_fit ks)
 
   each_args_fit : (ks : List StmtKind) → AllByRecursion IsSort (each_arg_sorts P ks)
   each_args_fit [] = tt
-  each_args_fit (k ∷ ks) = all_join IsSort (arg_sorts P k) (each_arg_sorts P ks) (args_fit k) (each_args_fit ks)
+  each_args_fit (k ∷ ks) = all-append IsSort (arg_sorts P k) (each_arg_sorts P ks) (args_fit k) (each_args_fit ks)
 
   mutual
     lefts_fit : (k : StmtKind) → AllByRecursion IsSort (left_sorts k)
     lefts_fit (While' e invs shape body) = left_fit (has_returns body)
-    lefts_fit (If' e shape a shape' b) = all_join IsSort (all_left_sorts a) (all_left_sorts b) (all_lefts_fit a) (all_lefts_fit b)
+    lefts_fit (If' e shape a shape' b) = all-append IsSort (all_left_sorts a) (all_left_sorts b) (all_lefts_fit a) (all_lefts_fit b)
     lefts_fit _ = tt
 
     all_lefts_fit : {m : _} (ks : Row_of-Stmt m) → AllByRecursion IsSort (all_left_sorts ks)
     all_lefts_fit end_of-Stmt = tt
-    all_lefts_fit (more_of-Stmt p k ks) = all_join IsSort (left_sorts k) (all_left_sorts ks) (lefts_fit k) (all_lefts_fit ks)
+    all_lefts_fit (more_of-Stmt p k ks) = all-append IsSort (left_sorts k) (all_left_sorts ks) (lefts_fit k) (all_lefts_fit ks)
 
   each_lefts_fit : (ks : List StmtKind) → AllByRecursion IsSort (each_left_sorts ks)
   each_lefts_fit [] = tt
-  each_lefts_fit (k ∷ ks) = all_join IsSort (left_sorts k) (each_left_sorts ks) (lefts_fit k) (each_lefts_fit ks)
+  each_lefts_fit (k ∷ ks) = all-append IsSort (left_sorts k) (each_left_sorts ks) (lefts_fit k) (each_lefts_fit ks)
 
   pub hidden_fit : (at : Counts) (ks : List StmtKind) → AllByRecursion IsSort (sorts_of (hidden P at ks))
   hidden_fit at ks =
-      subst (AllByRecursion IsSort) (sym (hidden-sorts P at ks)) (all_join IsSort (each_arg_sorts P ks) (each_left_sorts ks) (each_args_fit ks) (each_lefts_fit ks))
+      subst (AllByRecursion IsSort) (sym (hidden-sorts P at ks)) (all-append IsSort (each_arg_sorts P ks) (each_left_sorts ks) (each_args_fit ks) (each_lefts_fit ks))
 
 -- ---- names of hidden locals
 
@@ -183,7 +184,7 @@ arg_vars_hidden call i [] = tt
 arg_vars_hidden call i (v ∷ vs) = (not_plain (decimal call) (codes "arg@" ++ decimal i), arg_vars_hidden call (suc i) vs)
 
 abbrev join_hidden : (xs ys : List Var) → AreHidden xs → AreHidden ys → AreHidden (xs ++ ys)
-join_hidden = all_join (λ v. is_plain v.name ≡ false)
+join_hidden = all-append (λ v. is_plain v.name ≡ false)
 
 mutual
   args_hidden : (P : Program) (at : Counts) (k : StmtKind) → AreHidden (args_in P at k)
@@ -233,7 +234,7 @@ distinct_filter test [] h = tt
 distinct_filter test (x ∷ xs) h = go (test x) (distinct_filter test xs h.1)
   where
     go : (b : Bool) → IsDistinct same_text (filter test xs) → IsDistinct same_text (cond b (x ∷ filter test xs) (filter test xs))
-    go true k = (all_filter (λ y. same_text x y ≡ false) test xs h.0, k)
+    go true k = (all-filter (λ y. same_text x y ≡ false) test xs h.0, k)
     go false k = k
 
 names_append : (xs ys : List Var) → names_of (xs ++ ys) ≡ names_of xs ++ names_of ys
@@ -248,5 +249,5 @@ root_names P S h =
     let are_hidden = join_hidden (copies_of S) (hidden P none (kinds S)) (copies_hidden S.copied) (join_hidden (each_args_in P none (kinds S)) (each_left_in none (kinds S)) (each_args_hidden P none (kinds S)) (each_lefts_hidden none (kinds S))) in
     let inner : names_of (outs ++ (locals ++ hide)) ≡ (names_of outs ++ names_of locals) ++ names_of hide = names_append outs (locals ++ hide) ∙ ap (λ (l : List Text). names_of outs ++ l) (names_append locals hide) ∙ sym (append_assoc (names_of outs) (names_of locals) (names_of hide)) in
     let all : names_of (ins ++ (outs ++ (locals ++ hide))) ≡ own ++ names_of hide = names_append ins (outs ++ (locals ++ hide)) ∙ ap (λ (l : List Text). names_of ins ++ l) inner ∙ sym (append_assoc (names_of ins) (names_of outs ++ names_of locals) (names_of hide)) in
-    let kept : filter is_plain (names_of (ins ++ (outs ++ (locals ++ hide)))) ≡ filter is_plain own = ap (filter is_plain) all ∙ filter_append is_plain own (names_of hide) ∙ ap (λ (l : List Text). filter is_plain own ++ l) (none_plain hide are_hidden) ∙ append-nil (filter is_plain own) in
+    let kept : filter is_plain (names_of (ins ++ (outs ++ (locals ++ hide)))) ≡ filter is_plain own = ap (filter is_plain) all ∙ filter-append is_plain own (names_of hide) ∙ ap (λ (l : List Text). filter is_plain own ++ l) (none_plain hide are_hidden) ∙ append-nil (filter is_plain own) in
     subst (IsDistinct same_text) (sym kept) (distinct_filter is_plain own h)

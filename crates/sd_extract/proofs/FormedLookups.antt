@@ -3,11 +3,12 @@ use Rattle.std.proofs.Common.{◌≡◌, ◌≢◌, List, [], ◌∷◌, ◌++�
 use Rattle.std.specs.Prelude.{Bool, true, false, cond, ◌||◌, ◌⊎◌, if◌then◌else◌}
 use Rattle.std.specs.List.{AllByRecursion}
 use Rattle.std.specs.Cmp.Lexicographic.{bytes_decides}
+use Rattle.std.proofs.lemmas.Option.{same_Some, none-some}
 use Rattle.sd_base.specs.declared.Sort.{Sort}
 use Rattle.sd_base.specs.declared.Var.{Var}
 use Rattle.sd_base.specs.Value.{Text, same_text}
 use Rattle.sd_ast.specs.declared.Decl.{Decl}
-use Rattle.sd_ast.specs.declared.Decl.TheVariants.{Types, Const, Function, Axiom, Globals, Procedure, Implementation}
+use Rattle.sd_ast.specs.declared.Decl.TheVariants.{Const, Function, Globals, Procedure, Implementation}
 use Rattle.sd_ast.specs.declared.Proc.{Proc}
 use Rattle.sd_ast.specs.declared.Impl.{Impl}
 use Rattle.sd_ast.specs.declared.Body.{Body}
@@ -25,7 +26,6 @@ use Rattle.sd_core.specs.declared.Function.{Function as CoreFunction}
 use Rattle.sd_core.specs.Formed.{declared_as}
 use Rattle.sd_extract.specs.Programs.{constants_named, functions_in}
 use Rattle.sd_extract.proofs.FormedTables.{OnceEach, global_entries, function_entries, procedure_entries, if_body, body_names}
-use Rattle.sd_extract.proofs.FormedLists.{some_is, none_is}
 
 -- ---- functions and constants
 
@@ -40,7 +40,7 @@ pub record FoundFunction (gs : List CoreFunction) (f : Text) (sig : Signature) :
   pub result : function.result ≡ sig.result
 
 pub function_found : (ds : List Decl) (f : Text) (sig : Signature) → named (function_entries ds) f ≡ Some sig → FoundFunction (functions_in ds) f sig
-function_found [] f sig h = absurd (none_is sig h)
+function_found [] f sig h = absurd (none-some sig h)
 function_found (Const u xs s ∷ ds) f sig h =
     let k = function_found ds f sig h in
     record { function = k.function; found = skip_constants s xs (functions_in ds) f ∙ k.found; args = k.args; result = k.result }
@@ -48,7 +48,7 @@ function_found (Function g args r ∷ ds) f sig h = go (same_text f g) refl h (f
   where
     go : (b : Bool) → same_text f g ≡ b → cond b (Some (record { args = args; result = r })) (named (function_entries ds) f) ≡ Some sig → (named (function_entries ds) f ≡ Some sig → FoundFunction (functions_in ds) f sig) → FoundFunction (functions_in (Function g args r ∷ ds)) f sig
     go true e k rec =
-        let same : record { args = args; result = r } ≡ sig = some_is _ _ k in
+        let same : record { args = args; result = r } ≡ sig = same_Some _ _ k in
         record { function = record { name = g; args = args; result = r; constant = false }; found = ap (λ (b : Bool). if b then Some (record { name = g; args = args; result = r; constant = false }) else declared_as false (functions_in ds) f) e; args = ap (λ (x : Signature). x.args) same; result = ap (λ (x : Signature). x.result) same }
     go false e k rec =
         let rest = rec k in
@@ -68,7 +68,7 @@ constant_prefix s (c ∷ names) es gs x v h rest = go (same_text x c) refl h (λ
     go true e k rec = record {
       function = record { name = c; args = []; result = s; constant = true };
       found = ap (λ (b : Bool). if b then Some (record { name = c; args = []; result = s; constant = true }) else declared_as true (constants_named names s ++ gs) x) e;
-      result = ap (λ (y : Variable). y.sort) (some_is _ _ k);
+      result = ap (λ (y : Variable). y.sort) (same_Some _ _ k);
     }
     go false e k rec =
         let more = rec k in
@@ -80,7 +80,7 @@ past_variables n [] es x v other h = h
 past_variables n (y ∷ vs) es x v other h = go (same_text x y.name) h (past_variables n vs es x v other)
   where
     go : (b : Bool) → cond b (Some (record { sort = y.sort; nature = n })) (named (variables_as n vs ++ es) x) ≡ Some v → (named (variables_as n vs ++ es) x ≡ Some v → named es x ≡ Some v) → named es x ≡ Some v
-    go true k rec = absurd (other (ap (λ (w : Variable). w.nature) (some_is _ _ k)))
+    go true k rec = absurd (other (ap (λ (w : Variable). w.nature) (same_Some _ _ k)))
     go false k rec = rec k
 
 not_global : (v : Variable) → v.nature ≡ nature.Constant → nature.Global ≢ v.nature
@@ -90,7 +90,7 @@ not_constant : (v : Variable) → v.nature ≡ nature.Global → nature.Constant
 not_constant v h = λ e. cc
 
 pub constant_found : (ds : List Decl) (x : Text) (v : Variable) → named (global_entries ds) x ≡ Some v → v.nature ≡ nature.Constant → FoundConstant (functions_in ds) x v.sort
-constant_found [] x v h n = absurd (none_is v h)
+constant_found [] x v h n = absurd (none-some v h)
 constant_found (Const u xs s ∷ ds) x v h n =
     constant_prefix s xs (global_entries ds) (functions_in ds) x v h (λ k. constant_found ds x v k n)
 constant_found (Function g args r ∷ ds) x v h n =
@@ -109,7 +109,7 @@ past_constants s [] es x v other h = h
 past_constants s (c ∷ names) es x v other h = go (same_text x c) h (past_constants s names es x v other)
   where
     go : (b : Bool) → cond b (Some (record { sort = s; nature = nature.Constant })) (named (constants_of s names ++ es) x) ≡ Some v → (named (constants_of s names ++ es) x ≡ Some v → named es x ≡ Some v) → named es x ≡ Some v
-    go true k rec = absurd (other (ap (λ (w : Variable). w.nature) (some_is _ _ k)))
+    go true k rec = absurd (other (ap (λ (w : Variable). w.nature) (same_Some _ _ k)))
     go false k rec = rec k
 
 variables_prefix : (n : Nature) (vs ws : List Var) (es : List (Text × Variable)) (x : Text) (v : Variable) → named (variables_as n vs ++ es) x ≡ Some v → (named es x ≡ Some v → named (variables_as n ws) x ≡ Some v) → named (variables_as n (vs ++ ws)) x ≡ Some v
@@ -174,7 +174,7 @@ past_globals n [] ws es x v other h rest = rest h
 past_globals n (y ∷ vs) ws es x v other h rest = go (same_text x y.name) h (λ k. past_globals n vs ws es x v other k rest)
   where
     go : (b : Bool) → cond b (Some (record { sort = y.sort; nature = n })) (named (variables_as n vs ++ es) x) ≡ Some v → (named (variables_as n vs ++ es) x ≡ Some v → named (variables_as n (vs ++ ws)) x ≡ None) → cond b (Some (record { sort = y.sort; nature = n })) (named (variables_as n (vs ++ ws)) x) ≡ None
-    go true k rec = absurd (other (ap (λ (w : Variable). w.nature) (some_is _ _ k)))
+    go true k rec = absurd (other (ap (λ (w : Variable). w.nature) (same_Some _ _ k)))
     go false k rec = rec k
 
 -- a constant is no global
@@ -195,7 +195,7 @@ outer_constants s [] es x v h rest = rest h
 outer_constants s (c ∷ names) es x v h rest = go (same_text x c) h (λ k. outer_constants s names es x v k rest)
   where
     go : (b : Bool) → cond b (Some (record { sort = s; nature = nature.Constant })) (named (constants_of s names ++ es) x) ≡ Some v → (named (constants_of s names ++ es) x ≡ Some v → IsOuter v) → IsOuter v
-    go true k rec = inr (ap (λ (w : Variable). w.nature) (sym (some_is _ _ k)))
+    go true k rec = inr (ap (λ (w : Variable). w.nature) (sym (same_Some _ _ k)))
     go false k rec = rec k
 
 outer_globals : (vs : List Var) (es : List (Text × Variable)) (x : Text) (v : Variable) → named (variables_as nature.Global vs ++ es) x ≡ Some v → (named es x ≡ Some v → IsOuter v) → IsOuter v
@@ -203,11 +203,11 @@ outer_globals [] es x v h rest = rest h
 outer_globals (y ∷ vs) es x v h rest = go (same_text x y.name) h (λ k. outer_globals vs es x v k rest)
   where
     go : (b : Bool) → cond b (Some (record { sort = y.sort; nature = nature.Global })) (named (variables_as nature.Global vs ++ es) x) ≡ Some v → (named (variables_as nature.Global vs ++ es) x ≡ Some v → IsOuter v) → IsOuter v
-    go true k rec = inl (ap (λ (w : Variable). w.nature) (sym (some_is _ _ k)))
+    go true k rec = inl (ap (λ (w : Variable). w.nature) (sym (same_Some _ _ k)))
     go false k rec = rec k
 
 pub is_outer : (ds : List Decl) (x : Text) (v : Variable) → named (global_entries ds) x ≡ Some v → IsOuter v
-is_outer [] x v h = absurd (none_is v h)
+is_outer [] x v h = absurd (none-some v h)
 is_outer (Const u xs s ∷ ds) x v h = outer_constants s xs (global_entries ds) x v h (is_outer ds x v)
 is_outer (Globals vs ∷ ds) x v h = outer_globals vs (global_entries ds) x v h (is_outer ds x v)
 is_outer (_ ∷ ds) x v h = is_outer ds x v h
@@ -220,44 +220,44 @@ pub record FoundProcedure (ds : List Decl) (f : Text) (q : Callee) : Type 0 wher
   pub callee : callee_of procedure ≡ q
 
 pub procedure_found : (ds : List Decl) (f : Text) (q : Callee) → named (procedure_entries ds) f ≡ Some q → FoundProcedure ds f q
-procedure_found [] f q h = absurd (none_is q h)
+procedure_found [] f q h = absurd (none-some q h)
 procedure_found (Procedure p ∷ ds) f q h = go (same_text f p.head.name) refl h (procedure_found ds f q)
   where
     go : (b : Bool) → same_text f p.head.name ≡ b → cond b (Some (callee_of p)) (named (procedure_entries ds) f) ≡ Some q → (named (procedure_entries ds) f ≡ Some q → FoundProcedure ds f q) → FoundProcedure (Procedure p ∷ ds) f q
-    go true e k rec = record { procedure = p; found = ap (λ (b : Bool). if b then Some p else procedure_in ds f) e; callee = some_is _ _ k }
+    go true e k rec = record { procedure = p; found = ap (λ (b : Bool). if b then Some p else procedure_in ds f) e; callee = same_Some _ _ k }
     go false e k rec =
         let rest = rec k in
         record { procedure = rest.procedure; found = ap (λ (b : Bool). if b then Some p else procedure_in ds f) e ∙ rest.found; callee = rest.callee }
 procedure_found (_ ∷ ds) f q h = let k = procedure_found ds f q h in record { procedure = k.procedure; found = k.found; callee = k.callee }
 
 pub procedure_named : (ds : List Decl) (f : Text) (p : Proc) → procedure_in ds f ≡ Some p → named (procedure_entries ds) f ≡ Some (callee_of p)
-procedure_named [] f p h = absurd (none_is p h)
+procedure_named [] f p h = absurd (none-some p h)
 procedure_named (Procedure q ∷ ds) f p h = go (same_text f q.head.name) h (procedure_named ds f p)
   where
     go : (b : Bool) → (if b then Some q else procedure_in ds f) ≡ Some p → (procedure_in ds f ≡ Some p → named (procedure_entries ds) f ≡ Some (callee_of p)) → cond b (Some (callee_of q)) (named (procedure_entries ds) f) ≡ Some (callee_of p)
-    go true k rec = ap (λ (x : Proc). Some (callee_of x)) (some_is _ _ k)
+    go true k rec = ap (λ (x : Proc). Some (callee_of x)) (same_Some _ _ k)
     go false k rec = rec k
 procedure_named (_ ∷ ds) f p h = procedure_named ds f p h
 
 -- the first declaration of this name has what all have
 pub procedure_has : (Q : Decl → Type 0) (ds : List Decl) (f : Text) (p : Proc) → AllByRecursion Q ds → procedure_in ds f ≡ Some p → Q (Procedure p) × (f ≡ p.head.name)
-procedure_has Q [] f p a h = absurd (none_is p h)
+procedure_has Q [] f p a h = absurd (none-some p h)
 procedure_has Q (Procedure q ∷ ds) f p a h = go (same_text f q.head.name) refl h (procedure_has Q ds f p a.1)
   where
     go : (b : Bool) → same_text f q.head.name ≡ b → (if b then Some q else procedure_in ds f) ≡ Some p → (procedure_in ds f ≡ Some p → Q (Procedure p) × (f ≡ p.head.name)) → Q (Procedure p) × (f ≡ p.head.name)
     go true e k rec =
-        let same : q ≡ p = some_is _ _ k in
+        let same : q ≡ p = same_Some _ _ k in
         (subst (λ (x : Proc). Q (Procedure x)) same a.0, (bytes_decides f q.head.name).0 e ∙ ap (λ (x : Proc). x.head.name) same)
     go false e k rec = rec k
 procedure_has Q (_ ∷ ds) f p a h = procedure_has Q ds f p a.1 h
 
 pub implementation_has : (Q : Decl → Type 0) (ds : List Decl) (f : Text) (i : Impl) → AllByRecursion Q ds → implementation_in ds f ≡ Some i → Q (Implementation i) × (f ≡ i.head.name)
-implementation_has Q [] f i a h = absurd (none_is i h)
+implementation_has Q [] f i a h = absurd (none-some i h)
 implementation_has Q (Implementation j ∷ ds) f i a h = go (same_text f j.head.name) refl h (implementation_has Q ds f i a.1)
   where
     go : (b : Bool) → same_text f j.head.name ≡ b → (if b then Some j else implementation_in ds f) ≡ Some i → (implementation_in ds f ≡ Some i → Q (Implementation i) × (f ≡ i.head.name)) → Q (Implementation i) × (f ≡ i.head.name)
     go true e k rec =
-        let same : j ≡ i = some_is _ _ k in
+        let same : j ≡ i = same_Some _ _ k in
         (subst (λ (x : Impl). Q (Implementation x)) same a.0, (bytes_decides f j.head.name).0 e ∙ ap (λ (x : Impl). x.head.name) same)
     go false e k rec = rec k
 implementation_has Q (_ ∷ ds) f i a h = implementation_has Q ds f i a.1 h
@@ -289,7 +289,7 @@ has_a_body (Procedure p ∷ ds) f once h = go (same_text f p.head.name) refl p.b
         (λ (l : (j : Impl) × (implementation_in ds f ≡ Some j)). inl l)
         (λ (r : (q : Proc) × (b : Body) × (procedure_in ds f ≡ Some q) × (q.body ≡ Some b)). let same : f ≡ p.head.name = (bytes_decides f p.head.name).0 e in
         let absent : named (procedure_entries ds) f ≡ None = subst (λ (y : Text). named (procedure_entries ds) y ≡ None) (sym same) once.0 in
-        absurd (none_is (callee_of r.0) (sym absent ∙ procedure_named ds f r.0 r.2)))
+        absurd (none-some (callee_of r.0) (sym absent ∙ procedure_named ds f r.0 r.2)))
         k
 
     go : (b : Bool) → same_text f p.head.name ≡ b → (o : Option Body) → p.body ≡ o → is_among (if_body p.head.name o ++ body_names ds) f ≡ true → (is_among (body_names ds) f ≡ true → HasBody ds f) → HasBody (Procedure p ∷ ds) f

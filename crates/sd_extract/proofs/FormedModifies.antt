@@ -3,11 +3,16 @@ use Rattle.std.proofs.Common.{◌≡◌, ℕ, zero, suc, ◌+◌, ◌<◌, List,
 use Rattle.std.specs.Prelude.{Bool, true, false, ◌||◌, ◌==◌, slice_get, Contains, codes, option_map, if◌then◌else◌}
 use Rattle.std.specs.List.{AllByRecursion, IsDistinct, filter_map, cons_option}
 use Rattle.std.specs.Cmp.Lexicographic.{bytes_decides}
+use Rattle.std.proofs.lemmas.Option.{same_Some, none-some}
+use Rattle.std.proofs.lemmas.Bool.{or_parts, or_left, or_right}
+use Rattle.std.proofs.lemmas.List.Folds.{list_any-append}
 use Rattle.sd_base.specs.declared.Sort.{Sort}
 use Rattle.sd_base.specs.declared.Var.{Var}
 use Rattle.sd_base.specs.Value.{Text, same_text}
+use Rattle.sd_base.proofs.Lists.{all-append, all-front, all-back, all-weaker, contains-tail}
+use Rattle.sd_base.proofs.Texts.{same_text-refl, same_text-other_way}
 use Rattle.sd_ast.specs.declared.Spec.{Spec}
-use Rattle.sd_ast.specs.declared.Spec.TheVariants.{Modifies, Requires, Ensures}
+use Rattle.sd_ast.specs.declared.Spec.TheVariants.{Modifies}
 use Rattle.sd_types.specs.Names.{is_among}
 use Rattle.sd_types.specs.Declarations.{modifies_of}
 use Rattle.sd_core.specs.declared.Spot.{Spot}
@@ -18,10 +23,7 @@ use Rattle.sd_ast.specs.Tree.{names_of}
 use Rattle.sd_extract.specs.Names.{place_in}
 use Rattle.sd_extract.specs.Extract.{globals_from, index_in, var_in, new_names, modified_names}
 use Rattle.sd_extract.specs.Extract.{is_among as is_in}
-use Rattle.sd_extract.proofs.FormedChecks.{same_itself}
-use Rattle.sd_extract.proofs.FormedSpots.{contains_later}
 use Rattle.sd_extract.proofs.FormedPlaces.{Matches}
-use Rattle.sd_extract.proofs.FormedLists.{some_is, none_is, all_join, all_left, all_right, all_map, or_left, or_right, or_false}
 
 -- ---- a variable and its place
 
@@ -47,8 +49,8 @@ index_var (w ∷ vs) x = go (same_text x w.name) refl (index_next w vs x (index_
 -- ---- lists of modified globals
 
 sort_of_var : (vs : List Var) (i : ℕ) (v : Var) → slice_get vs i ≡ Some v → slice_get (sorts_of vs) i ≡ Some v.sort
-sort_of_var [] i v h = absurd (none_is v h)
-sort_of_var (w ∷ vs) zero v h = ap (λ (u : Var). Some u.sort) (some_is w v h)
+sort_of_var [] i v h = absurd (none-some v h)
+sort_of_var (w ∷ vs) zero v h = ap (λ (u : Var). Some u.sort) (same_Some w v h)
 sort_of_var (w ∷ vs) (suc i) v h = sort_of_var vs i v h
 
 pub numbers_match : (vs : List Var) (names : List Text) → Matches (sorts_of vs) (filter_map (index_in vs) names) (sorts_of (filter_map (var_in vs) names))
@@ -94,14 +96,14 @@ index_once : (vs : List Var) (x y : Text) (i j : ℕ) → index_in vs x ≡ Some
 index_once vs x y i j e f same = go (index_in vs x) (var_in vs x) (index_in vs y) (var_in vs y) (index_var vs x) (index_var vs y) e f
   where
     go : (a : Option ℕ) (b : Option Var) (c : Option ℕ) (d : Option Var) → IndexVar vs x a b → IndexVar vs y c d → a ≡ Some i → c ≡ Some j → x ≡ y
-    go None b c d h k m n = absurd (none_is i m)
+    go None b c d h k m n = absurd (none-some i m)
     go (Some a) None c d h k m n = absurd h
-    go (Some a) (Some b) None d h k m n = absurd (none_is j n)
+    go (Some a) (Some b) None d h k m n = absurd (none-some j n)
     go (Some a) (Some b) (Some c) None h k m n = absurd k
     go (Some a) (Some b) (Some c) (Some d) h k m n =
-        let numbers : a ≡ c = some_is a i m ∙ same ∙ sym (some_is c j n) in
+        let numbers : a ≡ c = same_Some a i m ∙ same ∙ sym (same_Some c j n) in
         let found : Some b ≡ Some d = sym h.0 ∙ ap (slice_get vs) numbers ∙ k.0 in
-        h.2 ∙ ap (λ (v : Var). v.name) (some_is b d found) ∙ sym k.2
+        h.2 ∙ ap (λ (v : Var). v.name) (same_Some b d found) ∙ sym k.2
 
 eqb_false : (i j : ℕ) → (i ≡ j → ⊥) → (i == j) ≡ false
 eqb_false i j n = go (i == j) refl
@@ -133,25 +135,6 @@ numbers_once vs (x ∷ names) h = go (index_in vs x) refl (numbers_once vs names
 
 -- ---- names that are mentioned
 
-in_among : (x : Text) (ys : List Text) → is_in x ys ≡ is_among ys x
-in_among x [] = refl
-in_among x (y ∷ ys) = ap (λ (b : Bool). same_text x y || b) (in_among x ys)
-
-in_append : (x : Text) (ys zs : List Text) → is_in x (ys ++ zs) ≡ (is_in x ys || is_in x zs)
-in_append x [] zs = refl
-in_append x (y ∷ ys) zs = go (same_text x y) (in_append x ys zs)
-  where
-    go : (b : Bool) → is_in x (ys ++ zs) ≡ (is_in x ys || is_in x zs) → (b || is_in x (ys ++ zs)) ≡ ((b || is_in x ys) || is_in x zs)
-    go true e = refl
-    go false e = e
-
-other_way : (x y : Text) → same_text x y ≡ false → same_text y x ≡ false
-other_way x y e = go (same_text y x) refl
-  where
-    go : (b : Bool) → same_text y x ≡ b → b ≡ false
-    go true f = let g : same_text x y ≡ true = (bytes_decides x y).1 (sym ((bytes_decides y x).0 f)) in absurd (cc)
-    go false f = refl
-
 record NewNames (xs seen : List Text) : Type 0 where
   once : IsDistinct same_text (new_names xs seen)
   unseen : AllByRecursion (λ y. is_in y seen ≡ false) (new_names xs seen)
@@ -159,8 +142,8 @@ record NewNames (xs seen : List Text) : Type 0 where
 
 not_in_longer : (x y : Text) (seen : List Text) → is_in y (seen ++ (x ∷ [])) ≡ false → (is_in y seen ≡ false) × (same_text x y ≡ false)
 not_in_longer x y seen h =
-    let k = or_false (is_in y seen) (is_in y (x ∷ [])) (sym (in_append y seen (x ∷ [])) ∙ h) in
-    (k.0, other_way y x (or_false (same_text y x) false k.1).0)
+    let k = or_parts (is_in y seen) (is_in y (x ∷ [])) (sym (list_any-append (same_text y) seen (x ∷ [])) ∙ h) in
+    (k.0, same_text-other_way y x (or_parts (same_text y x) false k.1).0)
 
 names_new : (xs seen : List Text) → NewNames xs seen
 unfolding IsDistinct
@@ -173,17 +156,17 @@ names_new (x ∷ xs) seen = go (is_in x seen) refl (names_new xs seen) (names_ne
         record {
           once = subst (IsDistinct same_text) same h.once;
           unseen = subst (AllByRecursion (λ y. is_in y seen ≡ false)) same h.unseen;
-          mentioned = subst (AllByRecursion (λ y. is_in y (x ∷ xs) ≡ true)) same (all_map (λ y. is_in y xs ≡ true) (λ y. is_in y (x ∷ xs) ≡ true) (new_names xs seen) (λ y i. or_right (same_text y x) (is_in y xs) i) h.mentioned);
+          mentioned = subst (AllByRecursion (λ y. is_in y (x ∷ xs) ≡ true)) same (all-weaker (λ y. is_in y xs ≡ true) (λ y. is_in y (x ∷ xs) ≡ true) (λ y i. or_right (same_text y x) (is_in y xs) i) (new_names xs seen) h.mentioned);
         }
     go false e h k =
         let rest = new_names xs (seen ++ (x ∷ [])) in
         let same : x ∷ rest ≡ new_names (x ∷ xs) seen = ap (λ (b : Bool). if b then new_names xs seen else x ∷ rest) (sym e) in
-        let away = all_map (λ y. is_in y (seen ++ (x ∷ [])) ≡ false) (λ y. (is_in y seen ≡ false) × (same_text x y ≡ false)) rest (λ y i. not_in_longer x y seen i) k.unseen in
-        let first : is_in x (x ∷ xs) ≡ true = ap (λ (b : Bool). b || is_in x xs) (same_itself x) in
+        let away = all-weaker (λ y. is_in y (seen ++ (x ∷ [])) ≡ false) (λ y. (is_in y seen ≡ false) × (same_text x y ≡ false)) (λ y i. not_in_longer x y seen i) rest k.unseen in
+        let first : is_in x (x ∷ xs) ≡ true = ap (λ (b : Bool). b || is_in x xs) (same_text-refl x) in
         record {
-          once = subst (IsDistinct same_text) same (all_map (λ y. (is_in y seen ≡ false) × (same_text x y ≡ false)) (λ y. same_text x y ≡ false) rest (λ y i. i.1) away, k.once);
-          unseen = subst (AllByRecursion (λ y. is_in y seen ≡ false)) same (e, all_map (λ y. (is_in y seen ≡ false) × (same_text x y ≡ false)) (λ y. is_in y seen ≡ false) rest (λ y i. i.0) away);
-          mentioned = subst (AllByRecursion (λ y. is_in y (x ∷ xs) ≡ true)) same (first, all_map (λ y. is_in y xs ≡ true) (λ y. is_in y (x ∷ xs) ≡ true) rest (λ y i. or_right (same_text y x) (is_in y xs) i) k.mentioned);
+          once = subst (IsDistinct same_text) same (all-weaker (λ y. (is_in y seen ≡ false) × (same_text x y ≡ false)) (λ y. same_text x y ≡ false) (λ y i. i.1) rest away, k.once);
+          unseen = subst (AllByRecursion (λ y. is_in y seen ≡ false)) same (e, all-weaker (λ y. (is_in y seen ≡ false) × (same_text x y ≡ false)) (λ y. is_in y seen ≡ false) (λ y i. i.0) rest away);
+          mentioned = subst (AllByRecursion (λ y. is_in y (x ∷ xs) ≡ true)) same (first, all-weaker (λ y. is_in y xs ≡ true) (λ y. is_in y (x ∷ xs) ≡ true) (λ y i. or_right (same_text y x) (is_in y xs) i) rest k.mentioned);
         }
 
 record ModifiedNames (specs : List Spec) (seen : List Text) : Type 0 where
@@ -205,7 +188,7 @@ distinct_join : (xs ys zs : List Text) → IsDistinct same_text ys → IsDistinc
 unfolding IsDistinct
 distinct_join xs [] zs h k a b = k
 distinct_join xs (y ∷ ys) zs h k a b =
-    (all_join (λ z. same_text y z ≡ false) ys zs h.0 (all_map (λ z. is_in z xs ≡ false) (λ z. same_text y z ≡ false) zs (λ z i. differs y z xs a.0 i) b), distinct_join xs ys zs h.1 k a.1 b)
+    (all-append (λ z. same_text y z ≡ false) ys zs h.0 (all-weaker (λ z. is_in z xs ≡ false) (λ z. same_text y z ≡ false) (λ z i. differs y z xs a.0 i) zs b), distinct_join xs ys zs h.1 k a.1 b)
 
 names_modified : (specs : List Spec) (seen : List Text) → ModifiedNames specs seen
 unfolding IsDistinct
@@ -214,10 +197,10 @@ names_modified (Modifies xs ∷ specs) seen =
     let h = names_new xs seen in
     let k = names_modified specs (seen ++ xs) in
     let rest = modified_names specs (seen ++ xs) in
-    let away = all_map (λ y. is_in y (seen ++ xs) ≡ false) (λ y. (is_in y seen ≡ false) × (is_in y xs ≡ false)) rest (λ y i. or_false (is_in y seen) (is_in y xs) (sym (in_append y seen xs) ∙ i)) k.unseen in
+    let away = all-weaker (λ y. is_in y (seen ++ xs) ≡ false) (λ y. (is_in y seen ≡ false) × (is_in y xs ≡ false)) (λ y i. or_parts (is_in y seen) (is_in y xs) (sym (list_any-append (same_text y) seen xs) ∙ i)) rest k.unseen in
     record {
-      once = distinct_join xs (new_names xs seen) rest h.once k.once h.mentioned (all_map (λ y. (is_in y seen ≡ false) × (is_in y xs ≡ false)) (λ y. is_in y xs ≡ false) rest (λ y i. i.1) away);
-      unseen = all_join (λ y. is_in y seen ≡ false) (new_names xs seen) rest h.unseen (all_map (λ y. (is_in y seen ≡ false) × (is_in y xs ≡ false)) (λ y. is_in y seen ≡ false) rest (λ y i. i.0) away);
+      once = distinct_join xs (new_names xs seen) rest h.once k.once h.mentioned (all-weaker (λ y. (is_in y seen ≡ false) × (is_in y xs ≡ false)) (λ y. is_in y xs ≡ false) (λ y i. i.1) rest away);
+      unseen = all-append (λ y. is_in y seen ≡ false) (new_names xs seen) rest h.unseen (all-weaker (λ y. (is_in y seen ≡ false) × (is_in y xs ≡ false)) (λ y. is_in y seen ≡ false) (λ y i. i.0) rest away);
     }
 names_modified (_ ∷ specs) seen =
     let k = names_modified specs seen in record { once = k.once; unseen = k.unseen }
@@ -237,7 +220,7 @@ all_new Q (x ∷ xs) seen h = go (is_in x seen) (all_new Q xs seen h.1) (all_new
 pub all_modified : (Q : Text → Type 0) (specs : List Spec) (seen : List Text) → AllByRecursion Q (modifies_of specs) → AllByRecursion Q (modified_names specs seen)
 all_modified Q [] seen h = tt
 all_modified Q (Modifies xs ∷ specs) seen h =
-    all_join Q (new_names xs seen) (modified_names specs (seen ++ xs)) (all_new Q xs seen (all_left Q xs (modifies_of specs) h)) (all_modified Q specs (seen ++ xs) (all_right Q xs (modifies_of specs) h))
+    all-append Q (new_names xs seen) (modified_names specs (seen ++ xs)) (all_new Q xs seen (all-front Q xs (modifies_of specs) h)) (all_modified Q specs (seen ++ xs) (all-back Q xs (modifies_of specs) h))
 all_modified Q (_ ∷ specs) seen h = all_modified Q specs seen h
 
 -- what is mentioned is there
@@ -251,21 +234,21 @@ new_has x (y ∷ xs) seen h k = go (is_in y seen) (same_text x y) refl refl h (�
     go true false e f i r s = r i
     go false true e f i r s = ap (λ (c : Bool). c || is_in x (new_names xs (seen ++ (y ∷ [])))) f
     go false false e f i r s =
-        or_right (same_text x y) (is_in x (new_names xs (seen ++ (y ∷ [])))) (s i (in_append x seen (y ∷ []) ∙ (λ j. k j || (f j || false))))
+        or_right (same_text x y) (is_in x (new_names xs (seen ++ (y ∷ [])))) (s i (list_any-append (same_text x) seen (y ∷ []) ∙ (λ j. k j || (f j || false))))
 
 pub modified_has : (x : Text) (specs : List Spec) (seen : List Text) → is_in x (modifies_of specs) ≡ true → is_in x seen ≡ false → is_in x (modified_names specs seen) ≡ true
 modified_has x [] seen h k = h
 modified_has x (Modifies xs ∷ specs) seen h k =
-    go (is_in x xs) refl (sym (in_append x xs (modifies_of specs)) ∙ h) (modified_has x specs (seen ++ xs))
+    go (is_in x xs) refl (sym (list_any-append (same_text x) xs (modifies_of specs)) ∙ h) (modified_has x specs (seen ++ xs))
   where
     rest : List Text
     rest = modified_names specs (seen ++ xs)
 
     go : (b : Bool) → is_in x xs ≡ b → (is_in x xs || is_in x (modifies_of specs)) ≡ true → (is_in x (modifies_of specs) ≡ true → is_in x (seen ++ xs) ≡ false → is_in x (modified_names specs (seen ++ xs)) ≡ true) → is_in x (new_names xs seen ++ modified_names specs (seen ++ xs)) ≡ true
     go true e i r =
-        in_append x (new_names xs seen) (modified_names specs (seen ++ xs)) ∙ or_left (is_in x (new_names xs seen)) (is_in x (modified_names specs (seen ++ xs))) (new_has x xs seen e k)
+        list_any-append (same_text x) (new_names xs seen) (modified_names specs (seen ++ xs)) ∙ or_left (is_in x (new_names xs seen)) (is_in x (modified_names specs (seen ++ xs))) (new_has x xs seen e k)
     go false e i r =
-        in_append x (new_names xs seen) (modified_names specs (seen ++ xs)) ∙ or_right (is_in x (new_names xs seen)) (is_in x (modified_names specs (seen ++ xs))) (r (ap (λ (b : Bool). b || is_in x (modifies_of specs)) (sym e) ∙ i) (in_append x seen xs ∙ (λ j. k j || e j)))
+        list_any-append (same_text x) (new_names xs seen) (modified_names specs (seen ++ xs)) ∙ or_right (is_in x (new_names xs seen)) (is_in x (modified_names specs (seen ++ xs))) (r (ap (λ (b : Bool). b || is_in x (modifies_of specs)) (sym e) ∙ i) (list_any-append (same_text x) seen xs ∙ (λ j. k j || e j)))
 modified_has x (_ ∷ specs) seen h k = modified_has x specs seen h k
 
 -- a mentioned global's number is among the numbers
@@ -278,11 +261,11 @@ number_there vs x i (y ∷ names) e h = go (same_text x y) refl (index_in vs y) 
         let same : index_in vs y ≡ Some i = ap (index_in vs) (sym ((bytes_decides x y).0 t)) ∙ e in
         subst (λ (o : Option ℕ). Contains (cons_option o (filter_map (index_in vs) names)) i) (sym same ∙ f) (0, omega arith, refl)
     go false t None f k rec = rec k
-    go false t (Some j) f k rec = contains_later j (filter_map (index_in vs) names) i (rec k)
+    go false t (Some j) f k rec = contains-tail j (filter_map (index_in vs) names) i (rec k)
 
 pub modifies_there : (vs : List Var) (specs : List Spec) (x : Text) (i : ℕ) → index_in vs x ≡ Some i → is_among (modifies_of specs) x ≡ true → Contains (filter_map (index_in vs) (modified_names specs [])) i
 modifies_there vs specs x i e h =
-    number_there vs x i (modified_names specs []) e (modified_has x specs [] (in_among x (modifies_of specs) ∙ h) refl)
+    number_there vs x i (modified_names specs []) e (modified_has x specs [] h refl)
 
 -- what is said of each mentioned global is said of its number
 pub numbers_have : (vs : List Var) (Q : ℕ → Type 0) (names : List Text) → AllByRecursion (λ x. (i : ℕ) → index_in vs x ≡ Some i → Q i) names → AllByRecursion Q (filter_map (index_in vs) names)
@@ -311,5 +294,5 @@ pub global_spot : (vs : List Var) (x : Text) (q : Spot) → place_in (names_of v
 global_spot vs x q h = go (index_in vs x) (sym (global_spot_from vs 0 x) ∙ h)
   where
     go : (o : Option ℕ) → option_map (λ j. Global (0 + j)) o ≡ Some q → (i : ℕ) × (o ≡ Some i) × (q ≡ Global i)
-    go None e = absurd (none_is q e)
-    go (Some i) e = let f : 0 + i ≡ i = omega arith in (i, refl, sym (some_is (Global (0 + i)) q e) ∙ ap (λ (n : ℕ). Global n) f)
+    go None e = absurd (none-some q e)
+    go (Some i) e = let f : 0 + i ≡ i = omega arith in (i, refl, sym (same_Some (Global (0 + i)) q e) ∙ ap (λ (n : ℕ). Global n) f)

@@ -3,13 +3,15 @@ use Rattle.std.proofs.Common.{◌≡◌, ℕ, zero, suc, ◌+◌, List, [], ◌�
 use Rattle.std.specs.Prelude.{Bool, true, false, slice_get, if◌then◌else◌}
 use Rattle.std.specs.Cmp.Lexicographic.{bytes_decides}
 use Rattle.std.proofs.Common.{append_assoc, length-append}
+use Rattle.std.proofs.lemmas.Option.{none-some}
 use Rattle.sd_base.proofs.Lists.{slice_get-between}
 use Rattle.sd_base.specs.Value.{Text, same_text}
+use Rattle.sd_base.proofs.Texts.{same_text-refl}
 use Rattle.sd_ast.specs.declared.Decl.{Decl}
-use Rattle.sd_ast.specs.declared.Decl.TheVariants.{Types, Const, Function, Axiom, Globals, Procedure, Implementation}
+use Rattle.sd_ast.specs.declared.Decl.TheVariants.{Procedure}
 use Rattle.sd_ast.specs.declared.Program.{Program}
 use Rattle.sd_ast.specs.declared.Proc.{Proc}
-use Rattle.sd_ast.specs.declared.StmtKind.{StmtKind, Assert, Assume, Assign, Call, If', While', Break, Return, Row_of-Stmt, end_of-Stmt, more_of-Stmt}
+use Rattle.sd_ast.specs.declared.StmtKind.{StmtKind, If', While', Row_of-Stmt, end_of-Stmt, more_of-Stmt}
 use Rattle.sd_meaning.specs.Routine.{Routine, procedure_in, routine_named, clauses_of}
 use Rattle.sd_meaning.specs.Inputs.{globals_in}
 use Rattle.sd_meaning.specs.Run.{kinds_in}
@@ -17,11 +19,9 @@ use Rattle.sd_types.specs.Tables.{named}
 use Rattle.sd_types.specs.Declarations.{callee_of}
 use Rattle.sd_core.specs.declared.CoreProc.{CoreProc}
 use Rattle.sd_extract.specs.Extract.{Source, counts, counts_all, counts_each, has_returns, kinds, loop_proc, loops_in, all_loops_in, each_loop_in, procs_of, source_of, size_of, number_from, routine_procs, procs_from}
-use Rattle.sd_extract.proofs.FormedChecks.{same_itself}
 use Rattle.sd_extract.proofs.FormedTables.{OnceEach, procedure_entries}
 use Rattle.sd_extract.proofs.FormedLookups.{procedure_named}
 use Rattle.sd_extract.proofs.FormedStatements.{LoopsAt, AllLoopsAt, EachLoopsAt}
-use Rattle.sd_extract.proofs.FormedLists.{none_is}
 
 -- each element, with its place from one on
 abbrev pub EachFrom : {A : Type 0} → (ℕ → A → Type 0) → ℕ → List A → Type 0
@@ -35,7 +35,7 @@ each_append Q n (x ∷ xs) ys h k =
     (h.0, each_append Q (suc n) xs ys h.1 (subst (λ (m : ℕ). EachFrom Q m ys) e k))
 
 pub each_at : {A : Type 0} (Q : ℕ → A → Type 0) (n : ℕ) (xs : List A) (k : ℕ) (x : A) → EachFrom Q n xs → slice_get xs k ≡ Some x → Q (n + k) x
-each_at Q n [] k x h e = absurd (none_is x e)
+each_at Q n [] k x h e = absurd (none-some x e)
 each_at Q n (y ∷ xs) zero x h e =
     let same : y ≡ x = cc in let f : n ≡ n + zero = omega arith in subst (λ (m : ℕ). Q m x) f (subst (Q n) same h.0)
 each_at Q n (y ∷ xs) (suc k) x h e =
@@ -143,7 +143,7 @@ pub record StandsIn (P : Program) (all : List CoreProc) (r : Routine) (n : ℕ) 
 
 module _ (P : Program) (f : Text) (d : Proc) (r : Routine) (is : routine_named P f ≡ Some r) where
   pub stands_in : (ds : List Decl) (n : ℕ) (pre : List CoreProc) → length pre ≡ n → procedure_in ds f ≡ Some d → StandsIn P (pre ++ procs_from P n ds) r (number_from P n ds f)
-  stands_in [] n pre long e = absurd (none_is d e)
+  stands_in [] n pre long e = absurd (none-some d e)
   stands_in (Procedure p ∷ ds) n pre long e =
       let mine = routine_procs P n (routine_named P p.head.name) in
       let next = n + size_of (routine_named P p.head.name) in
@@ -177,7 +177,7 @@ module _ (P : Program) (Q : ℕ → CoreProc → Type 0) (each : (f : Text) (r :
     where
       head_number : number_from P 0 P.decls p.head.name ≡ n
       head_number =
-          at p.head.name p (ap (λ (b : Bool). if b then Some p else procedure_in ds p.head.name) (same_itself p.head.name)) ∙ ap (λ (b : Bool). if b then n else number_from P (n + size_of (routine_named P p.head.name)) ds p.head.name) (same_itself p.head.name)
+          at p.head.name p (ap (λ (b : Bool). if b then Some p else procedure_in ds p.head.name) (same_text-refl p.head.name)) ∙ ap (λ (b : Bool). if b then n else number_from P (n + size_of (routine_named P p.head.name)) ds p.head.name) (same_text-refl p.head.name)
 
       go : (o : Option Routine) → routine_named P p.head.name ≡ o → EachFrom Q n (routine_procs P n o)
       go None e = tt
@@ -191,7 +191,7 @@ module _ (P : Program) (Q : ℕ → CoreProc → Type 0) (each : (f : Text) (r :
           step true t =
               let same : f ≡ p.head.name = (bytes_decides f p.head.name).0 t in
               let here : named (procedure_entries ds) p.head.name ≡ Some (callee_of d) = subst (λ (g : Text). named (procedure_entries ds) g ≡ Some (callee_of d)) same (procedure_named ds f d e) in
-              absurd (none_is (callee_of d) (sym once.0 ∙ here))
+              absurd (none-some (callee_of d) (sym once.0 ∙ here))
           step false t = refl
 
       later : (f : Text) (d : Proc) → procedure_in ds f ≡ Some d → number_from P 0 P.decls f ≡ number_from P (n + size_of (routine_named P p.head.name)) ds f

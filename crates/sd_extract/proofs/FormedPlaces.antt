@@ -3,9 +3,11 @@ use Rattle.std.proofs.Common.{◌≡◌, ◌≢◌, ℕ, zero, suc, ◌<◌, Lis
 use Rattle.std.specs.Prelude.{Bool, true, false, cond, set, slice_get, if◌then◌else◌}
 use Rattle.std.specs.List.{AllByRecursion}
 use Rattle.std.specs.Cmp.Lexicographic.{bytes_decides}
+use Rattle.std.proofs.lemmas.Option.{same_Some, none-some}
 use Rattle.sd_base.specs.declared.Sort.{Sort}
 use Rattle.sd_base.specs.declared.Var.{Var}
 use Rattle.sd_base.specs.Value.{Text, same_text}
+use Rattle.sd_base.proofs.Lists.{all-append}
 use Rattle.sd_ast.specs.Tree.{names_of}
 use Rattle.sd_ast.specs.declared.Proc.{Proc}
 use Rattle.sd_ast.specs.declared.Program.{Program}
@@ -31,7 +33,6 @@ use Rattle.sd_extract.specs.Programs.{functions_in}
 use Rattle.sd_extract.proofs.FormedExpressions.{Reads, Sees}
 use Rattle.sd_extract.proofs.FormedTables.{OnceEach, global_entries, function_entries}
 use Rattle.sd_extract.proofs.FormedLookups.{function_found, constant_found, globals_as, global_found, constant_no_global, is_outer}
-use Rattle.sd_extract.proofs.FormedLists.{some_is, none_is, all_join}
 
 -- ---- tables of variables and lists of names with their spots
 
@@ -67,7 +68,7 @@ pub record PlaceFor (T : Store Sort) (xs : List Text) (ps : List Spot) (x : Text
   pub sort : sort_at T spot ≡ Some s
 
 pub laid_found : (T : Store Sort) (es : List (Text × Variable)) (xs : List Text) (ps : List Spot) (x : Text) (v : Variable) → Laid T es xs ps → named es x ≡ Some v → PlaceFor T xs ps x v.sort
-laid_found T [] xs ps x v h k = absurd (none_is v k)
+laid_found T [] xs ps x v h k = absurd (none-some v k)
 laid_found T (e ∷ es) [] ps x v h k = absurd h
 laid_found T (e ∷ es) (y ∷ xs) [] x v h k = absurd h
 laid_found T (e ∷ es) (y ∷ xs) (p ∷ ps) x v h k = go (same_text x e.0) refl k (laid_found T es xs ps x v h.2)
@@ -77,7 +78,7 @@ laid_found T (e ∷ es) (y ∷ xs) (p ∷ ps) x v h k = go (same_text x e.0) ref
 
     go : (b : Bool) → same_text x e.0 ≡ b → cond b (Some e.1) (named es x) ≡ Some v → (named es x ≡ Some v → PlaceFor T xs ps x v.sort) → PlaceFor T (y ∷ xs) (p ∷ ps) x v.sort
     go true t j rec =
-        record { spot = p; found = ap (λ (b : Bool). if b then Some p else place_in xs ps x) (test true t); sort = h.1 ∙ ap (λ (w : Variable). Some w.sort) (some_is _ _ j) }
+        record { spot = p; found = ap (λ (b : Bool). if b then Some p else place_in xs ps x) (test true t); sort = h.1 ∙ ap (λ (w : Variable). Some w.sort) (same_Some _ _ j) }
     go false t j rec =
         let r = rec j in record { spot = r.spot; found = ap (λ (b : Bool). if b then Some p else place_in xs ps x) (test false t) ∙ r.found; sort = r.sort }
 
@@ -97,17 +98,17 @@ laid_none T (e ∷ es) (y ∷ xs) (p ∷ ps) x h k = go (same_text x e.0) refl k
 -- ---- one name for a spot
 
 place_among : (p : Spot) (xs : List Text) (ps : List Spot) (y : Text) → AllByRecursion (λ r. p ≢ r) ps → place_in xs ps y ≡ Some p → ⊥
-place_among p [] ps y a h = none_is p h
-place_among p (x ∷ xs) [] y a h = none_is p h
+place_among p [] ps y a h = none-some p h
+place_among p (x ∷ xs) [] y a h = none-some p h
 place_among p (x ∷ xs) (q ∷ ps) y a h = go (same_text y x) h (place_among p xs ps y a.1)
   where
     go : (b : Bool) → (if b then Some q else place_in xs ps y) ≡ Some p → (place_in xs ps y ≡ Some p → ⊥) → ⊥
-    go true k rec = a.0 (sym (some_is _ _ k))
+    go true k rec = a.0 (sym (same_Some _ _ k))
     go false k rec = rec k
 
 pub place_once : (xs : List Text) (ps : List Spot) (x y : Text) (q : Spot) → AreApart ps → place_in xs ps x ≡ Some q → place_in xs ps y ≡ Some q → x ≡ y
-place_once [] ps x y q a h k = absurd (none_is q h)
-place_once (z ∷ xs) [] x y q a h k = absurd (none_is q h)
+place_once [] ps x y q a h k = absurd (none-some q h)
+place_once (z ∷ xs) [] x y q a h k = absurd (none-some q h)
 place_once (z ∷ xs) (p ∷ ps) x y q a h k = go (same_text x z) (same_text y z) refl refl h k (place_once xs ps x y q a.1)
   where
     there : (w : Text) → p ≡ q → place_in xs ps w ≡ Some q → ⊥
@@ -115,18 +116,18 @@ place_once (z ∷ xs) (p ∷ ps) x y q a h k = go (same_text x z) (same_text y z
 
     go : (b c : Bool) → same_text x z ≡ b → same_text y z ≡ c → (if b then Some p else place_in xs ps x) ≡ Some q → (if c then Some p else place_in xs ps y) ≡ Some q → (place_in xs ps x ≡ Some q → place_in xs ps y ≡ Some q → x ≡ y) → x ≡ y
     go true true e f i j rec = (bytes_decides x z).0 e ∙ sym ((bytes_decides y z).0 f)
-    go true false e f i j rec = absurd (there y (some_is _ _ i) j)
-    go false true e f i j rec = absurd (there x (some_is _ _ j) i)
+    go true false e f i j rec = absurd (there y (same_Some _ _ i) j)
+    go false true e f i j rec = absurd (there x (same_Some _ _ j) i)
     go false false e f i j rec = rec i j
 
 -- what holds of all the spots holds of a place
 pub place_has : (Q : Spot → Type 0) (xs : List Text) (ps : List Spot) (x : Text) (q : Spot) → AllByRecursion Q ps → place_in xs ps x ≡ Some q → Q q
-place_has Q [] ps x q a h = absurd (none_is q h)
-place_has Q (z ∷ xs) [] x q a h = absurd (none_is q h)
+place_has Q [] ps x q a h = absurd (none-some q h)
+place_has Q (z ∷ xs) [] x q a h = absurd (none-some q h)
 place_has Q (z ∷ xs) (p ∷ ps) x q a h = go (same_text x z) h (place_has Q xs ps x q a.1)
   where
     go : (b : Bool) → (if b then Some p else place_in xs ps x) ≡ Some q → (place_in xs ps x ≡ Some q → Q q) → Q q
-    go true k rec = subst Q (some_is _ _ k) a.0
+    go true k rec = subst Q (same_Some _ _ k) a.0
     go false k rec = rec k
 
 abbrev pub IsSlot : Spot → Type 0
@@ -159,9 +160,9 @@ place_one N s x y q h k = go (place_in N.local_names N.locals x) (place_in N.loc
 
     go : (a b : Option Spot) → place_in N.local_names N.locals x ≡ a → place_in N.local_names N.locals y ≡ b → either_place a (place_in N.global_names N.globals x) ≡ Some q → either_place b (place_in N.global_names N.globals y) ≡ Some q → x ≡ y
     go (Some a) (Some b) e f i j =
-        place_once N.local_names N.locals x y q s.locals_apart (local x a e (some_is _ _ i)) (local y b f (some_is _ _ j))
-    go (Some a) None e f i j = absurd (mixed x y (local x a e (some_is _ _ i)) j)
-    go None (Some b) e f i j = absurd (mixed y x (local y b f (some_is _ _ j)) i)
+        place_once N.local_names N.locals x y q s.locals_apart (local x a e (same_Some _ _ i)) (local y b f (same_Some _ _ j))
+    go (Some a) None e f i j = absurd (mixed x y (local x a e (same_Some _ _ i)) j)
+    go None (Some b) e f i j = absurd (mixed y x (local y b f (same_Some _ _ j)) i)
     go None None e f i j = place_once N.global_names N.globals x y q s.globals_apart i j
 
 -- ---- globals at their numbers and at the entry
@@ -233,11 +234,11 @@ pub record IsScope (P : Program) (G : Scope) : Type 0 where
   pub function_sorts : AllByRecursion (λ e. IsSort e.1.result) (function_entries P.decls)
 
 pub named_has : {X : Type 0} (Q : X → Type 0) (es : List (Text × X)) (x : Text) (v : X) → AllByRecursion (λ e. Q e.1) es → named es x ≡ Some v → Q v
-named_has Q [] x v a h = absurd (none_is v h)
+named_has Q [] x v a h = absurd (none-some v h)
 named_has Q (e ∷ es) x v a h = go (same_text x e.0) h (named_has Q es x v a.1)
   where
     go : (b : Bool) → cond b (Some e.1) (named es x) ≡ Some v → (named es x ≡ Some v → Q v) → Q v
-    go true k rec = subst Q (some_is _ _ k) a.0
+    go true k rec = subst Q (same_Some _ _ k) a.0
     go false k rec = rec k
 
 pub sorts_as : (n : Nature) (vs : List Var) → AllByRecursion IsSort (sorts_of vs) → AllByRecursion (λ e. IsSort e.1.sort) (variables_as n vs)
@@ -251,12 +252,12 @@ pub record LocalsAt (T : Store Sort) (s : Site) (locals : List (Text × Variable
   pub sorts : AllByRecursion (λ e. IsSort e.1.sort) locals
 
 pub if_named-some : (s : Site) (o : Option Variable) (v : Variable) → if_named s o ≡ Some v → (o ≡ Some v) × (may_name s v.nature ≡ true)
-if_named-some s None v h = absurd (none_is v h)
+if_named-some s None v h = absurd (none-some v h)
 if_named-some s (Some w) v h = go (may_name s w.nature) refl h
   where
     go : (b : Bool) → may_name s w.nature ≡ b → (if b then Some w else None) ≡ Some v → (Some w ≡ Some v) × (may_name s v.nature ≡ true)
-    go true e k = (k, subst (λ (u : Variable). may_name s u.nature ≡ true) (some_is _ _ k) e)
-    go false e k = absurd (none_is v k)
+    go true e k = (k, subst (λ (u : Variable). may_name s u.nature ≡ true) (same_Some _ _ k) e)
+    go false e k = absurd (none-some v k)
 
 module _ (P : Program) (G : Scope) (scope : IsScope P G) where
   abbrev F : List Function
@@ -318,7 +319,7 @@ module _ (P : Program) (G : Scope) (scope : IsScope P G) where
       record {
         found = λ x v e m. laid_found T ins (names_of d.head.ins) spots x v laid (not_out d.head.ins x v e m);
         absent = λ x e. laid_none T ins (names_of d.head.ins) spots x laid (none_first ins outs x e);
-        sorts = all_join (λ e. IsSort e.1.sort) ins outs (sorts_as nature.Input d.head.ins known_ins) (sorts_as nature.Output d.head.outs known_outs);
+        sorts = all-append (λ e. IsSort e.1.sort) ins outs (sorts_as nature.Input d.head.ins known_ins) (sorts_as nature.Output d.head.outs known_outs);
       }
     where
       is_output : (v : Variable) → nature.Output ≡ v.nature → may_name site.Requires v.nature ≡ true → ⊥
@@ -326,11 +327,11 @@ module _ (P : Program) (G : Scope) (scope : IsScope P G) where
           let f : may_name site.Requires nature.Output ≡ true = ap (may_name site.Requires) e ∙ m in absurd (cc)
 
       out_no : (vs : List Var) (x : Text) (v : Variable) → named (variables_as nature.Output vs) x ≡ Some v → may_name site.Requires v.nature ≡ true → ⊥
-      out_no [] x v e m = none_is v e
+      out_no [] x v e m = none-some v e
       out_no (y ∷ vs) x v e m = step (same_text x y.name) e (λ k. out_no vs x v k m)
         where
           step : (b : Bool) → cond b (Some (record { sort = y.sort; nature = nature.Output })) (named (variables_as nature.Output vs) x) ≡ Some v → (named (variables_as nature.Output vs) x ≡ Some v → ⊥) → ⊥
-          step true k rec = is_output v (ap (λ (w : Variable). w.nature) (some_is _ _ k)) m
+          step true k rec = is_output v (ap (λ (w : Variable). w.nature) (same_Some _ _ k)) m
           step false k rec = rec k
 
       not_out : (vs : List Var) (x : Text) (v : Variable) → named (variables_as nature.Input vs ++ variables_as nature.Output d.head.outs) x ≡ Some v → may_name site.Requires v.nature ≡ true → named (variables_as nature.Input vs) x ≡ Some v

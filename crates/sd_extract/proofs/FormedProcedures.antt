@@ -1,12 +1,14 @@
 -- The procedures of a body and of its loops are well formed.
 use Rattle.std.proofs.Common.{◌≡◌, ℕ, zero, suc, ◌+◌, ◌-◌, ◌≤◌, List, [], ◌∷◌, ◌++◌, map, length, Option, Some, None, refl, sym, ◌∙◌, ap, subst, inl, inr, arith}
-use Rattle.std.specs.Prelude.{Bool, true, false, ◌||◌, ◌⊎◌, slice_get, codes, if◌then◌else◌}
+use Rattle.std.specs.Prelude.{Bool, true, false, ◌⊎◌, slice_get, codes, if◌then◌else◌}
 use Rattle.std.specs.List.{AllByRecursion, filter_map, cons_option}
-use Rattle.std.proofs.Common.{append_assoc, length-append}
+use Rattle.std.proofs.Common.{length-append}
 use Rattle.std.proofs.lemmas.List.{append-nil, map-append}
+use Rattle.std.proofs.lemmas.Option.{same_Some, none-some}
 use Rattle.sd_base.specs.declared.Sort.{Sort, Bool as BoolSort}
 use Rattle.sd_base.specs.declared.Var.{Var}
 use Rattle.sd_base.specs.Value.{Text}
+use Rattle.sd_base.proofs.Lists.{all-append}
 use Rattle.sd_ast.specs.Tree.{names_of}
 use Rattle.sd_ast.specs.declared.Program.{Program}
 use Rattle.sd_ast.specs.declared.Proc.{Proc}
@@ -37,7 +39,7 @@ use Rattle.sd_core.specs.Run.{slots_from}
 use Rattle.sd_core.specs.Formed.{sorts_of, state_sorts, IsSort, AllHaveTypes, AreSpotsOf, AllFormed, IsLoop, IsProc}
 use Rattle.sd_core.specs.Formed.{copies_of as copies_in}
 use Rattle.sd_extract.specs.Names.{core_of}
-use Rattle.sd_extract.specs.Extract.{counts, counts_all, counts_each, none, has_return, has_returns, Source, state_of, copies_of, frame_at, kinds, put, check, assume, on_args, loop_call, each_extracted, contract, leave, body_frame, body_copies, body_start, body_proc, loop_state, loop_hidden, left_of, loop_frame, loop_start, turn_of, loop_proc, loops_in, all_loops_in, each_loop_in, procs_of, hidden, ins_of, index_in, var_in, modified_names, number_from, core_procs}
+use Rattle.sd_extract.specs.Extract.{counts, counts_all, counts_each, none, has_returns, Source, state_of, copies_of, frame_at, kinds, put, check, assume, on_args, loop_call, each_extracted, contract, leave, body_frame, body_copies, body_start, body_proc, loop_state, loop_hidden, left_of, loop_frame, loop_start, turn_of, loop_proc, loops_in, all_loops_in, each_loop_in, procs_of, hidden, ins_of, index_in, var_in, modified_names, number_from, core_procs}
 use Rattle.sd_extract.specs.Programs.{core_program, functions_in}
 use Rattle.sd_extract.proofs.FormedExpressions.{Sees, core_typed}
 use Rattle.sd_extract.proofs.FormedChecks.{IsChecked, AreChecked, EachChecked, EachTyped, row_each_checked, row_each_typed}
@@ -50,7 +52,6 @@ use Rattle.sd_extract.proofs.FormedFrames.{sorts_length, source_at, body_stands,
 use Rattle.sd_extract.proofs.FormedLocals.{holds_all, at_slot, body_slots, loop_ins, loop_outs, loop_slots, sorts_join, hidden_fit, root_names, copied-sorts}
 use Rattle.sd_extract.proofs.FormedStatements.{formed_append, put_formed, checks_formed, assumes_formed, if_formed, Fits, LoopHas, LoopsAt, AllLoopsAt, EachLoopsAt, left_sort_if, arg_sorts, each_arg_sorts, each_left_sorts, HiddenAt, loop_formed, with_left, args_counted, each_formed}
 use Rattle.sd_extract.proofs.CodeCounts.{returns_row}
-use Rattle.sd_extract.proofs.FormedLists.{some_is, none_is, all_join}
 
 truths_all : (C : Context) (invs : List Invariant) → AllTruths C invs → AllByRecursion (λ c. HasType C c.holds.kind BoolSort) (clauses_of invs)
 truths_all C [] h = tt
@@ -68,8 +69,8 @@ copied_fit vs [] h = tt
 copied_fit vs (x ∷ names) h = go (index_in vs x) (var_in vs x) (index_var vs x) (copied_fit vs names h)
   where
     at : (ws : List Var) (i : ℕ) (v : Var) → AllByRecursion IsSort (sorts_of ws) → slice_get ws i ≡ Some v → IsSort v.sort
-    at [] i v a e = absurd (none_is v e)
-    at (w ∷ ws) zero v a e = subst (λ (u : Var). IsSort u.sort) (some_is w v e) a.0
+    at [] i v a e = absurd (none-some v e)
+    at (w ∷ ws) zero v a e = subst (λ (u : Var). IsSort u.sort) (same_Some w v e) a.0
     at (w ∷ ws) (suc i) v a e = at ws i v a.1 e
 
     go : (i : Option ℕ) (v : Option Var) → IndexVar vs x i v → AllByRecursion IsSort (sorts_of (filter_map (var_in vs) names)) → AllByRecursion IsSort (sorts_of (cons_option v (filter_map (var_in vs) names)))
@@ -161,7 +162,7 @@ module _ (P : Program) (G : Scope) (typed : IsTyped P G) (global_sorts : AllByRe
       let at : LocalsAt T site.Ensures (parameters d) N = record {
         found = λ x v o m. laid_found T (parameters d) N.local_names N.locals x v laid o;
         absent = λ x o. laid_none T (parameters d) N.local_names N.locals x laid o;
-        sorts = all_join (λ e. IsSort e.1.sort) (variables_as nature.Input d.ins) (variables_as nature.Output d.outs) (sorts_as nature.Input d.ins fine.declared.ins) (sorts_as nature.Output d.outs fine.declared.outs);
+        sorts = all-append (λ e. IsSort e.1.sort) (variables_as nature.Input d.ins) (variables_as nature.Output d.outs) (sorts_as nature.Input d.ins fine.declared.ins) (sorts_as nature.Output d.outs fine.declared.outs);
       } in
       sees P G (is_scope P G typed) T site.Ensures (parameters d) N at (now_laid P G typed f r is T e) (λ o. entry_laid P G typed f r is T (body_copies S) e c)
 

@@ -5,13 +5,17 @@ use Rattle.std.specs.Option.{is_none}
 use Rattle.std.specs.List.{AllByRecursion, IsDistinct}
 use Rattle.std.specs.Cmp.Lexicographic.{bytes_decides}
 use Rattle.std.proofs.lemmas.List.{map-append}
+use Rattle.std.proofs.lemmas.Option.{none-some}
+use Rattle.std.proofs.lemmas.List.Elements.{filter-append}
 use Rattle.sd_base.specs.declared.Sort.{Sort, Bool as BoolSort}
 use Rattle.sd_base.specs.declared.Var.{Var}
 use Rattle.sd_base.specs.Value.{Text, same_text}
+use Rattle.sd_base.proofs.Lists.{all-append, all-back}
+use Rattle.sd_base.proofs.Texts.{same_text-refl}
 use Rattle.sd_ast.specs.declared.Decl.{Decl}
-use Rattle.sd_ast.specs.declared.Decl.TheVariants.{Types, Const, Function, Axiom, Globals, Procedure, Implementation}
+use Rattle.sd_ast.specs.declared.Decl.TheVariants.{Const, Function, Axiom, Globals, Procedure}
 use Rattle.sd_ast.specs.declared.Program.{Program}
-use Rattle.sd_ast.specs.declared.StmtKind.{StmtKind, Assert, Assume, Assign, Call, If', While', Break, Return, Row_of-Stmt, end_of-Stmt, more_of-Stmt}
+use Rattle.sd_ast.specs.declared.StmtKind.{StmtKind, If', While', Row_of-Stmt, end_of-Stmt, more_of-Stmt}
 use Rattle.sd_meaning.specs.Routine.{Routine, routine_named}
 use Rattle.sd_meaning.specs.Inputs.{globals_in, uniques_in, constants_of_sort}
 use Rattle.sd_types.specs.declared.scope.Variable.{Variable}
@@ -35,14 +39,12 @@ use Rattle.sd_extract.specs.Extract.{Source, counts, counts_all, kinds, loops_in
 use Rattle.sd_extract.specs.Programs.{constants_named, functions_in, axioms_in, no_names, core_axiom, core_program}
 use Rattle.sd_extract.specs.Laws.{ExtractedIsFormed}
 use Rattle.sd_extract.proofs.FormedExpressions.{Sees, core_typed}
-use Rattle.sd_extract.proofs.FormedChecks.{same_itself}
 use Rattle.sd_extract.proofs.FormedTables.{keys, OnceEach, entries_distinct, global_entries, function_entries, procedure_entries}
 use Rattle.sd_extract.proofs.FormedLookups.{function_found, constant_found, globals_as, no_global, none_prefix, once_past_constants, once_past_variables, is_outer}
 use Rattle.sd_extract.proofs.FormedPlaces.{IsScope, named_has, if_named-some, variable_sort, outer_named}
 use Rattle.sd_extract.proofs.FormedDeclarations.{known_fit, sorts_fit, vars_fit, IsTyped, is_typed, is_scope, procedures_once, truth_typed, routine_fine}
 use Rattle.sd_extract.proofs.FormedNumbers.{each_at, all_procs}
 use Rattle.sd_extract.proofs.FormedProcedures.{routine_procs_formed}
-use Rattle.sd_extract.proofs.FormedLists.{none_is, all_join, all_right, filter_append}
 
 -- ---- names stand once
 
@@ -139,7 +141,7 @@ constants_once (_ ∷ ds) h = constants_once ds h
 global_sorts : (G : Scope) (ds : List Decl) → AllByRecursion (λ d. decl_rule G d ≡ Ok tt) ds → AllByRecursion IsSort (sorts_of (globals_in ds))
 global_sorts G [] h = tt
 global_sorts G (Globals vs ∷ ds) h =
-    subst (AllByRecursion IsSort) (sym (map-append (λ v. v.sort) vs (globals_in ds))) (all_join IsSort (sorts_of vs) (sorts_of (globals_in ds)) (vars_fit G.types vs tt h.0) (global_sorts G ds h.1))
+    subst (AllByRecursion IsSort) (sym (map-append (λ v. v.sort) vs (globals_in ds))) (all-append IsSort (sorts_of vs) (sorts_of (globals_in ds)) (vars_fit G.types vs tt h.0) (global_sorts G ds h.1))
 global_sorts G (_ ∷ ds) h = global_sorts G ds h.1
 
 constant_signatures : (s : Sort) (names : List Text) (gs : List CoreFunction) → IsSort s → AllByRecursion IsSignature gs → AllByRecursion IsSignature (constants_named names s ++ gs)
@@ -160,12 +162,12 @@ signatures G (_ ∷ ds) h = signatures G ds h.1
 entries_found : {X : Type 0} (es : List (Text × X)) → OnceEach es → AllByRecursion (λ e. named es e.0 ≡ Some e.1) es
 entries_found [] h = tt
 entries_found {X} (e ∷ es) h =
-    (ap (λ (b : Bool). cond b (Some e.1) (named es e.0)) (same_itself e.0), later es (entries_found es h.1))
+    (ap (λ (b : Bool). cond b (Some e.1) (named es e.0)) (same_text-refl e.0), later es (entries_found es h.1))
   where
     other : (d : Text × X) → named es d.0 ≡ Some d.1 → (b : Bool) → same_text d.0 e.0 ≡ b → cond b (Some e.1) (named es d.0) ≡ Some d.1
     other d k true t =
         let absent : named es d.0 ≡ None = subst (λ (y : Text). named es y ≡ None) (sym ((bytes_decides d.0 e.0).0 t)) h.0 in
-        absurd (none_is d.1 (sym absent ∙ k))
+        absurd (none-some d.1 (sym absent ∙ k))
     other d k false t = k
 
     later : (fs : List (Text × X)) → AllByRecursion (λ d. named es d.0 ≡ Some d.1) fs → AllByRecursion (λ d. named (e ∷ es) d.0 ≡ Some d.1) fs
@@ -185,9 +187,9 @@ module _ (all : List Decl) where
   uniques_are : (ds : List Decl) → AllByRecursion Found (global_entries ds) → AllByRecursion (IsConstant (functions_in all)) (uniques_in ds)
   uniques_are [] h = tt
   uniques_are (Const true xs s ∷ ds) h =
-      uniques_prefix s xs (global_entries ds) (uniques_in ds) h (uniques_are ds (all_right Found (constants_of s xs) (global_entries ds) h))
-  uniques_are (Const false xs s ∷ ds) h = uniques_are ds (all_right Found (constants_of s xs) (global_entries ds) h)
-  uniques_are (Globals vs ∷ ds) h = uniques_are ds (all_right Found (variables_as nature.Global vs) (global_entries ds) h)
+      uniques_prefix s xs (global_entries ds) (uniques_in ds) h (uniques_are ds (all-back Found (constants_of s xs) (global_entries ds) h))
+  uniques_are (Const false xs s ∷ ds) h = uniques_are ds (all-back Found (constants_of s xs) (global_entries ds) h)
+  uniques_are (Globals vs ∷ ds) h = uniques_are ds (all-back Found (variables_as nature.Global vs) (global_entries ds) h)
   uniques_are (_ ∷ ds) h = uniques_are ds h
 
 -- ---- axioms and procedures
@@ -237,18 +239,18 @@ module _ (P : Program) (G : Scope) (typed : IsTyped P G) where
     loops_no_roots : (S : Source) (n : ℕ) (s : StmtKind) → roots (loops_in P (number_from P 0 P.decls) S n s) ≡ []
     loops_no_roots S n (While' e invs shape body) = all_loops_no_roots S (suc n) body
     loops_no_roots S n (If' e shape x shape' y) =
-        filter_append (λ p. is_none p.parent) (all_loops_in P (number_from P 0 P.decls) S n x) (all_loops_in P (number_from P 0 P.decls) S (n + (counts_all x).loops) y) ∙ (λ i. all_loops_no_roots S n x i ++ all_loops_no_roots S (n + (counts_all x).loops) y i)
+        filter-append (λ p. is_none p.parent) (all_loops_in P (number_from P 0 P.decls) S n x) (all_loops_in P (number_from P 0 P.decls) S (n + (counts_all x).loops) y) ∙ (λ i. all_loops_no_roots S n x i ++ all_loops_no_roots S (n + (counts_all x).loops) y i)
     loops_no_roots S n _ = refl
 
     all_loops_no_roots : (S : Source) (n : ℕ) {m : _} (ss : Row_of-Stmt m) → roots (all_loops_in P (number_from P 0 P.decls) S n ss) ≡ []
     all_loops_no_roots S n end_of-Stmt = refl
     all_loops_no_roots S n (more_of-Stmt p s ss) =
-        filter_append (λ p. is_none p.parent) (loops_in P (number_from P 0 P.decls) S n s) (all_loops_in P (number_from P 0 P.decls) S (n + (counts s).loops) ss) ∙ (λ i. loops_no_roots S n s i ++ all_loops_no_roots S (n + (counts s).loops) ss i)
+        filter-append (λ p. is_none p.parent) (loops_in P (number_from P 0 P.decls) S n s) (all_loops_in P (number_from P 0 P.decls) S (n + (counts s).loops) ss) ∙ (λ i. loops_no_roots S n s i ++ all_loops_no_roots S (n + (counts s).loops) ss i)
 
   each_loop_no_roots : (S : Source) (n : ℕ) (ss : List StmtKind) → roots (each_loop_in P (number_from P 0 P.decls) S n ss) ≡ []
   each_loop_no_roots S n [] = refl
   each_loop_no_roots S n (s ∷ ss) =
-      filter_append (λ p. is_none p.parent) (loops_in P (number_from P 0 P.decls) S n s) (each_loop_in P (number_from P 0 P.decls) S (n + (counts s).loops) ss) ∙ (λ i. loops_no_roots S n s i ++ each_loop_no_roots S (n + (counts s).loops) ss i)
+      filter-append (λ p. is_none p.parent) (loops_in P (number_from P 0 P.decls) S n s) (each_loop_in P (number_from P 0 P.decls) S (n + (counts s).loops) ss) ∙ (λ i. loops_no_roots S n s i ++ each_loop_no_roots S (n + (counts s).loops) ss i)
 
   abbrev name_if : Option Routine → List Text
   name_if None = []
@@ -274,7 +276,7 @@ module _ (P : Program) (G : Scope) (typed : IsTyped P G) where
       let o = routine_named P p.head.name in
       let mine = routine_procs P n o in
       let rest = procs_from P (n + size_of o) ds in
-      ap names (filter_append (λ p. is_none p.parent) mine rest) ∙ map-append (λ p. p.name) (roots mine) (roots rest) ∙ (λ i. routine_roots n o i ++ all_root_names ds (n + size_of o) i)
+      ap names (filter-append (λ p. is_none p.parent) mine rest) ∙ map-append (λ p. p.name) (roots mine) (roots rest) ∙ (λ i. routine_roots n o i ++ all_root_names ds (n + size_of o) i)
   all_root_names (_ ∷ ds) n = all_root_names ds n
 
   absent_names : (ds : List Decl) (x : Text) → named (procedure_entries ds) x ≡ None → AllByRecursion (λ y. same_text x y ≡ false) (root_names ds)
@@ -288,7 +290,7 @@ module _ (P : Program) (G : Scope) (typed : IsTyped P G) where
       go : (b : Bool) → same_text x p.head.name ≡ b → cond b (Some (callee_of p)) (named (procedure_entries ds) x) ≡ None → (named (procedure_entries ds) x ≡ None → AllByRecursion (λ y. same_text x y ≡ false) (root_names ds)) → AllByRecursion (λ y. same_text x y ≡ false) (name_if (routine_named P p.head.name) ++ root_names ds)
       go true t k rec = absurd (cc)
       go false t k rec =
-          all_join (λ y. same_text x y ≡ false) (name_if (routine_named P p.head.name)) (root_names ds) (mine t (routine_named P p.head.name) refl) (rec k)
+          all-append (λ y. same_text x y ≡ false) (name_if (routine_named P p.head.name)) (root_names ds) (mine t (routine_named P p.head.name) refl) (rec k)
   absent_names (_ ∷ ds) x h = absent_names ds x h
 
   names_once : (ds : List Decl) → OnceEach (procedure_entries ds) → IsDistinct same_text (root_names ds)

@@ -1,8 +1,9 @@
 -- Slots that hold values of some types, and spots that are written to.
-use Rattle.std.proofs.Common.{◌≡◌, ◌≢◌, ℕ, suc, ◌+◌, ◌≤◌, ◌<◌, List, [], ◌∷◌, ◌++◌, map, length, Some, refl, sym, ◌∙◌, ap, subst, arith}
+use Rattle.std.proofs.Common.{◌≡◌, ◌≢◌, ℕ, suc, ◌+◌, ◌≤◌, ◌<◌, List, [], ◌∷◌, ◌++◌, map, length, Some, refl, sym, ◌∙◌, subst, arith}
 use Rattle.std.specs.Prelude.{slice_get, Contains}
 use Rattle.std.specs.List.{AllByRecursion}
 use Rattle.sd_base.specs.declared.Sort.{Sort}
+use Rattle.sd_base.proofs.Lists.{contains-tail, slice_get-append_right}
 use Rattle.sd_core.specs.declared.Spot.{Spot}
 use Rattle.sd_core.specs.declared.Spot.TheVariants.{Slot, Global}
 use Rattle.sd_core.specs.declared.CoreExpr.{At}
@@ -28,18 +29,11 @@ holds_right slots k (x ∷ xs) ys h =
     let e : suc k + length xs ≡ k + length (x ∷ xs) = omega arith in
     subst (λ (n : ℕ). Holds slots n ys) e (holds_right slots (suc k) xs ys h.1)
 
--- past a list's end stands what follows
-past : {A : Type 0} (pre xs : List A) (k : ℕ) → slice_get (pre ++ xs) (length pre + k) ≡ slice_get xs k
-past [] xs k = let e : 0 + k ≡ k = omega arith in ap (slice_get xs) e
-past (x ∷ pre) xs k =
-    let e : suc (length pre) + k ≡ suc (length pre + k) = omega arith in
-    ap (slice_get (x ∷ (pre ++ xs))) e ∙ past pre xs k
-
 holds_shifted : (pre slots : List Sort) (k : ℕ) (ss : List Sort) → Holds slots k ss → Holds (pre ++ slots) (length pre + k) ss
 holds_shifted pre slots k [] h = tt
 holds_shifted pre slots k (s ∷ ss) h =
     let e : length pre + suc k ≡ suc (length pre + k) = omega arith in
-    (past pre slots k ∙ h.0, subst (λ (n : ℕ). Holds (pre ++ slots) n ss) e (holds_shifted pre slots (suc k) ss h.1))
+    (slice_get-append_right pre slots k ∙ h.0, subst (λ (n : ℕ). Holds (pre ++ slots) n ss) e (holds_shifted pre slots (suc k) ss h.1))
 
 holds_next : (x : Sort) (slots : List Sort) (k : ℕ) (ss : List Sort) → Holds slots k ss → Holds (x ∷ slots) (suc k) ss
 holds_next x slots k [] h = tt
@@ -118,12 +112,9 @@ pub slots_targets : {A : Type 0} (S : Store Sort) (ms : List ℕ) (k : ℕ) (xs 
 slots_targets S ms k xs ss e h =
     record { sorts = spots_hold S k xs ss e h; apart = slots_apart k xs; within = slots_within ms k xs }
 
-pub contains_later : {A : Type 0} (y : A) (xs : List A) (x : A) → Contains xs x → Contains (y ∷ xs) x
-contains_later y xs x h = let l = h.1 in (suc h.0, omega (arith, l), h.2)
-
 pub contains_all : {A : Type 0} (xs : List A) → AllByRecursion (Contains xs) xs
 contains_all [] = tt
-contains_all (x ∷ xs) = ((0, omega arith, refl), weaker xs xs (λ y h. contains_later x xs y h) (contains_all xs))
+contains_all (x ∷ xs) = ((0, omega arith, refl), weaker xs xs (λ y h. contains-tail x xs y h) (contains_all xs))
   where
     weaker : (ys zs : List _) → ((y : _) → Contains ys y → Contains (x ∷ ys) y) → AllByRecursion (Contains ys) zs → AllByRecursion (Contains (x ∷ ys)) zs
     weaker ys [] f h = tt

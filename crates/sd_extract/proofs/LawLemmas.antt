@@ -1,15 +1,12 @@
 -- What extraction keeps of a well-typed program.
-use Rattle.std.proofs.Common.{◌≡◌, List, [], ◌∷◌, map, Option, None, Some, option_map, refl, sym, ap, ◌∙◌}
+use Rattle.std.proofs.Common.{◌≡◌, List, [], ◌∷◌, map, Some, option_map, refl, sym, ap, ◌∙◌}
 use Rattle.std.proofs.lemmas.List.{length-map}
 use Rattle.sd_base.specs.Value.{Text}
 use Rattle.sd_base.specs.Meaning.{interpretation, truth_of}
 use Rattle.sd_ast.specs.declared.Expr.{Expr}
 use Rattle.sd_ast.specs.declared.Program.{Program}
-use Rattle.sd_ast.specs.declared.Proc.{Proc}
-use Rattle.sd_ast.specs.declared.Impl.{Impl}
-use Rattle.sd_ast.specs.declared.Body.{Body}
 use Rattle.sd_meaning.specs.Evaluate.{value}
-use Rattle.sd_meaning.specs.Routine.{Routine, procedure_in, implementation_in, with_body, routine_named}
+use Rattle.sd_meaning.specs.Routine.{Routine, routine_named}
 use Rattle.sd_meaning.specs.Inputs.{globals_in, nowhere}
 use Rattle.sd_types.specs.Declarations.{WellTyped}
 use Rattle.sd_core.specs.Run.{is_true, nowhere as no_store}

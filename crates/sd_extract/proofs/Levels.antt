@@ -10,7 +10,7 @@ use Rattle.sd_ast.specs.declared.Program.{Program}
 use Rattle.sd_ast.specs.declared.Proc.{Proc}
 use Rattle.sd_ast.specs.declared.Expr.{Expr}
 use Rattle.sd_ast.specs.declared.Invariant.{Invariant}
-use Rattle.sd_ast.specs.declared.StmtKind.{StmtKind, Assert, Assume, Assign, Call, If', While', Break, Return, Row_of-Stmt}
+use Rattle.sd_ast.specs.declared.StmtKind.{StmtKind, While', Row_of-Stmt}
 use Rattle.sd_base.specs.Meaning.{Interpretation}
 use Rattle.sd_meaning.specs.Evaluate.{State}
 use Rattle.sd_meaning.specs.Routine.{Routine, clauses_of, requires_of, ensures_of, procedure_in, routine_named}

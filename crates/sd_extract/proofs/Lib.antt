@@ -22,7 +22,6 @@ pub mod Propositional
 pub mod FailureMeanings
 pub mod FailureGlobals
 pub mod Failures
-pub mod FormedLists
 pub mod FormedExpressions
 pub mod FormedChecks
 pub mod FormedSpots

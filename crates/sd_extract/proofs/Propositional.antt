@@ -5,13 +5,14 @@ use Rattle.std.specs.List.{AllByRecursion, filter_map, cons_option}
 use Rattle.sd_base.specs.declared.sort.Sort.{Bool as BoolSort}
 use Rattle.sd_base.specs.declared.sort.Var.{Var}
 use Rattle.sd_base.specs.Value.{Text, same_text}
+use Rattle.sd_base.proofs.Lists.{all-append}
 use Rattle.sd_ast.specs.declared.tree.Body.{Body}
 use Rattle.sd_ast.specs.declared.tree.Proc.{Proc}
 use Rattle.sd_ast.specs.declared.tree.Impl.{Impl}
 use Rattle.sd_ast.specs.declared.tree.Spec.{Spec}
-use Rattle.sd_ast.specs.declared.tree.Spec.TheVariants.{Modifies, Requires, Ensures}
+use Rattle.sd_ast.specs.declared.tree.Spec.TheVariants.{Requires, Ensures}
 use Rattle.sd_ast.specs.declared.tree.Decl.{Decl}
-use Rattle.sd_ast.specs.declared.tree.Decl.TheVariants.{Types, Const, Function, Axiom, Globals, Procedure, Implementation}
+use Rattle.sd_ast.specs.declared.tree.Decl.TheVariants.{Globals, Procedure, Implementation}
 use Rattle.sd_ast.specs.declared.tree.Program.{Program}
 use Rattle.sd_core.specs.declared.tree.Spot.TheVariants.{Global}
 use Rattle.sd_core.specs.declared.tree.CoreExpr.{At}
@@ -22,7 +23,7 @@ use Rattle.sd_extract.specs.Extract.{Source, source_of, var_in, copies_of, kinds
 use Rattle.sd_extract.specs.Programs.{functions_in, axioms_in, core_axiom}
 use Rattle.sd_extract.specs.Propositional.{AreTruths, IsPropositional, IsPropositionalSpec, IsPropositionalHead, IsPropositionalBody, MaybePropositionalBody, IsPropositionalDecl}
 use Rattle.sd_extract.specs.Laws.{PropositionalIsKept}
-use Rattle.sd_extract.proofs.PropositionalLemmas.{all_append, all_map, map_all, AllPropositional, IsNumberless, checks-propositional, assumes-propositional, put-propositional, each_extracted-propositional, hidden-truths, each_loops-none}
+use Rattle.sd_extract.proofs.PropositionalLemmas.{all_map, map_all, AllPropositional, IsNumberless, checks-propositional, assumes-propositional, put-propositional, each_extracted-propositional, hidden-truths, each_loops-none}
 
 abbrev pub IsTruth : Var → Type 0
 IsTruth x = x.sort ≡ BoolSort
@@ -95,7 +96,7 @@ ensures-numberless (_ ∷ specs) h = ensures-numberless specs h.1
 
 pub globals-truths : (ds : List Decl) → AllDecls ds → AreTruths (globals_in ds)
 globals-truths [] h = tt
-globals-truths (Globals vs ∷ ds) h = all_append IsTruth vs (globals_in ds) h.0 (globals-truths ds h.1)
+globals-truths (Globals vs ∷ ds) h = all-append IsTruth vs (globals_in ds) h.0 (globals-truths ds h.1)
 globals-truths (Procedure p ∷ ds) h = globals-truths ds h.1
 globals-truths (Implementation i ∷ ds) h = globals-truths ds h.1
 globals-truths (_ ∷ ds) h = absurd h.0
@@ -123,25 +124,25 @@ module _ (P : Program) (number : Text → ℕ) (S : Source) (fine : IsPropositio
   kinds-propositional = all_map (λ s. IsPropositional s.kind) IsPropositional (λ s. s.kind) (λ s h. h) S.routine.body.stmts fine.body.1
 
   leave-propositional : AllPropositional (leave S)
-  leave-propositional = all_append propositional.IsPropositional (map (check (contract S)) (ensures_of S.routine.declared.specs)) _ (checks-propositional (contract S) (ensures_of S.routine.declared.specs) (ensures-numberless S.routine.declared.specs fine.specs)) (tt, tt)
+  leave-propositional = all-append propositional.IsPropositional (map (check (contract S)) (ensures_of S.routine.declared.specs)) _ (checks-propositional (contract S) (ensures_of S.routine.declared.specs) (ensures-numberless S.routine.declared.specs fine.specs)) (tt, tt)
 
   copies-truths : AreTruths (copies_of S)
   copies-truths = all_map IsTruth IsTruth _ (λ v h. h) S.copied copied
 
   locals-truths : AreTruths (S.routine.body.locals ++ (copies_of S ++ hidden P none (kinds S)))
   locals-truths =
-      all_append IsTruth S.routine.body.locals (copies_of S ++ hidden P none (kinds S)) fine.body.0
-      (all_append IsTruth (copies_of S) (hidden P none (kinds S)) copies-truths (hidden-truths P none (kinds S) kinds-propositional))
+      all-append IsTruth S.routine.body.locals (copies_of S ++ hidden P none (kinds S)) fine.body.0
+      (all-append IsTruth (copies_of S) (hidden P none (kinds S)) copies-truths (hidden-truths P none (kinds S) kinds-propositional))
 
   body-propositional : AllPropositional (body_proc P number S).body
   body-propositional =
       let requires = requires_of S.routine.declared.specs in
       let N = on_args (body_frame S).names S.routine.declared (body_frame S).ins in
-      all_append propositional.IsPropositional (put (body_frame S).copies (map (λ i. At (Global i)) S.modifies)) _
+      all-append propositional.IsPropositional (put (body_frame S).copies (map (λ i. At (Global i)) S.modifies)) _
       (put-propositional (body_frame S).copies (map (λ i. At (Global i)) S.modifies) (map_all propositional.HasNoNumber (λ i. At (Global i)) (λ i. tt) S.modifies))
-      (all_append propositional.IsPropositional (map (assume N) requires) _
+      (all-append propositional.IsPropositional (map (assume N) requires) _
       (assumes-propositional N requires (requires-numberless S.routine.declared.specs fine.specs))
-      (all_append propositional.IsPropositional (each_extracted P number (body_frame S) (body_start S) (kinds S)) (leave S)
+      (all-append propositional.IsPropositional (each_extracted P number (body_frame S) (body_start S) (kinds S)) (leave S)
       (each_extracted-propositional P number (body_frame S) leave-propositional (body_start S) (kinds S) kinds-propositional)
       leave-propositional))
 
@@ -159,7 +160,7 @@ maybe-procs P h n (Some r) k =
 procs-propositional : (P : Program) → AllDecls P.decls → (n : ℕ) (ds : List Decl) → AllByRecursion propositional.IsPropositionalProc (procs_from P n ds)
 procs-propositional P h n [] = tt
 procs-propositional P h n (Procedure p ∷ ds) =
-    all_append propositional.IsPropositionalProc (routine_procs P n (routine_named P p.head.name)) _
+    all-append propositional.IsPropositionalProc (routine_procs P n (routine_named P p.head.name)) _
     (maybe-procs P h n (routine_named P p.head.name) (routine-propositional P p.head.name h))
     (procs-propositional P h (n + size_of (routine_named P p.head.name)) ds)
 procs-propositional P h n (_ ∷ ds) = procs-propositional P h n ds

@@ -1,7 +1,8 @@
 -- Expressions and statements without numbers, calls and loops become such ones of the core.
-use Rattle.std.proofs.Common.{◌≡◌, ℕ, ◌+◌, Bool, true, false, List, [], ◌∷◌, ◌++◌, map, Option, Some, None, refl, sym, ap, ◌∙◌, subst}
+use Rattle.std.proofs.Common.{◌≡◌, ℕ, ◌+◌, Bool, true, false, List, [], ◌∷◌, map, Option, Some, None, refl, sym, ap, ◌∙◌, subst}
 use Rattle.std.specs.List.{AllByRecursion}
 use Rattle.sd_base.specs.Value.{Text}
+use Rattle.sd_base.proofs.Lists.{all-append}
 use Rattle.sd_ast.specs.declared.tree.BinOp.{BinOp}
 use Rattle.sd_ast.specs.declared.tree.BinOp.TheVariants as bin
 use Rattle.sd_ast.specs.declared.tree.UnOp.{UnOp}
@@ -27,10 +28,6 @@ use Rattle.sd_extract.specs.Extract.{Counts, Frame, Source, plus, counts, counts
 use Rattle.sd_extract.specs.Propositional.{AreTruths, HasNoNumber, HaveNoNumber, NoneHasNumber, IsPropositional, ArePropositional}
 
 -- ---- lists
-
-pub all_append : {A : Type 0} (P : A → Type 0) (xs ys : List A) → AllByRecursion P xs → AllByRecursion P ys → AllByRecursion P (xs ++ ys)
-all_append P [] ys a b = b
-all_append P (x ∷ xs) ys a b = (a.0, all_append P xs ys a.1 b)
 
 pub all_map : {A B : Type 0} (P : A → Type 0) (Q : B → Type 0) (f : A → B) → ((a : A) → P a → Q (f a)) → (xs : List A) → AllByRecursion P xs → AllByRecursion Q (map f xs)
 all_map P Q f h [] a = tt
@@ -175,12 +172,12 @@ module _ (P : Program) (number : Text → ℕ) (F : Frame) (leave : AllPropositi
     row_extracted-propositional : (at : Counts) {m : _} (r : Row_of-Stmt m) → ArePropositional r → AllPropositional (all_extracted P number F at r)
     row_extracted-propositional at end_of-Stmt h = tt
     row_extracted-propositional at (more_of-Stmt p k ks) h =
-        all_append propositional.IsPropositional (extracted P number F at k) (all_extracted P number F (plus at (counts k)) ks) (extracted-propositional at k h.0) (row_extracted-propositional (plus at (counts k)) ks h.1)
+        all-append propositional.IsPropositional (extracted P number F at k) (all_extracted P number F (plus at (counts k)) ks) (extracted-propositional at k h.0) (row_extracted-propositional (plus at (counts k)) ks h.1)
 
   pub each_extracted-propositional : (at : Counts) (ks : List StmtKind) → AllByRecursion IsPropositional ks → AllPropositional (each_extracted P number F at ks)
   each_extracted-propositional at [] h = tt
   each_extracted-propositional at (k ∷ ks) h =
-      all_append propositional.IsPropositional (extracted P number F at k) (each_extracted P number F (plus at (counts k)) ks) (extracted-propositional at k h.0) (each_extracted-propositional (plus at (counts k)) ks h.1)
+      all-append propositional.IsPropositional (extracted P number F at k) (each_extracted P number F (plus at (counts k)) ks) (extracted-propositional at k h.0) (each_extracted-propositional (plus at (counts k)) ks h.1)
 
 -- ---- hidden locals and loops: there are none
 
@@ -189,53 +186,53 @@ module _ (P : Program) where
     args-none : (at : Counts) (k : StmtKind) → IsPropositional k → AreTruths (args_in P at k)
     args-none at (Call xs f es) h = absurd h
     args-none at (If' e shape a shape' b) h =
-        all_append _ (all_args_in P at a) (all_args_in P (plus at (counts_all a)) b) (row_args-none at a h.1) (row_args-none (plus at (counts_all a)) b h.2)
+        all-append _ (all_args_in P at a) (all_args_in P (plus at (counts_all a)) b) (row_args-none at a h.1) (row_args-none (plus at (counts_all a)) b h.2)
     args-none at (While' e invs shape body) h = absurd h
     args-none at _ h = tt
 
     row_args-none : (at : Counts) {m : _} (r : Row_of-Stmt m) → ArePropositional r → AreTruths (all_args_in P at r)
     row_args-none at end_of-Stmt h = tt
     row_args-none at (more_of-Stmt p k ks) h =
-        all_append _ (args_in P at k) (all_args_in P (plus at (counts k)) ks) (args-none at k h.0) (row_args-none (plus at (counts k)) ks h.1)
+        all-append _ (args_in P at k) (all_args_in P (plus at (counts k)) ks) (args-none at k h.0) (row_args-none (plus at (counts k)) ks h.1)
 
   each_args-none : (at : Counts) (ks : List StmtKind) → AllByRecursion IsPropositional ks → AreTruths (each_args_in P at ks)
   each_args-none at [] h = tt
   each_args-none at (k ∷ ks) h =
-      all_append _ (args_in P at k) (each_args_in P (plus at (counts k)) ks) (args-none at k h.0) (each_args-none (plus at (counts k)) ks h.1)
+      all-append _ (args_in P at k) (each_args_in P (plus at (counts k)) ks) (args-none at k h.0) (each_args-none (plus at (counts k)) ks h.1)
 
   mutual
     lefts-none : (at : Counts) (k : StmtKind) → IsPropositional k → AreTruths (lefts_in at k)
     lefts-none at (Call xs f es) h = absurd h
     lefts-none at (If' e shape a shape' b) h =
-        all_append _ (all_lefts_in at a) (all_lefts_in (plus at (counts_all a)) b) (row_lefts-none at a h.1) (row_lefts-none (plus at (counts_all a)) b h.2)
+        all-append _ (all_lefts_in at a) (all_lefts_in (plus at (counts_all a)) b) (row_lefts-none at a h.1) (row_lefts-none (plus at (counts_all a)) b h.2)
     lefts-none at (While' e invs shape body) h = absurd h
     lefts-none at _ h = tt
 
     row_lefts-none : (at : Counts) {m : _} (r : Row_of-Stmt m) → ArePropositional r → AreTruths (all_lefts_in at r)
     row_lefts-none at end_of-Stmt h = tt
     row_lefts-none at (more_of-Stmt p k ks) h =
-        all_append _ (lefts_in at k) (all_lefts_in (plus at (counts k)) ks) (lefts-none at k h.0) (row_lefts-none (plus at (counts k)) ks h.1)
+        all-append _ (lefts_in at k) (all_lefts_in (plus at (counts k)) ks) (lefts-none at k h.0) (row_lefts-none (plus at (counts k)) ks h.1)
 
   each_lefts-none : (at : Counts) (ks : List StmtKind) → AllByRecursion IsPropositional ks → AreTruths (each_left_in at ks)
   each_lefts-none at [] h = tt
   each_lefts-none at (k ∷ ks) h =
-      all_append _ (lefts_in at k) (each_left_in (plus at (counts k)) ks) (lefts-none at k h.0) (each_lefts-none (plus at (counts k)) ks h.1)
+      all-append _ (lefts_in at k) (each_left_in (plus at (counts k)) ks) (lefts-none at k h.0) (each_lefts-none (plus at (counts k)) ks h.1)
 
   pub hidden-truths : (at : Counts) (ks : List StmtKind) → AllByRecursion IsPropositional ks → AreTruths (hidden P at ks)
-  hidden-truths at ks h = all_append _ (each_args_in P at ks) (each_left_in at ks) (each_args-none at ks h) (each_lefts-none at ks h)
+  hidden-truths at ks h = all-append _ (each_args_in P at ks) (each_left_in at ks) (each_args-none at ks h) (each_lefts-none at ks h)
 
 module _ (P : Program) (number : Text → ℕ) (S : Source) (Q : CoreProc → Type 0) where
   mutual
     loops-none : (n : ℕ) (k : StmtKind) → IsPropositional k → AllByRecursion Q (loops_in P number S n k)
     loops-none n (Call xs f es) h = absurd h
-    loops-none n (If' e shape a shape' b) h = all_append Q (all_loops_in P number S n a) _ (row_loops-none n a h.1) (row_loops-none _ b h.2)
+    loops-none n (If' e shape a shape' b) h = all-append Q (all_loops_in P number S n a) _ (row_loops-none n a h.1) (row_loops-none _ b h.2)
     loops-none n (While' e invs shape body) h = absurd h
     loops-none n _ h = tt
 
     row_loops-none : (n : ℕ) {m : _} (r : Row_of-Stmt m) → ArePropositional r → AllByRecursion Q (all_loops_in P number S n r)
     row_loops-none n end_of-Stmt h = tt
-    row_loops-none n (more_of-Stmt p k ks) h = all_append Q (loops_in P number S n k) _ (loops-none n k h.0) (row_loops-none _ ks h.1)
+    row_loops-none n (more_of-Stmt p k ks) h = all-append Q (loops_in P number S n k) _ (loops-none n k h.0) (row_loops-none _ ks h.1)
 
   pub each_loops-none : (n : ℕ) (ks : List StmtKind) → AllByRecursion IsPropositional ks → AllByRecursion Q (each_loop_in P number S n ks)
   each_loops-none n [] h = tt
-  each_loops-none n (k ∷ ks) h = all_append Q (loops_in P number S n k) _ (loops-none n k h.0) (each_loops-none (n + (counts k).loops) ks h.1)
+  each_loops-none n (k ∷ ks) h = all-append Q (loops_in P number S n k) _ (loops-none n k h.0) (each_loops-none (n + (counts k).loops) ks h.1)

@@ -1,10 +1,8 @@
 -- A well-typed program has what its extraction needs.
-use Rattle.std.proofs.Common.{◌≡◌, Bool, true, false, List, [], ◌∷◌, ◌++◌, length, Option, Some, option_map, refl, sym, ap, subst, ◌∙◌, ℕ}
+use Rattle.std.proofs.Common.{◌≡◌, Bool, true, false, List, [], ◌∷◌, ◌++◌, length, Option, Some, option_map, refl, sym, ap, subst, ◌∙◌}
 use Rattle.std.specs.List.{IsDistinct}
 use Rattle.std.proofs.lemmas.List.{length-map, map-append}
 use Rattle.std.proofs.lemmas.Option.{same_Some}
-use Rattle.sd_base.specs.declared.Sort.{Sort}
-use Rattle.sd_base.specs.declared.Var.{Var}
 use Rattle.sd_base.specs.Value.{Text, same_text}
 use Rattle.sd_ast.specs.declared.Program.{Program}
 use Rattle.sd_ast.specs.declared.Expr.{Expr}
@@ -17,8 +15,7 @@ use Rattle.sd_types.specs.declared.scope.Scope.{Scope}
 use Rattle.sd_types.specs.Statements.{Routine as Rules, routine, left_names}
 use Rattle.sd_types.specs.Declarations.{modifies_of, body_variables, WellTyped}
 use Rattle.sd_types.specs.TypedBodies.{Calls, IsTypedStmt, AreTypedStmts}
-use Rattle.sd_core.specs.Formed.{sorts_of}
-use Rattle.sd_extract.specs.Extract.{Source, source_of, state_of, number_from, body_proc}
+use Rattle.sd_extract.specs.Extract.{Source, source_of, number_from, body_proc}
 use Rattle.sd_extract.specs.Law.{Setting, Among, CallFine, IsFine, AreFine, EachFine, SourceFine, modified_by, setting_of, ProgramFine}
 use Rattle.sd_extract.proofs.Assigned.{among_all, all_may_assign}
 use Rattle.sd_extract.proofs.FormedChecks.{IsCallable, IsChecked, AreChecked, EachChecked, EachTyped}

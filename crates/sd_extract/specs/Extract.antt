@@ -1,7 +1,7 @@
 -- The core procedures of a source procedure: its body, and one for each of its loops.
 use Rattle.std.specs.Prelude.{ℕ, suc, ◌+◌, ◌-◌, Bool, true, false, ◌||◌, List, [], ◌∷◌, ◌++◌, map, length, Option, Some, None, option_map, unwrap_or, codes, if◌then◌else◌}
 use Rattle.std.specs.Fmt.{decimal}
-use Rattle.std.specs.List.{filter_map}
+use Rattle.std.specs.List.{filter_map, list_any}
 use Rattle.sd_base.specs.declared.Sort as sort
 use Rattle.sd_base.specs.declared.Var.{Var}
 use Rattle.sd_base.specs.Value.{Text, same_text}
@@ -367,8 +367,7 @@ index_in [] x = None
 index_in (v ∷ vs) x = if same_text x v.name then Some 0 else option_map (λ n. suc n) (index_in vs x)
 
 abbrev pub is_among : Text → List Text → Bool
-is_among x [] = false
-is_among x (y ∷ ys) = same_text x y || is_among x ys
+is_among x names = list_any (same_text x) names
 
 abbrev pub new_names : List Text → List Text → List Text
 new_names [] seen = []

@@ -1,6 +1,5 @@
 -- What typing gives to extraction, and the law of extraction.
-use Rattle.std.specs.Prelude.{◌↔◌, ◌≡◌, ◌≢◌, ◌⊎◌, ℕ, suc, Bool, true, false, List, [], ◌∷◌, ◌++◌, map, length, get_or, Option, Some, None, option_map}
-use Rattle.sd_base.specs.declared.Var.{Var}
+use Rattle.std.specs.Prelude.{◌↔◌, ◌≡◌, ◌≢◌, ◌⊎◌, ℕ, Bool, true, false, List, [], ◌∷◌, ◌++◌, map, length, get_or, Option, Some, None, option_map}
 use Rattle.std.specs.List.{IsDistinct}
 use Rattle.sd_base.specs.Value.{Text, same_text, Value}
 use Rattle.sd_ast.specs.declared.Program.{Program}
