@@ -36,25 +36,25 @@ settled-ascends h live deaths proofs slice s is =
 
 pub comparison-of : (t : Texts) (h : Held) (name : Option (List ℕ)) (o : Outcome) (live : List Bool) (proofs slice : List Proved) → IsWorkOf t h → IsSettled default_leaves h live o.deaths proofs → slice ≡ proofs
     → IsMade t h slice name o.certificate → IsReport Unknown t live o → IsComparison name t o
-comparison-of t h name o live proofs slice work s same made told = record {
+comparison-of t h name o live proofs slice work s same made is_report = record {
   work = h;
   is_work = work;
   live = live;
   proofs = proofs;
   settled = s;
-  told = told;
+  is_report = is_report;
   certified = made-certified t h proofs live name o.certificate s.size s.inductive (subst (λ (ps : List Proved). IsMade t h ps name o.certificate) same made);
 }
 
 -- ---- replays
 
 pub replay-of : (t : Texts) (h : Held) (bytes : List ℕ) (o : Outcome) (d : Digests) (live : List Bool) → IsWorkOf t h → d ≡ digests_of t → Accepts h d bytes live → IsReport Unproved t live o → o.deaths ≡ [] → o.certificate ≡ None → IsReplay bytes t o
-replay-of t h bytes o d live work same a told no_death no_certificate = record {
+replay-of t h bytes o d live work same a is_report no_death no_certificate = record {
   work = h;
   is_work = work;
   live = live;
   accepted = subst (λ (e : Digests). Accepts h e bytes live) same a;
-  told = told;
+  is_report = is_report;
   no_death = no_death;
   no_certificate = no_certificate;
 }

@@ -32,7 +32,7 @@ use Rattle.sd_run.specs.declared.verdict.PairVerdict.{PairVerdict}
 use Rattle.sd_run.specs.declared.verdict.VerdictState.TheVariants.{Safe, Unknown}
 use Rattle.sd_run.specs.declared.verdict.Otherwise.{Otherwise}
 use Rattle.sd_run.specs.declared.verdict.Otherwise.TheVariants as otherwise
-use Rattle.sd_run.specs.TextRefusals.{IsTaken}
+use Rattle.sd_run.specs.TextRefusals.{IsAccepted}
 use Rattle.sd_run.specs.Texts.{Texts, IsWorkOf}
 use Rattle.sd_rounds.specs.declared.settle.Death.{Death}
 use Rattle.sd_run.specs.Outcome.{Outcome, IsComparison, IsReplay, default_leaves}
@@ -40,9 +40,9 @@ use Rattle.sd_run.specs.Verdicts.{NoNewFailure, AreNewFailures}
 use Rattle.sd_run.proofs.Settling.{IsOpenAt, dead_open}
 use Rattle.sd_run.proofs.VerdictLemmas.{IsRight, all_right}
 
--- a text is taken as one program
-pub one_taken : (bytes : List ℕ) (P Q : Program) → IsTaken bytes P → IsTaken bytes Q → P ≡ Q
-one_taken bytes P Q p q =
+-- a text is accepted as one program
+pub one_accepted : (bytes : List ℕ) (P Q : Program) → IsAccepted bytes P → IsAccepted bytes Q → P ≡ Q
+one_accepted bytes P Q p q =
     let same : ◌≡◌ {A = Result Program ReadError} (Ok P) (Ok Q) = one_answer bytes (Ok P) (Ok Q) p.read q.read (λ e. cc) (λ e. cc) in cc
 
 live_safe : LiveFlagsAreSafe
@@ -55,7 +55,7 @@ all-map : {X : Type 0} (A B : X → Type 0) → ((x : X) → A x → B x) → (x
 all-map A B f [] a = tt
 all-map A B f (x ∷ xs) a = (f x a.0, all-map A B f xs a.1)
 
-module _ (t : Texts) (old_read : IsTaken t.old_bytes t.old) (new_read : IsTaken t.new_bytes t.new) where
+module _ (t : Texts) (old_read : IsAccepted t.old_bytes t.old) (new_read : IsAccepted t.new_bytes t.new) where
   abbrev AreRight : List Death → List PairVerdict → Type 0
   AreRight deaths vs = AllByRecursion (IsRight t.old t.new deaths) vs
 
@@ -72,7 +72,7 @@ module _ (t : Texts) (old_read : IsTaken t.old_bytes t.old) (new_read : IsTaken 
   compared_right name o c =
       let h : Held = c.work in
       let w = c.is_work in
-      subst (AreRight o.deaths) (sym c.told.verdicts)
+      subst (AreRight o.deaths) (sym c.is_report.verdicts)
       (all_right t.old t.new old_read.typed new_read.typed h w.old w.new otherwise.Unknown c.live o.deaths
       (λ n x. live_safe h c.live c.proofs n x w.held c.settled.inductive)
       (λ is old new n x at when dead unspent. failed h w old new n x at when (dead_open default_leaves h c.live o.deaths c.proofs c.settled n (slice_get_within (claims_in h) n x at.at) dead unspent))
@@ -82,7 +82,7 @@ module _ (t : Texts) (old_read : IsTaken t.old_bytes t.old) (new_read : IsTaken 
   replayed_right bytes o r =
       let h : Held = r.work in
       let w = r.is_work in
-      subst (AreRight o.deaths) (sym r.told.verdicts)
+      subst (AreRight o.deaths) (sym r.is_report.verdicts)
       (all_right t.old t.new old_read.typed new_read.typed h w.old w.new otherwise.Unproved r.live o.deaths
       (λ n x. live_safe h r.live _ n x w.held r.accepted.inductive)
       (λ is. absurd (let bad : ◌≡◌ {A = Otherwise} otherwise.Unproved otherwise.Unknown = is in cc))

@@ -47,16 +47,16 @@ zero_one_apart true n e (inr h) = absurd (omega arith)
 zero_one_apart false n e (inl h) = absurd (omega arith)
 zero_one_apart false n e (inr h) = absurd (omega arith)
 
-module _ (words : List (List ℕ)) (held : List ℕ → Option (List ℕ)) (o : Outcome) where
-  pub row_apart : Answer words held o → (o.status ≡ 6) ⊎ (o.status ≡ 8) → ⊥
+module _ (words : List (List ℕ)) (content : List ℕ → Option (List ℕ)) (o : Outcome) where
+  pub row_apart : Answer words content o → (o.status ≡ 6) ⊎ (o.status ≡ 8) → ⊥
   row_apart (no_job a is) h = status_apart o 2 _ is (λ e. omega arith) (λ e. omega arith) h
   row_apart (old_refused job r a b is) h = refusal_apart r o.status (sym (ap (λ (p : Outcome). p.status) is)) h
   row_apart (new_refused job old r a b c is) h = refusal_apart r o.status (sym (ap (λ (p : Outcome). p.status) is)) h
   row_apart (clashing job t r a b c is) h = status_apart o 4 _ is (λ e. omega arith) (λ e. omega arith) h
-  row_apart (compared job t name a b c r) h = zero_one_apart (list_all (λ v. is_safe v.state) o.pairs) o.status r.told.status h
+  row_apart (compared job t name a b c r) h = zero_one_apart (list_all (λ v. is_safe v.state) o.pairs) o.status r.is_report.status h
   row_apart (too_long job t name a b c d is) h = status_apart o 9 _ is (λ e. omega arith) (λ e. omega arith) h
   row_apart (certificate_refused job t name bytes e a b c d r is) h = status_apart o 5 _ is (λ e. omega arith) (λ e. omega arith) h
-  row_apart (replayed job t name bytes a b c d r) h = zero_one_apart (list_all (λ v. is_safe v.state) o.pairs) o.status r.told.status h
+  row_apart (replayed job t name bytes a b c d r) h = zero_one_apart (list_all (λ v. is_safe v.state) o.pairs) o.status r.is_report.status h
 
   -- ---- a certificate is there only where the words name a file for it
 
@@ -77,7 +77,7 @@ module _ (words : List (List ℕ)) (held : List ℕ → Option (List ℕ)) (o : 
   certified_file t w live None (Some made) file h e = absurd h
   certified_file t w live (Some name) None file h e = absurd h
 
-  row_file : (file : List ℕ × List ℕ) → Answer words held o → o.certificate ≡ Some file → NamesFile file
+  row_file : (file : List ℕ × List ℕ) → Answer words content o → o.certificate ≡ Some file → NamesFile file
   row_file file (no_job a is) e = absurd (message_file file 2 _ is e)
   row_file file (old_refused job r a b is) e = absurd (message_file file (refusal_status r) _ is e)
   row_file file (new_refused job old r a b c is) e = absurd (message_file file (refusal_status r) _ is e)
@@ -87,40 +87,40 @@ module _ (words : List (List ℕ)) (held : List ℕ → Option (List ℕ)) (o : 
   row_file file (certificate_refused job t name bytes x a b c d r is) e = absurd (message_file file 5 _ is e)
   row_file file (replayed job t name bytes a b c d r) e = absurd (no_file file o.certificate r.no_certificate e)
 
-  pub file_rose : (certificate : Option (List ℕ × List ℕ)) (before now : List ℕ → ℕ) → Answer words held o → o.certificate ≡ certificate → FileRose certificate before now → CertificateWriteRose words before now
+  pub file_rose : (certificate : Option (List ℕ × List ℕ)) (before now : List ℕ → ℕ) → Answer words content o → o.certificate ≡ certificate → FileRose certificate before now → CertificateWriteRose words before now
   file_rose None before now a e rose = absurd rose
   file_rose (Some file) before now a e rose = let n = row_file file a e in (n.job, file.0, n.named, n.task, rose)
 
 -- ---- what the end of a run tells
 
-module _ (words : List (List ℕ)) (held : List ℕ → Option (List ℕ)) (e : Ended) (status code : ℕ) (text : List ℕ) (certificate : Option (List ℕ × List ℕ)) (o : Outcome) (same : code ≡ status) (is : outcome status text certificate e ≡ o) (a : Answer words held o) where
-  pub ended_answer : Answer words held (outcome code text certificate e)
-  ended_answer = subst (λ n. Answer words held (outcome n text certificate e)) (sym same) (subst (λ (p : Outcome). Answer words held p) (sym is) a)
+module _ (words : List (List ℕ)) (content : List ℕ → Option (List ℕ)) (e : Ended) (status code : ℕ) (text : List ℕ) (certificate : Option (List ℕ × List ℕ)) (o : Outcome) (same : code ≡ status) (is : outcome status text certificate e ≡ o) (a : Answer words content o) where
+  pub ended_answer : Answer words content (outcome code text certificate e)
+  ended_answer = subst (λ n. Answer words content (outcome n text certificate e)) (sym same) (subst (λ (p : Outcome). Answer words content p) (sym is) a)
 
-  pub ended_headline : Headline words held e.pairs.items
-  ended_headline = row_headline words held (outcome code text certificate e) ended_answer
+  pub ended_headline : Headline words content e.pairs.items
+  ended_headline = row_headline words content (outcome code text certificate e) ended_answer
 
-  pub ended_unknown : UnknownIsFailure words held e.deaths.items e.pairs.items
-  ended_unknown = row_unknown words held (outcome code text certificate e) ended_answer
+  pub ended_unknown : UnknownIsFailure words content e.deaths.items e.pairs.items
+  ended_unknown = row_unknown words content (outcome code text certificate e) ended_answer
 
 -- ---- files
 
 -- what became of the files since an earlier moment from which they stayed
-pub files_since : {D : Type 0} (held : D → List ℕ → Option (List ℕ)) (old mid new : D) (certificate : Option (List ℕ × List ℕ)) (file : CertificateFile) → AllStay held old mid → FilesAfter held mid new certificate file → FilesAfter held old new certificate file
-files_since held old mid new None Untouched stay h = λ name. h name ∙ stay name
-files_since held old mid new (Some file) Untouched stay h = λ name. h name ∙ stay name
-files_since held old mid new None NotStarted stay h = absurd h
-files_since held old mid new None Cut stay h = absurd h
-files_since held old mid new None Whole stay h = absurd h
-files_since held old mid new (Some file) NotStarted stay h = λ other apart. h other apart ∙ stay other
-files_since held old mid new (Some file) Cut stay h =
+pub files_since : {D : Type 0} (content : D → List ℕ → Option (List ℕ)) (old mid new : D) (certificate : Option (List ℕ × List ℕ)) (file : CertificateFile) → AllStay content old mid → FilesAfter content mid new certificate file → FilesAfter content old new certificate file
+files_since content old mid new None Untouched stay h = λ name. h name ∙ stay name
+files_since content old mid new (Some file) Untouched stay h = λ name. h name ∙ stay name
+files_since content old mid new None NotStarted stay h = absurd h
+files_since content old mid new None Cut stay h = absurd h
+files_since content old mid new None Whole stay h = absurd h
+files_since content old mid new (Some file) NotStarted stay h = λ other apart. h other apart ∙ stay other
+files_since content old mid new (Some file) Cut stay h =
     (λ other apart. h.0 other apart ∙ stay other, (h.1.0, h.1.1 ∙ ap (λ (t : Option (List ℕ)). appended (emptied t) (take h.1.0 file.1)) (stay file.0)))
-files_since held old mid new (Some file) Whole stay h =
+files_since content old mid new (Some file) Whole stay h =
     (λ other apart. h.0 other apart ∙ stay other, h.1 ∙ ap (λ (t : Option (List ℕ)). appended (emptied t) file.1) (stay file.0))
 
 -- the same file
-pub files_same : {D : Type 0} (held : D → List ℕ → Option (List ℕ)) (old new : D) (certificate : Option (List ℕ × List ℕ)) (file same : CertificateFile) → same ≡ file → FilesAfter held old new certificate file → FilesAfter held old new certificate same
-files_same held old new certificate file same e h = subst (λ (f : CertificateFile). FilesAfter held old new certificate f) (sym e) h
+pub files_same : {D : Type 0} (content : D → List ℕ → Option (List ℕ)) (old new : D) (certificate : Option (List ℕ × List ℕ)) (file same : CertificateFile) → same ≡ file → FilesAfter content old new certificate file → FilesAfter content old new certificate same
+files_same content old new certificate file same e h = subst (λ (f : CertificateFile). FilesAfter content old new certificate f) (sym e) h
 
 pub broken_same : (file same : CertificateFile) (b : Bool) → same ≡ file → (IsTrue b ↔ IsBroken file) → b ≡ true → IsBroken same
 broken_same file same b e h t = subst IsBroken (sym e) (h.0 t)

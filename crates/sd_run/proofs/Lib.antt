@@ -7,6 +7,4 @@ pub mod Comparison
 pub mod Certified
 pub mod Rows
 pub mod Endings
-pub mod ComparedExprs
-pub mod ComparedStmts
-pub mod TestLemmas
+pub mod ComparedTrees

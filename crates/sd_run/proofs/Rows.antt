@@ -14,7 +14,7 @@ use Rattle.sd_run.specs.declared.text.TextRefusal.TheVariants.{Reading, Typing, 
 use Rattle.sd_run.specs.declared.text.Text.{Text}
 use Rattle.sd_run.specs.declared.text.TextFault.{TextFault}
 use Rattle.sd_run.specs.declared.text.TextFault.TheVariants.{Memory, Failed, Refused}
-use Rattle.sd_run.specs.TextRefusals.{IsTaken, IsTextRefusal, refusal_status}
+use Rattle.sd_run.specs.TextRefusals.{IsAccepted, IsTextRefusal, refusal_status}
 use Rattle.sd_extract.specs.Propositional.{IsPropositionalProgram}
 use Rattle.sd_match.specs.Refusals.{Refusal, Answers, global_types, function_signatures}
 use Rattle.sd_match.specs.declared.refusal.MatchError.{MatchError}
@@ -25,7 +25,7 @@ use Rattle.sd_run.specs.Replies.{IsTextReply, IsClashReply, IsTextsReply, IsRepl
 use Rattle.sd_rounds.specs.declared.settle.Death.{Death}
 use Rattle.sd_run.specs.Verdicts.{NoNewFailure, AreNewFailures}
 use Rattle.sd_run.specs.Answer.{Answer, no_job, old_refused, new_refused, clashing, compared, too_long, certificate_refused, replayed, ForPrograms, Headline, UnknownIsFailure, CertificateRose}
-use Rattle.sd_run.proofs.Comparison.{compared_right, replayed_right, right_safe, right_unknown, one_taken}
+use Rattle.sd_run.proofs.Comparison.{compared_right, replayed_right, right_safe, right_unknown, one_accepted}
 
 abbrev codes_known : List ℕ
 codes_known = 0 ∷ 1 ∷ 2 ∷ 3 ∷ 4 ∷ 5 ∷ 6 ∷ 7 ∷ 8 ∷ 9 ∷ []
@@ -66,38 +66,38 @@ refusal_known NotYet = three_known
 status_is : (o : Outcome) (code : ℕ) (text : List ℕ) → o ≡ message code text → o.status ≡ code
 status_is o code text e = ap (λ (p : Outcome). p.status) e
 
-module _ (words : List (List ℕ)) (held : List ℕ → Option (List ℕ)) (o : Outcome) where
+module _ (words : List (List ℕ)) (content : List ℕ → Option (List ℕ)) (o : Outcome) where
   -- the status of a row is a known one
-  pub row_known : Answer words held o → Contains codes_known o.status
+  pub row_known : Answer words content o → Contains codes_known o.status
   row_known (no_job a is) = known_by o.status 2 (status_is o 2 _ is) (2, omega arith, refl)
   row_known (old_refused job r a b is) = known_by o.status (refusal_status r) (status_is o (refusal_status r) _ is) (refusal_known r)
   row_known (new_refused job old r a b c is) = known_by o.status (refusal_status r) (status_is o (refusal_status r) _ is) (refusal_known r)
   row_known (clashing job t r a b c is) = known_by o.status 4 (status_is o 4 _ is) (4, omega arith, refl)
-  row_known (compared job t name a b c r) = known_by o.status (status_of o.pairs) r.told.status (zero_or_one (list_all (λ v. is_safe v.state) o.pairs))
+  row_known (compared job t name a b c r) = known_by o.status (status_of o.pairs) r.is_report.status (zero_or_one (list_all (λ v. is_safe v.state) o.pairs))
   row_known (too_long job t name a b c d is) = known_by o.status 9 (status_is o 9 _ is) nine_known
   row_known (certificate_refused job t name bytes e a b c d r is) = known_by o.status 5 (status_is o 5 _ is) (5, omega arith, refl)
-  row_known (replayed job t name bytes a b c d r) = known_by o.status (status_of o.pairs) r.told.status (zero_or_one (list_all (λ v. is_safe v.state) o.pairs))
+  row_known (replayed job t name bytes a b c d r) = known_by o.status (status_of o.pairs) r.is_report.status (zero_or_one (list_all (λ v. is_safe v.state) o.pairs))
 
   same_job : (a b : JobNames) → job_of words ≡ Some a → job_of words ≡ Some b → a ≡ b
   same_job a b one other = let e : ◌≡◌ {A = Option JobNames} (Some a) (Some b) = sym one ∙ other in cc
 
   -- what holds of no pairs, and of the pairs of any two texts that are compared or have a certificate, holds of each row for the
-  -- programs of the told files
+  -- programs of the files that are told
   module _ (claim : Program → Program → List PairVerdict → Type 0) (none : (P Q : Program) → claim P Q []) where
-    silent_for : (code : ℕ) (text : List ℕ) → o ≡ message code text → ForPrograms words held (λ P Q. claim P Q o.pairs)
+    silent_for : (code : ℕ) (text : List ℕ) → o ≡ message code text → ForPrograms words content (λ P Q. claim P Q o.pairs)
     silent_for code text is j m ob ot nb nt P Q s t = subst (λ (p : Outcome). claim P Q p.pairs) (sym is) (none P Q)
 
-    texts_for : (job : JobNames) (t : Texts) → job_of words ≡ Some job → AreRead held job t → claim t.old t.new o.pairs → ForPrograms words held (λ P Q. claim P Q o.pairs)
+    texts_for : (job : JobNames) (t : Texts) → job_of words ≡ Some job → AreRead content job t → claim t.old t.new o.pairs → ForPrograms words content (λ P Q. claim P Q o.pairs)
     texts_for job t named read h j m ob ot nb nt P Q s u =
         let same : job ≡ j = same_job job j named m in
-        let old_same : ob ≡ t.old_bytes = read.old_held ob (ap (λ (k : JobNames). held k.old) same ∙ ot) in
-        let new_same : nb ≡ t.new_bytes = read.new_held nb (ap (λ (k : JobNames). held k.new) same ∙ nt) in
-        let old_is : t.old ≡ P = one_taken t.old_bytes t.old P read.old_read (subst (λ (b : List ℕ). IsTaken b P) old_same s) in
-        let new_is : t.new ≡ Q = one_taken t.new_bytes t.new Q read.new_read (subst (λ (b : List ℕ). IsTaken b Q) new_same u) in
+        let old_same : ob ≡ t.old_bytes = read.old_content ob (ap (λ (k : JobNames). content k.old) same ∙ ot) in
+        let new_same : nb ≡ t.new_bytes = read.new_content nb (ap (λ (k : JobNames). content k.new) same ∙ nt) in
+        let old_is : t.old ≡ P = one_accepted t.old_bytes t.old P read.old_read (subst (λ (b : List ℕ). IsAccepted b P) old_same s) in
+        let new_is : t.new ≡ Q = one_accepted t.new_bytes t.new Q read.new_read (subst (λ (b : List ℕ). IsAccepted b Q) new_same u) in
         subst (λ (q : Program). claim P q o.pairs) new_is (subst (λ (p : Program). claim p t.new o.pairs) old_is h)
 
   -- the headline holds of each row
-  pub row_headline : Answer words held o → Headline words held o.pairs
+  pub row_headline : Answer words content o → Headline words content o.pairs
   row_headline (no_job a is) = silent_for NoNewFailure (λ P Q. tt) 2 _ is
   row_headline (old_refused job r a b is) = silent_for NoNewFailure (λ P Q. tt) (refusal_status r) _ is
   row_headline (new_refused job old r a b c is) = silent_for NoNewFailure (λ P Q. tt) (refusal_status r) _ is
@@ -113,7 +113,7 @@ module _ (words : List (List ℕ)) (held : List ℕ → Option (List ℕ)) (o : 
   abbrev Unknowns : Program → Program → List PairVerdict → Type 0
   Unknowns P Q pairs = IsPropositionalProgram P → IsPropositionalProgram Q → AreNewFailures P Q o.deaths pairs
 
-  pub row_unknown : Answer words held o → UnknownIsFailure words held o.deaths o.pairs
+  pub row_unknown : Answer words content o → UnknownIsFailure words content o.deaths o.pairs
   row_unknown (no_job a is) = silent_for Unknowns (λ P Q p q. tt) 2 _ is
   row_unknown (old_refused job r a b is) = silent_for Unknowns (λ P Q p q. tt) (refusal_status r) _ is
   row_unknown (new_refused job old r a b c is) = silent_for Unknowns (λ P Q p q. tt) (refusal_status r) _ is
@@ -128,41 +128,41 @@ module _ (words : List (List ℕ)) (held : List ℕ → Option (List ℕ)) (o : 
 -- ---- rows
 
 -- what was read, while the files stay
-pub are_read : (held : List ℕ → Option (List ℕ)) (told : Option (List ℕ)) (job : JobNames) (t : Texts) → told ≡ held job.new → Holds (held job.old) t.old_bytes → IsTaken t.old_bytes t.old → Holds told t.new_bytes → IsTaken t.new_bytes t.new → AreRead held job t
-are_read held told job t stay old_held old_read new_held new_read = record {
-  old_held = old_held;
-  new_held = λ bytes e. new_held bytes (stay ∙ e);
+pub are_read : (content : List ℕ → Option (List ℕ)) (known : Option (List ℕ)) (job : JobNames) (t : Texts) → known ≡ content job.new → Holds (content job.old) t.old_bytes → IsAccepted t.old_bytes t.old → Holds known t.new_bytes → IsAccepted t.new_bytes t.new → AreRead content job t
+are_read content known job t stay old_content old_read new_content new_read = record {
+  old_content = old_content;
+  new_content = λ bytes e. new_content bytes (stay ∙ e);
   old_read = old_read;
   new_read = new_read;
 }
 
--- a held text that is read
-pub told_taken : (told : Option (List ℕ)) (bytes : List ℕ) (P : Program) → Holds told bytes → IsTaken bytes P → WhereKnown told (λ b. IsTaken b P)
-told_taken told bytes P h r b e = subst (λ (x : List ℕ). IsTaken x P) (sym (h b e)) r
+-- a text that is known and read
+pub known_accepted : (known : Option (List ℕ)) (bytes : List ℕ) (P : Program) → Holds known bytes → IsAccepted bytes P → WhereKnown known (λ b. IsAccepted b P)
+known_accepted known bytes P h r b e = subst (λ (x : List ℕ). IsAccepted x P) (sym (h b e)) r
 
-pub old_row : (words : List (List ℕ)) (held : List ℕ → Option (List ℕ)) (o : Outcome) (job : JobNames) (f : TextFault) → job_of words ≡ Some job
-    → ((r : TextRefusal) → ◌≡◌ {A = Result Text TextFault} (Err f) (Err (Refused r)) → WhereKnown (held job.old) (λ bytes. IsTextRefusal bytes r)) → IsTextReply (codes "old") f o → Answer words held o
-old_row words held o job Memory named refused h = absurd h
-old_row words held o job Failed named refused h = absurd h
-old_row words held o job (Refused r) named refused h = old_refused job r named (refused r refl) h
+pub old_row : (words : List (List ℕ)) (content : List ℕ → Option (List ℕ)) (o : Outcome) (job : JobNames) (f : TextFault) → job_of words ≡ Some job
+    → ((r : TextRefusal) → ◌≡◌ {A = Result Text TextFault} (Err f) (Err (Refused r)) → WhereKnown (content job.old) (λ bytes. IsTextRefusal bytes r)) → IsTextReply (codes "old") f o → Answer words content o
+old_row words content o job Memory named refused h = absurd h
+old_row words content o job Failed named refused h = absurd h
+old_row words content o job (Refused r) named refused h = old_refused job r named (refused r refl) h
 
-pub new_row : (words : List (List ℕ)) (held : List ℕ → Option (List ℕ)) (o : Outcome) (job : JobNames) (old : Program) (f : TextFault) → job_of words ≡ Some job → WhereKnown (held job.old) (λ bytes. IsTaken bytes old)
-    → ((r : TextRefusal) → ◌≡◌ {A = Result Text TextFault} (Err f) (Err (Refused r)) → WhereKnown (held job.new) (λ bytes. IsTextRefusal bytes r)) → IsTextReply (codes "new") f o → Answer words held o
-new_row words held o job old Memory named taken refused h = absurd h
-new_row words held o job old Failed named taken refused h = absurd h
-new_row words held o job old (Refused r) named taken refused h = new_refused job old r named taken (refused r refl) h
+pub new_row : (words : List (List ℕ)) (content : List ℕ → Option (List ℕ)) (o : Outcome) (job : JobNames) (old : Program) (f : TextFault) → job_of words ≡ Some job → WhereKnown (content job.old) (λ bytes. IsAccepted bytes old)
+    → ((r : TextRefusal) → ◌≡◌ {A = Result Text TextFault} (Err f) (Err (Refused r)) → WhereKnown (content job.new) (λ bytes. IsTextRefusal bytes r)) → IsTextReply (codes "new") f o → Answer words content o
+new_row words content o job old Memory named accepted refused h = absurd h
+new_row words content o job old Failed named accepted refused h = absurd h
+new_row words content o job old (Refused r) named accepted refused h = new_refused job old r named accepted (refused r refl) h
 
-pub replay_row : (words : List (List ℕ)) (held : List ℕ → Option (List ℕ)) (o : Outcome) (job : JobNames) (t : Texts) (name : List ℕ) (told : Option (List ℕ)) → job_of words ≡ Some job → job.task ≡ replay name → AreMatched held job t → told ≡ held name → IsReplayReply told t o → Answer words held o
-replay_row words held o job t name told named task read same (inl h) = too_long job t name named task read (λ bytes e. h.0 bytes (same ∙ e)) h.1
-replay_row words held o job t name told named task read same (inr (bytes, holds, inl r)) = replayed job t name bytes named task read (λ b e. holds b (same ∙ e)) r
-replay_row words held o job t name told named task read same (inr (bytes, holds, inr (e, r, is))) = certificate_refused job t name bytes e named task read (λ b k. holds b (same ∙ k)) r is
+pub replay_row : (words : List (List ℕ)) (content : List ℕ → Option (List ℕ)) (o : Outcome) (job : JobNames) (t : Texts) (name : List ℕ) (known : Option (List ℕ)) → job_of words ≡ Some job → job.task ≡ replay name → AreMatched content job t → known ≡ content name → IsReplayReply known t o → Answer words content o
+replay_row words content o job t name known named task read same (inl h) = too_long job t name named task read (λ bytes e. h.0 bytes (same ∙ e)) h.1
+replay_row words content o job t name known named task read same (inr (bytes, holds, inl r)) = replayed job t name bytes named task read (λ b e. holds b (same ∙ e)) r
+replay_row words content o job t name known named task read same (inr (bytes, holds, inr (e, r, is))) = certificate_refused job t name bytes e named task read (λ b k. holds b (same ∙ k)) r is
 
 -- the row of two texts that were read, while the files stay
-pub texts_row : (words : List (List ℕ)) (held mid : List ℕ → Option (List ℕ)) (o : Outcome) (job : JobNames) (t : Texts) → job_of words ≡ Some job → AreRead held job t → ((name : List ℕ) → mid name ≡ held name)
-    → IsTextsReply job.task mid t o → Answer words held o
-texts_row words held mid o job t named read same h = go job.task refl h
+pub texts_row : (words : List (List ℕ)) (content mid : List ℕ → Option (List ℕ)) (o : Outcome) (job : JobNames) (t : Texts) → job_of words ≡ Some job → AreRead content job t → ((name : List ℕ) → mid name ≡ content name)
+    → IsTextsReply job.task mid t o → Answer words content o
+texts_row words content mid o job t named read same h = go job.task refl h
   where
-    go : (k : Task) → job.task ≡ k → IsTextsReply k mid t o → Answer words held o
+    go : (k : Task) → job.task ≡ k → IsTextsReply k mid t o → Answer words content o
     go k e (inl (r, clash, is)) = clashing job t r named read clash is
     go (verify name) e (inr (none, reply)) = compared job t name named e (record { are_read = read; no_clash = none }) reply
-    go (replay name) e (inr (none, reply)) = replay_row words held o job t name (mid name) named e (record { are_read = read; no_clash = none }) (same name) reply
+    go (replay name) e (inr (none, reply)) = replay_row words content o job t name (mid name) named e (record { are_read = read; no_clash = none }) (same name) reply

@@ -11,8 +11,8 @@ use Rattle.sd_run.specs.declared.text.TextRefusal.TheVariants.{Reading, Typing, 
 use Rattle.sd_run.specs.declared.text.Text.{Text}
 use Rattle.sd_run.specs.declared.text.TextFault.{TextFault}
 use Rattle.sd_run.specs.declared.text.TextFault.TheVariants.{Memory, Failed, Refused}
-use Rattle.sd_run.specs.TextRefusals.{IsTaken, IsTextRefusal}
-use Rattle.sd_run.specs.Taking.{IsFault}
+use Rattle.sd_run.specs.TextRefusals.{IsAccepted, IsTextRefusal}
+use Rattle.sd_run.specs.TextFaults.{IsFault}
 
 pub front_is : (limit : ℕ) (bytes read : List ℕ) → read ≡ take (limit + 1) bytes → length read ≤ limit → read ≡ bytes
 front_is limit bytes read front short =
@@ -41,11 +41,11 @@ module _ (limit : ℕ) (bytes read slice : List ℕ) (is : limit ≡ 16777216) (
   refusal_whole (Typing e) h = (h.0, reading_whole (Ok h.0) h.1, h.2, h.3)
   refusal_whole NotYet h = (h.0, reading_whole (Ok h.0) h.1, h.2, h.3)
 
-  pub taken_is : (P : Program) → IsTaken slice P → bytes ≡ read
-  taken_is P t = sym (slice_is t.read.short) ∙ same
+  pub accepted_is : (P : Program) → IsAccepted slice P → bytes ≡ read
+  accepted_is P t = sym (slice_is t.read.short) ∙ same
 
-pub taken_same : (read slice : List ℕ) (P : Program) → slice ≡ read → IsTaken slice P → IsTaken read P
-taken_same read slice P same t = subst (λ (b : List ℕ). IsTaken b P) same t
+pub accepted_same : (read slice : List ℕ) (P : Program) → slice ≡ read → IsAccepted slice P → IsAccepted read P
+accepted_same read slice P same t = subst (λ (b : List ℕ). IsAccepted b P) same t
 
 -- the refusal of a fault
 pub fault_refused : (bytes : List ℕ) (f : TextFault) (r : TextRefusal) → ◌≡◌ {A = Result Text TextFault} (Err f) (Err (Refused r)) → IsFault bytes f → IsTextRefusal bytes r

@@ -9,7 +9,7 @@ use Rattle.sd_run.specs.Words.{Task, verify, replay, JobNames, job_of}
 use Rattle.sd_match.specs.Refusals.{Refusal}
 use Rattle.sd_run.specs.Texts.{Holds, Texts, AreRead, AreMatched, clash_of}
 use Rattle.sd_run.specs.declared.text.TextRefusal.{TextRefusal}
-use Rattle.sd_run.specs.TextRefusals.{IsTaken, IsTextRefusal, refusal_status, text_error}
+use Rattle.sd_run.specs.TextRefusals.{IsAccepted, IsTextRefusal, refusal_status, text_error}
 use Rattle.sd_run.specs.Outcome.{Outcome, message, IsComparison, IsReplay, IsRefused}
 use Rattle.sd_rounds.specs.declared.settle.Death.{Death}
 use Rattle.sd_run.specs.Verdicts.{NoNewFailure, AreNewFailures}
@@ -22,29 +22,29 @@ use Rattle.sd_run.specs.declared.verdict.PairVerdict.{PairVerdict}
 abbrev pub ForJob : List (List ℕ) → (JobNames → Type 0) → Type 0
 ForJob words P = (job : JobNames) → job_of words ≡ Some job → P job
 
--- A row for each answer, with its cause, its text, and what is said of the pairs. Of files that aren't told nothing is said.
-pub data Answer (words : List (List ℕ)) (held : List ℕ → Option (List ℕ)) (o : Outcome) : Type 0 where
-  no_job : job_of words ≡ None → o ≡ message 2 usage_text → Answer words held o
-  old_refused : (job : JobNames) (r : TextRefusal) → job_of words ≡ Some job → WhereKnown (held job.old) (λ bytes. IsTextRefusal bytes r) → o ≡ message (refusal_status r) (text_error (codes "old") r) → Answer words held o
-  new_refused : (job : JobNames) (old : Program) (r : TextRefusal) → job_of words ≡ Some job → WhereKnown (held job.old) (λ bytes. IsTaken bytes old) → WhereKnown (held job.new) (λ bytes. IsTextRefusal bytes r) → o ≡ message (refusal_status r) (text_error (codes "new") r) → Answer words held o
-  clashing : (job : JobNames) (t : Texts) (r : Refusal) → job_of words ≡ Some job → AreRead held job t → clash_of t ≡ Some r → o ≡ message 4 (match_error r) → Answer words held o
-  compared : (job : JobNames) (t : Texts) (name : Option (List ℕ)) → job_of words ≡ Some job → job.task ≡ verify name → AreMatched held job t → IsComparison name t o → Answer words held o
-  too_long : (job : JobNames) (t : Texts) (name : List ℕ) → job_of words ≡ Some job → job.task ≡ replay name → AreMatched held job t → WhereKnown (held name) (λ bytes. 9223372036854775807 < length bytes) → o ≡ message 9 certificate_size → Answer words held o
-  certificate_refused : (job : JobNames) (t : Texts) (name bytes : List ℕ) (e : CertError) → job_of words ≡ Some job → job.task ≡ replay name → AreMatched held job t → Holds (held name) bytes → IsRefused bytes t e → o ≡ message 5 (certificate_error e) → Answer words held o
-  replayed : (job : JobNames) (t : Texts) (name bytes : List ℕ) → job_of words ≡ Some job → job.task ≡ replay name → AreMatched held job t → Holds (held name) bytes → IsReplay bytes t o → Answer words held o
+-- A row for each answer, with its cause, its text, and what is said of the pairs. Nothing is said of files whose content isn't known.
+pub data Answer (words : List (List ℕ)) (content : List ℕ → Option (List ℕ)) (o : Outcome) : Type 0 where
+  no_job : job_of words ≡ None → o ≡ message 2 usage_text → Answer words content o
+  old_refused : (job : JobNames) (r : TextRefusal) → job_of words ≡ Some job → WhereKnown (content job.old) (λ bytes. IsTextRefusal bytes r) → o ≡ message (refusal_status r) (text_error (codes "old") r) → Answer words content o
+  new_refused : (job : JobNames) (old : Program) (r : TextRefusal) → job_of words ≡ Some job → WhereKnown (content job.old) (λ bytes. IsAccepted bytes old) → WhereKnown (content job.new) (λ bytes. IsTextRefusal bytes r) → o ≡ message (refusal_status r) (text_error (codes "new") r) → Answer words content o
+  clashing : (job : JobNames) (t : Texts) (r : Refusal) → job_of words ≡ Some job → AreRead content job t → clash_of t ≡ Some r → o ≡ message 4 (match_error r) → Answer words content o
+  compared : (job : JobNames) (t : Texts) (name : Option (List ℕ)) → job_of words ≡ Some job → job.task ≡ verify name → AreMatched content job t → IsComparison name t o → Answer words content o
+  too_long : (job : JobNames) (t : Texts) (name : List ℕ) → job_of words ≡ Some job → job.task ≡ replay name → AreMatched content job t → WhereKnown (content name) (λ bytes. 9223372036854775807 < length bytes) → o ≡ message 9 certificate_size → Answer words content o
+  certificate_refused : (job : JobNames) (t : Texts) (name bytes : List ℕ) (e : CertError) → job_of words ≡ Some job → job.task ≡ replay name → AreMatched content job t → Holds (content name) bytes → IsRefused bytes t e → o ≡ message 5 (certificate_error e) → Answer words content o
+  replayed : (job : JobNames) (t : Texts) (name bytes : List ℕ) → job_of words ≡ Some job → job.task ≡ replay name → AreMatched content job t → Holds (content name) bytes → IsReplay bytes t o → Answer words content o
 
--- what holds of the two programs that the told files of the job spell
+-- what holds of the two programs that the files of the job spell, where their content is known
 abbrev pub ForPrograms : List (List ℕ) → (List ℕ → Option (List ℕ)) → (Program → Program → Type 0) → Type 0
-ForPrograms words held P = ForJob words (λ job. WhereKnown (held job.old) (λ old_bytes. WhereKnown (held job.new) (λ new_bytes. (old new : Program) → IsTaken old_bytes old → IsTaken new_bytes new → P old new)))
+ForPrograms words content P = ForJob words (λ job. WhereKnown (content job.old) (λ old_bytes. WhereKnown (content job.new) (λ new_bytes. (old new : Program) → IsAccepted old_bytes old → IsAccepted new_bytes new → P old new)))
 
 -- The headline: no pair that is said to be safe has a new failure.
 abbrev pub Headline : List (List ℕ) → (List ℕ → Option (List ℕ)) → List PairVerdict → Type 0
-Headline words held pairs = ForPrograms words held (λ old new. NoNewFailure old new pairs)
+Headline words content pairs = ForPrograms words content (λ old new. NoNewFailure old new pairs)
 
 -- Where the texts are over truth values, without calls and loops, each pair that is said to be unknown, though no search for a
 -- candidate of it was spent, has a new failure.
 abbrev pub UnknownIsFailure : List (List ℕ) → (List ℕ → Option (List ℕ)) → List Death → List PairVerdict → Type 0
-UnknownIsFailure words held deaths pairs = ForPrograms words held (λ old new. IsPropositionalProgram old → IsPropositionalProgram new → AreNewFailures old new deaths pairs)
+UnknownIsFailure words content deaths pairs = ForPrograms words content (λ old new. IsPropositionalProgram old → IsPropositionalProgram new → AreNewFailures old new deaths pairs)
 
 -- the count of a certificate that is to be read rose
 abbrev pub CertificateRose : Task → (List ℕ → ℕ) → (List ℕ → ℕ) → Type 0

@@ -7,7 +7,7 @@ pub mod TextRefusals
 pub mod MatchErrors
 pub mod CertificateErrors
 pub mod Verdicts
-pub mod Taking
+pub mod TextFaults
 pub mod Outcome
 pub mod Replies
 pub mod Answer

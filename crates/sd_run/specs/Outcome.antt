@@ -60,7 +60,7 @@ pub record IsComparison (name : Option (List ℕ)) (t : Texts) (o : Outcome) : T
   pub live : List Bool
   pub proofs : List Proved
   pub settled : IsSettled default_leaves work live o.deaths proofs
-  pub told : IsReport Unknown t live o
+  pub is_report : IsReport Unknown t live o
   pub certified : IsCertified t work live name o.certificate
 
 -- a certificate of two texts was replayed
@@ -69,7 +69,7 @@ pub record IsReplay (bytes : List ℕ) (t : Texts) (o : Outcome) : Type 0 where
   pub is_work : IsWorkOf t work
   pub live : List Bool
   pub accepted : Accepts work (digests_of t) bytes live
-  pub told : IsReport Unproved t live o
+  pub is_report : IsReport Unproved t live o
   pub no_death : o.deaths ≡ []
   pub no_certificate : o.certificate ≡ None
 

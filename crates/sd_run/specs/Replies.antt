@@ -12,7 +12,7 @@ use Rattle.sd_match.specs.declared.refusal.MatchError.TheVariants as matching
 use Rattle.sd_run.specs.declared.text.Text.{Text}
 use Rattle.sd_run.specs.declared.text.TextFault.{TextFault}
 use Rattle.sd_run.specs.declared.text.TextFault.TheVariants.{Refused}
-use Rattle.sd_run.specs.TextRefusals.{IsTaken, refusal_status, text_error}
+use Rattle.sd_run.specs.TextRefusals.{IsAccepted, refusal_status, text_error}
 use Rattle.sd_run.specs.declared.reply.NamedCertificate.{NamedCertificate}
 use Rattle.sd_run.specs.declared.reply.Report.{Report}
 use Rattle.sd_run.specs.declared.reply.Reply.{Reply}
@@ -29,8 +29,8 @@ texts_of old new = record { old_bytes = old.bytes.items; new_bytes = new.bytes.i
 
 -- Two texts that were read and can be compared, with what they give to judge.
 pub record IsMatched (m : Matched) : Type 0 where
-  pub old_taken : IsTaken m.old.bytes.items m.old.program
-  pub new_taken : IsTaken m.new.bytes.items m.new.program
+  pub old_accepted : IsAccepted m.old.bytes.items m.old.program
+  pub new_accepted : IsAccepted m.new.bytes.items m.new.program
   pub is_work : IsWorkOf (texts_of m.old m.new) m.work
   pub no_clash : clash_of (texts_of m.old m.new) ≡ None
 
@@ -70,17 +70,17 @@ refusal e = message 5 (certificate_error e)
 abbrev pub IsJudged : List ℕ → Texts → Outcome → Type 0
 IsJudged bytes t o = IsReplay bytes t o ⊎ ((e : CertError) × IsRefused bytes t e × (o ≡ refusal e))
 
--- the bytes that are held are beyond the limit, or they were judged
+-- the content is beyond the limit, or they were judged
 abbrev pub IsReplayReply : Option (List ℕ) → Texts → Outcome → Type 0
-IsReplayReply told t o =
-    (WhereKnown told (λ bytes. 9223372036854775807 < length bytes) × (o ≡ message 9 certificate_size)) ⊎ ((bytes : List ℕ) × Holds told bytes × IsJudged bytes t o)
+IsReplayReply known t o =
+    (WhereKnown known (λ bytes. 9223372036854775807 < length bytes) × (o ≡ message 9 certificate_size)) ⊎ ((bytes : List ℕ) × Holds known bytes × IsJudged bytes t o)
 
 -- what a task on two texts comes to
 abbrev pub IsTaskReply : Task → (List ℕ → Option (List ℕ)) → Texts → Outcome → Type 0
-IsTaskReply (verify name) held t o = IsComparison name t o
-IsTaskReply (replay name) held t o = IsReplayReply (held name) t o
+IsTaskReply (verify name) content t o = IsComparison name t o
+IsTaskReply (replay name) content t o = IsReplayReply (content name) t o
 
 -- the texts clash, or they were judged
 abbrev pub IsTextsReply : Task → (List ℕ → Option (List ℕ)) → Texts → Outcome → Type 0
-IsTextsReply task held t o =
-    ((r : Refusal) × (clash_of t ≡ Some r) × (o ≡ message 4 (match_error r))) ⊎ ((clash_of t ≡ None) × IsTaskReply task held t o)
+IsTextsReply task content t o =
+    ((r : Refusal) × (clash_of t ≡ Some r) × (o ≡ message 4 (match_error r))) ⊎ ((clash_of t ≡ None) × IsTaskReply task content t o)

@@ -8,11 +8,11 @@ use Rattle.sd_match.specs.Refusals.{Refusal, refusal_of}
 use Rattle.sd_product.specs.Work.{Held, IsHeld}
 use Rattle.sd_cert.specs.declared.digest.Digests.{Digests}
 use Rattle.sd_run.specs.Words.{JobNames}
-use Rattle.sd_run.specs.TextRefusals.{IsTaken}
+use Rattle.sd_run.specs.TextRefusals.{IsAccepted}
 
--- these bytes are what is held, where that is told
+-- these bytes are the content, where that is known
 abbrev pub Holds : Option (List ℕ) → List ℕ → Type 0
-Holds told bytes = WhereKnown told (λ b. b ≡ bytes)
+Holds known bytes = WhereKnown known (λ b. b ≡ bytes)
 
 -- two texts, and the programs that they spell
 pub record Texts : Type 0 where
@@ -35,14 +35,14 @@ pub record IsWorkOf (t : Texts) (h : Held) : Type 0 where
 abbrev pub digests_of : Texts → Digests
 digests_of t = record { old = sha256 t.old_bytes; new = sha256 t.new_bytes; settings = sha256 [] }
 
--- the two files of the job hold these texts, where that is told
-pub record AreRead (held : List ℕ → Option (List ℕ)) (job : JobNames) (t : Texts) : Type 0 where
-  pub old_held : Holds (held job.old) t.old_bytes
-  pub new_held : Holds (held job.new) t.new_bytes
-  pub old_read : IsTaken t.old_bytes t.old
-  pub new_read : IsTaken t.new_bytes t.new
+-- the two files of the job hold these texts, where that is known
+pub record AreRead (content : List ℕ → Option (List ℕ)) (job : JobNames) (t : Texts) : Type 0 where
+  pub old_content : Holds (content job.old) t.old_bytes
+  pub new_content : Holds (content job.new) t.new_bytes
+  pub old_read : IsAccepted t.old_bytes t.old
+  pub new_read : IsAccepted t.new_bytes t.new
 
 -- they can be compared
-pub record AreMatched (held : List ℕ → Option (List ℕ)) (job : JobNames) (t : Texts) : Type 0 where
-  pub are_read : AreRead held job t
+pub record AreMatched (content : List ℕ → Option (List ℕ)) (job : JobNames) (t : Texts) : Type 0 where
+  pub are_read : AreRead content job t
   pub no_clash : clash_of t ≡ None

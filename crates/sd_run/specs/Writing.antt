@@ -37,11 +37,11 @@ IsBroken _ = ⊥
 
 -- What the files hold. All others stay. Where the start failed nothing is said of the certificate's own.
 abbrev pub FilesAfter : {D : Type 0} → (D → List ℕ → Option (List ℕ)) → D → D → Option (List ℕ × List ℕ) → CertificateFile → Type 0
-FilesAfter held old new certificate Untouched = AllStay held old new
-FilesAfter held old new None _ = ⊥
-FilesAfter held old new (Some file) NotStarted = OthersStay held old new file.0
-FilesAfter held old new (Some file) Cut = OthersStay held old new file.0 × ((count : ℕ) × (held new file.0 ≡ appended (emptied (held old file.0)) (take count file.1)))
-FilesAfter held old new (Some file) Whole = OthersStay held old new file.0 × (held new file.0 ≡ appended (emptied (held old file.0)) file.1)
+FilesAfter content old new certificate Untouched = AllStay content old new
+FilesAfter content old new None _ = ⊥
+FilesAfter content old new (Some file) NotStarted = OthersStay content old new file.0
+FilesAfter content old new (Some file) Cut = OthersStay content old new file.0 × ((count : ℕ) × (content new file.0 ≡ appended (emptied (content old file.0)) (take count file.1)))
+FilesAfter content old new (Some file) Whole = OthersStay content old new file.0 × (content new file.0 ≡ appended (emptied (content old file.0)) file.1)
 
 -- the count of the certificate's file rose
 abbrev pub FileRose : Option (List ℕ × List ℕ) → (List ℕ → ℕ) → (List ℕ → ℕ) → Type 0

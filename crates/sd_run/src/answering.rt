@@ -4,7 +4,7 @@ ghost use Rattle.sd_base.specs.Causes.{NoFault};
 ghost use Rattle.sd_base.specs.Outside.{AllStay};
 ghost use Rattle.sd_run.specs.Answer.{Answer, CertificateRose, ReadRose};
 ghost use Rattle.sd_run.specs.Jobs.{task_of};
-ghost use Rattle.sd_run.specs.TextRefusals.{IsTaken};
+ghost use Rattle.sd_run.specs.TextRefusals.{IsAccepted};
 ghost use Rattle.sd_run.specs.Replies.{outcome_of, texts_of, IsMatched, IsTextReply, IsTaskReply, IsTextsReply};
 
 use crate::comparing::compare;
@@ -64,8 +64,8 @@ fn reply_on<'a, F: Files>(
     old: Text,
     new: Text,
 ) -> Result<Reply<'a>, Stop>
-    requires old_taken { IsTaken old.bytes.items old.program }
-    requires new_taken { IsTaken new.bytes.items new.program }
+    requires old_accepted { IsAccepted old.bytes.items old.program }
+    requires new_accepted { IsAccepted new.bytes.items new.program }
     ensures reply { IfOk result (λ reply. IsTextsReply (task_of task.entry) (F.content files.old) (texts_of old new) (outcome_of reply)) }
     ensures cause { IsErrOf result Stop.Failed → CertificateRose (task_of task.entry) (F.read_faults files.old) (F.read_faults files.new) }
     ensures stay { AllStay F.content files.old files.new }

@@ -1,8 +1,7 @@
 //! The test for programs over truth values and integers, without products.
-ghost use Rattle.std.specs.Prelude.{◌↔◌, IsTrue};
-ghost use Rattle.std.specs.List.{AllByRecursion};
-ghost use Rattle.sd_run.specs.Compared.{ArePlain, IsPlainSort, HasNoProduct, NoneHasProduct, IsNoProduct};
-ghost use Rattle.sd_run.specs.Compared.{IsCompared, IsComparedSpec, IsComparedHead, IsComparedBody, MaybeComparedBody, IsComparedDecl, IsComparedProgram, IsComparedInvariant};
+ghost use Rattle.std.specs.Prelude.{◌≡◌};
+ghost use Rattle.std.specs.List.{list_all};
+ghost use Rattle.sd_run.specs.Compared as form;
 
 use sd_ast::{
     BinOp, Body, Decl, Expr, ExprKind, Head, Invariant, Left, Program, Spec, Stmt, StmtKind,
@@ -12,18 +11,17 @@ use sqlite_items::{Boxed, Items};
 
 /// Whether a program is compared today: it is over truth values and integers, without products, functions, constants and axioms.
 pub fn is_compared_program(program: &Program) -> bool
-    ensures { IsTrue result ↔ IsComparedProgram program.now }
+    ensures { result ≡ form.is_compared_program program.now }
 {
-    for decl in program.decls.as_slice() {
-        if !is_compared_decl(decl) {
-            return false;
-        }
-    }
-    true
+    program
+        .decls
+        .as_slice()
+        .iter()
+        .all(|decl| is_compared_decl(decl))
 }
 
 fn is_compared_decl(decl: &Decl) -> bool
-    ensures { IsTrue result ↔ IsComparedDecl decl.now }
+    ensures { result ≡ form.is_compared_decl decl.now }
 {
     match decl {
         Decl::Globals(vars) => are_plain(vars.as_slice()),
@@ -40,13 +38,13 @@ fn is_compared_decl(decl: &Decl) -> bool
 }
 
 fn is_compared_head(head: &Head) -> bool
-    ensures { IsTrue result ↔ IsComparedHead head.now }
+    ensures { result ≡ form.is_compared_head head.now }
 {
     are_plain(head.ins.as_slice()) && are_plain(head.outs.as_slice())
 }
 
 fn maybe_compared_body(body: &Option<Body>) -> bool
-    ensures { IsTrue result ↔ MaybeComparedBody body.now }
+    ensures { result ≡ form.maybe_compared_body body.now }
 {
     match body {
         None => true,
@@ -55,24 +53,19 @@ fn maybe_compared_body(body: &Option<Body>) -> bool
 }
 
 fn is_compared_body(body: &Body) -> bool
-    ensures { IsTrue result ↔ IsComparedBody body.now }
+    ensures { result ≡ form.is_compared_body body.now }
 {
     are_plain(body.locals.as_slice()) && are_compared(&body.stmts)
 }
 
 fn are_compared_specs(specs: &[Spec]) -> bool
-    ensures { IsTrue result ↔ AllByRecursion IsComparedSpec specs.now }
+    ensures { result ≡ list_all form.is_compared_spec specs.now }
 {
-    for spec in specs {
-        if !is_compared_spec(spec) {
-            return false;
-        }
-    }
-    true
+    specs.iter().all(|spec| is_compared_spec(spec))
 }
 
 fn is_compared_spec(spec: &Spec) -> bool
-    ensures { IsTrue result ↔ IsComparedSpec spec.now }
+    ensures { result ≡ form.is_compared_spec spec.now }
 {
     match spec {
         Spec::Modifies(_) => true,
@@ -82,18 +75,13 @@ fn is_compared_spec(spec: &Spec) -> bool
 }
 
 fn are_plain(vars: &[Var]) -> bool
-    ensures { IsTrue result ↔ ArePlain vars.now }
+    ensures { result ≡ form.are_plain vars.now }
 {
-    for var in vars {
-        if !is_plain_sort(&var.sort) {
-            return false;
-        }
-    }
-    true
+    vars.iter().all(|var| is_plain_sort(&var.sort))
 }
 
 fn is_plain_sort(sort: &Sort) -> bool
-    ensures { IsTrue result ↔ IsPlainSort sort.now }
+    ensures { result ≡ form.is_plain_sort sort.now }
 {
     match sort {
         Sort::Int => true,
@@ -104,7 +92,7 @@ fn is_plain_sort(sort: &Sort) -> bool
 
 #[cycle(stmt)]
 fn are_compared(stmts: &Items<Stmt>) -> bool
-    ensures { IsTrue result ↔ AllByRecursion (λ s. IsCompared s.kind) stmts.now }
+    ensures { result ≡ form.are_compared stmts.now }
 {
     for stmt in stmts.as_slice() {
         if !is_compared(stmt) {
@@ -116,7 +104,7 @@ fn are_compared(stmts: &Items<Stmt>) -> bool
 
 #[cycle(stmt)]
 fn is_compared(stmt: &Stmt) -> bool
-    ensures { IsTrue result ↔ IsCompared stmt.now.kind }
+    ensures { result ≡ form.is_compared stmt.now.kind }
 {
     match &stmt.kind {
         StmtKind::Assert(expr) => has_no_product(expr),
@@ -137,30 +125,23 @@ fn is_compared(stmt: &Stmt) -> bool
 }
 
 fn are_compared_invariants(invariants: &Items<Invariant>) -> bool
-    ensures { IsTrue result ↔ AllByRecursion IsComparedInvariant invariants.now }
+    ensures { result ≡ list_all (λ i. form.has_no_product i.expr.kind) invariants.now }
 {
-    for invariant in invariants.as_slice() {
-        if !has_no_product(&invariant.expr) {
-            return false;
-        }
-    }
-    true
+    invariants
+        .as_slice()
+        .iter()
+        .all(|invariant| has_no_product(&invariant.expr))
 }
 
 fn no_index_has_product(lefts: &[Left]) -> bool
-    ensures { IsTrue result ↔ AllByRecursion (λ l. NoneHasProduct l.indices) lefts.now }
+    ensures { result ≡ list_all (λ l. form.none_has_product l.indices) lefts.now }
 {
-    for left in lefts {
-        if !none_has_product(&left.indices) {
-            return false;
-        }
-    }
-    true
+    lefts.iter().all(|left| none_has_product(&left.indices))
 }
 
 #[cycle(expr)]
 fn none_has_product(exprs: &Items<Expr>) -> bool
-    ensures { IsTrue result ↔ NoneHasProduct exprs.now }
+    ensures { result ≡ form.none_has_product exprs.now }
 {
     for expr in exprs.as_slice() {
         if !has_no_product(expr) {
@@ -172,17 +153,14 @@ fn none_has_product(exprs: &Items<Expr>) -> bool
 
 #[cycle(expr)]
 fn has_no_product(expr: &Expr) -> bool
-    ensures { IsTrue result ↔ HasNoProduct expr.now.kind }
+    ensures { result ≡ form.has_no_product expr.now.kind }
 {
     match &expr.kind {
         ExprKind::Apply(_, args) => none_has_product(args),
         ExprKind::Old(child) => child_has_no_product(child),
         ExprKind::Unary(_, child) => child_has_no_product(child),
         ExprKind::Binary(op, left, right) => {
-            if !is_no_product(*op) {
-                return false;
-            }
-            child_has_no_product(left) && child_has_no_product(right)
+            is_no_product(*op) && child_has_no_product(left) && child_has_no_product(right)
         }
         ExprKind::Select(map, index) => child_has_no_product(map) && child_has_no_product(index),
         ExprKind::Store(map, index, value) => {
@@ -195,7 +173,7 @@ fn has_no_product(expr: &Expr) -> bool
 }
 
 fn is_no_product(op: BinOp) -> bool
-    ensures { IsTrue result ↔ IsNoProduct op }
+    ensures { result ≡ form.is_no_product op }
 {
     match op {
         BinOp::Mul => false,
@@ -205,7 +183,7 @@ fn is_no_product(op: BinOp) -> bool
 
 #[cycle(expr)]
 fn child_has_no_product(child: &Boxed<Expr>) -> bool
-    ensures { IsTrue result ↔ HasNoProduct child.now.kind }
+    ensures { result ≡ form.has_no_product child.now.kind }
 {
     has_no_product(child.get())
 }

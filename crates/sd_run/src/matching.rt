@@ -1,7 +1,7 @@
 //! Two texts that can be compared.
 ghost use Rattle.std.specs.Prelude.{◌≡◌, IfOk, IfErr};
 ghost use Rattle.sd_match.specs.Refusals.{Answers};
-ghost use Rattle.sd_run.specs.TextRefusals.{IsTaken};
+ghost use Rattle.sd_run.specs.TextRefusals.{IsAccepted};
 ghost use Rattle.sd_run.specs.Texts.{clash_of, digests_of};
 ghost use Rattle.sd_run.specs.Replies.{texts_of, IsMatched};
 
@@ -24,8 +24,8 @@ pub struct Matched {
 
 /// Pairs the procedures of two texts.
 pub fn match_texts(alloc: Global, old: Text, new: Text) -> Result<Matched, MatchError>
-    requires old_taken { IsTaken old.bytes.items old.program }
-    requires new_taken { IsTaken new.bytes.items new.program }
+    requires old_accepted { IsAccepted old.bytes.items old.program }
+    requires new_accepted { IsAccepted new.bytes.items new.program }
     ensures matched { IfOk result IsMatched }
     ensures texts { IfOk result (λ matched. texts_of matched.old matched.new ≡ texts_of old new) }
     ensures clash { IfErr result (λ e. Answers e (clash_of (texts_of old new))) }

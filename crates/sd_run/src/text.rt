@@ -5,8 +5,8 @@ ghost use Rattle.sd_base.specs.Outside.{WhereKnown, AllStay};
 ghost use Rattle.sd_types.specs.Declarations.{WellTyped};
 ghost use Rattle.sd_run.specs.declared.text.TextRefusal.{TextRefusal as Refusal};
 ghost use Rattle.sd_run.specs.Texts.{Holds};
-ghost use Rattle.sd_run.specs.TextRefusals.{IsTaken, IsTextRefusal};
-ghost use Rattle.sd_run.specs.Taking.{IsFault, IsReadFault, IsTypeFault};
+ghost use Rattle.sd_run.specs.TextRefusals.{IsAccepted, IsTextRefusal};
+ghost use Rattle.sd_run.specs.TextFaults.{IsFault, IsReadFault, IsTypeFault};
 
 use crate::compared::is_compared_program;
 use sd_base::limits::TEXT_BYTES;
@@ -22,7 +22,7 @@ pub struct Text {
     pub program: Typed,
 }
 
-/// Why a text isn't taken.
+/// Why a text isn't accepted.
 #[derive(Drop)]
 pub enum TextRefusal {
     /// It isn't read.
@@ -60,9 +60,9 @@ fn type_fault(error: TypeError) -> TextFault
     }
 }
 
-/// The program of a text, where it is taken.
-fn take(alloc: Global, bytes: &[u8]) -> Result<Typed, TextFault>
-    ensures taken { IfOk result (λ program. IsTaken bytes.now program) }
+/// The program of a text, where it is accepted.
+fn accept(alloc: Global, bytes: &[u8]) -> Result<Typed, TextFault>
+    ensures accepted { IfOk result (λ program. IsAccepted bytes.now program) }
     ensures refused { IfErr result (IsFault bytes.now) }
 {
     let program = match read_program(alloc, bytes) {
@@ -81,8 +81,8 @@ fn take(alloc: Global, bytes: &[u8]) -> Result<Typed, TextFault>
 
 /// Reads a file and the program that it spells.
 pub fn read_text<F: Files>(alloc: Global, files: &mut F, name: &str) -> Result<Text, TextFault>
-    ensures held { IfOk result (λ text. Holds (F.content files.old name.now) text.bytes.items) }
-    ensures taken { IfOk result (λ text. IsTaken text.bytes.items text.program) }
+    ensures content { IfOk result (λ text. Holds (F.content files.old name.now) text.bytes.items) }
+    ensures accepted { IfOk result (λ text. IsAccepted text.bytes.items text.program) }
     ensures refused { (r : Refusal) → result ≡ Err (TextFault.Refused r) → WhereKnown (F.content files.old name.now) (λ bytes. IsTextRefusal bytes r) }
     ensures cause { result ≡ Err TextFault.Failed → Rose (F.read_faults files.old name.now) (F.read_faults files.new name.now) }
     ensures stay { AllStay F.content files.old files.new }
@@ -96,7 +96,7 @@ pub fn read_text<F: Files>(alloc: Global, files: &mut F, name: &str) -> Result<T
         Err(ReadFault::Failed) => return Err(TextFault::Failed),
         Err(ReadFault::Memory) => return Err(TextFault::Memory),
     };
-    let program = match take(alloc, bytes.as_slice()) {
+    let program = match accept(alloc, bytes.as_slice()) {
         Ok(program) => program,
         Err(fault) => return Err(fault),
     };

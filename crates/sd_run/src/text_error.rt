@@ -1,4 +1,4 @@
-//! The line that says why a text isn't taken.
+//! The line that says why a text isn't accepted.
 ghost use Rattle.std.specs.Prelude.{◌≡◌, ◌++◌, IfOk, OnOk};
 ghost use Rattle.sd_run.specs.TextRefusals as spec;
 

@@ -4,7 +4,7 @@ use Rattle.sd_run.specs.Outcome.{message}
 use Rattle.sd_run.specs.Replies.{texts_of, outcome_of}
 use Rattle.sd_run.specs.Answer.{no_job}
 use Rattle.sd_run.proofs.Certified.{ok-map}
-use Rattle.sd_run.proofs.Rows.{are_read, told_taken, old_row, new_row, texts_row}
+use Rattle.sd_run.proofs.Rows.{are_read, known_accepted, old_row, new_row, texts_row}
 use Rattle.sd_run.proofs.answering.reply_to.Goals as goal
 
 pub returns-in_default-clause-answer : goal.returns-in_default-clause-answer
@@ -17,12 +17,12 @@ returns-in-Err-clause-answer g c =
 pub returns-in-Err-read_text-clause-answer : goal.returns-in-Err-read_text-clause-answer
 returns-in-Err-read_text-clause-answer g c =
     ok-map c.refuse-in-Err-read_text.result c.refuse-in-Err-read_text.ensures.reply
-    (λ reply h. new_row _ _ (outcome_of reply) (names_of c.in-Some.job) c.in-Ok.old.program c.in-Err-read_text.fault c.in-Some.ensures (told_taken _ c.in-Ok.old.bytes.items c.in-Ok.old.program c.in-Ok.ensures.held c.in-Ok.ensures.taken)
-    (λ r is bytes told. c.in-Err-read_text.ensures.refused r is bytes (c.read_text.ensures.stay c.in-Some.job.new.now ∙ told)) h)
+    (λ reply h. new_row _ _ (outcome_of reply) (names_of c.in-Some.job) c.in-Ok.old.program c.in-Err-read_text.fault c.in-Some.ensures (known_accepted _ c.in-Ok.old.bytes.items c.in-Ok.old.program c.in-Ok.ensures.content c.in-Ok.ensures.accepted)
+    (λ r is bytes known. c.in-Err-read_text.ensures.refused r is bytes (c.read_text.ensures.stay c.in-Some.job.new.now ∙ known)) h)
 
 pub returns-clause-answer : goal.returns-clause-answer
 returns-clause-answer g c =
     ok-map c.reply_on.result c.reply_on.ensures.reply
     (λ reply h. texts_row _ _ _ (outcome_of reply) (names_of c.in-Some.job) (texts_of c.in-Ok.old c.in-Ok-read_text.new) c.in-Some.ensures
-    (are_read _ _ (names_of c.in-Some.job) (texts_of c.in-Ok.old c.in-Ok-read_text.new) (c.read_text.ensures.stay c.in-Some.job.new.now) c.in-Ok.ensures.held c.in-Ok.ensures.taken c.in-Ok-read_text.ensures.held c.in-Ok-read_text.ensures.taken)
+    (are_read _ _ (names_of c.in-Some.job) (texts_of c.in-Ok.old c.in-Ok-read_text.new) (c.read_text.ensures.stay c.in-Some.job.new.now) c.in-Ok.ensures.content c.in-Ok.ensures.accepted c.in-Ok-read_text.ensures.content c.in-Ok-read_text.ensures.accepted)
     (λ name. c.read_text-2.ensures.stay name ∙ c.read_text.ensures.stay name) h)
