@@ -57,11 +57,7 @@ pub record Puts (k : ℕ) (v : ℤ) (x x' : ℕ → ℤ) : Type 0 where
 
 pub same-above : (k : ℕ) (ps : Parts) → AllAbove k ps → factor_of k ps ≡ pos 0
 same-above k [] a = refl
-same-above k (p ∷ ps) a = go (p.0 == k) refl (same-above k ps a.1)
-  where
-    go : (b : Bool) → (p.0 == k) ≡ b → factor_of k ps ≡ pos 0 → (if b then p.1 else factor_of k ps) ≡ pos 0
-    go true e i = absurd (omega (arith, eqb-true p.0 k e, a.0))
-    go false e i = i
+same-above k (p ∷ ps) a = grind (arith, same-above k ps a.1)
 
 pub left-of-sum : (k : ℕ) (v : ℤ) (x x' : ℕ → ℤ) (s t : ℤ) (ps : Parts) → Puts k v x x' → IsAscending ps → left_of k x s ps ≡ Some t → sum_at x' ps +ℤ t ≡ factor_of k ps *ℤ v +ℤ s
 left-of-sum k v x x' s t [] p a e = let f : s ≡ t = cc in omega (arith, ints)
@@ -121,10 +117,6 @@ range-holds k v x x' (r ∷ rs) low high range p a e h =
 
 pub nearest-in : (low high : Option ℤ) (v : ℤ) → nearest (low, high) ≡ Some v → InRange (low, high) v
 nearest-in None None v e = (tt, tt)
-nearest-in (Some low) None v e = let f : int_max low (pos 0) ≡ v = cc in (omega (arith, ints, clamps), tt)
-nearest-in None (Some high) v e = let f : int_min high (pos 0) ≡ v = cc in (tt, omega (arith, ints, clamps))
-nearest-in (Some low) (Some high) v e = go (int_lt high low) refl e
-  where
-    go : (b : Bool) → int_lt high low ≡ b → (if b then None else Some (int_max low (int_min high (pos 0)))) ≡ Some v → (low ≤ℤ v) × (v ≤ℤ high)
-    go true f g = absurd (cc)
-    go false f g = let y : int_max low (int_min high (pos 0)) ≡ v = cc in (omega (arith, ints, clamps), omega (arith, ints, clamps))
+nearest-in (Some low) None v e = grind (arith, ints, clamps)
+nearest-in None (Some high) v e = grind (arith, ints, clamps)
+nearest-in (Some low) (Some high) v e = grind (arith, ints, clamps)

@@ -5,7 +5,7 @@ use Rattle.std.specs.Prelude.{int_lt}
 use Rattle.std.proofs.lemmas.Int.{ints}
 use Rattle.std.specs.Prelude.{if◌then◌else◌}
 use Rattle.std.specs.List.{flat_map}
-use borrow.Author.Tests.{leb-true, eqb-true}
+use Rattle.std.proofs.lemmas.Bool.Decides.{nat_tests}
 use Rattle.sd_rows.specs.declared.row.Row.{Row}
 use Rattle.sd_linear.specs.declared.list.DerivedRow.{DerivedRow}
 use Rattle.sd_rows.specs.Rows.{Part, Parts, AllAbove, IsAscending, IsProper, are_small, is_within, AllComputable}
@@ -28,28 +28,16 @@ IsProper-added m n r s h k p q = IsProper-sum_of (times m r.parts) (times n s.pa
 
 pub small-factor : (k : ℕ) (ps : Parts) → are_small ps ≡ true → unsigned_abs (factor_of k ps) ≤ 2 ^ 58
 small-factor k [] h = omega arith
-small-factor k (p ∷ ps) h = go (p.0 == k) (small-factor k ps (and-right (nat_le (unsigned_abs p.1) (2 ^ 58)) (are_small ps) h))
-  where
-    go : (b : Bool) → unsigned_abs (factor_of k ps) ≤ 2 ^ 58 → unsigned_abs (if b then p.1 else factor_of k ps) ≤ 2 ^ 58
-    go true i = leb-true (unsigned_abs p.1) (2 ^ 58) (and-left (nat_le (unsigned_abs p.1) (2 ^ 58)) (are_small ps) h)
-    go false i = i
+small-factor k (p ∷ ps) h = grind (arith, nat_tests, small-factor k ps)
 
 above-none : (k j : ℕ) (ps : Parts) → k ≤ j → AllAbove j ps → factor_of k ps ≡ pos 0
 above-none k j [] h a = refl
-above-none k j (p ∷ ps) h a = go (p.0 == k) refl (above-none k j ps h a.1)
-  where
-    go : (b : Bool) → (p.0 == k) ≡ b → factor_of k ps ≡ pos 0 → (if b then p.1 else factor_of k ps) ≡ pos 0
-    go true e i = absurd (omega (arith, eqb-true p.0 k e, a.0))
-    go false e i = i
+above-none k j (p ∷ ps) h a = grind (arith, above-none k j ps h a.1)
 
 -- a column below that of a part is in neither that part nor those after it
 pub factor_of-none : (k : ℕ) (ps : Parts) (i : ℕ) (z : Part) → i < length ps → IsAscending ps → k < (get_or ps i z).0 → factor_of k (drop i ps) ≡ pos 0
 factor_of-none k [] i z h a l = absurd (omega arith)
-factor_of-none k (p ∷ ps) zero z h a l = go (p.0 == k) refl
-  where
-    go : (b : Bool) → (p.0 == k) ≡ b → (if b then p.1 else factor_of k ps) ≡ pos 0
-    go true e = absurd (omega (arith, eqb-true p.0 k e))
-    go false e = above-none k p.0 ps (omega arith) a.0
+factor_of-none k (p ∷ ps) zero z h a l = grind (arith, above-none k p.0 ps)
 factor_of-none k (p ∷ ps) (suc i) z h a l = factor_of-none k ps i z (omega arith) a.1 l
 
 pub proper-at : (hs : List DerivedRow) (i : ℕ) (h : DerivedRow) → i < length hs → h ≡ get_or hs i h → AllComputable (rows_of hs) → IsProper h.row.parts × (is_within h.row ≡ true)
@@ -151,24 +139,16 @@ pub place-is : (hs : List DerivedRow) (i : ℕ) (h : DerivedRow) → i < length 
 place-is hs i h l e = from_place-next hs i l ∙ ap (λ (g : DerivedRow). g.row ∷ from_place (i + 1) hs) (item-at hs i h l e)
 
 pub not_positive : (k : ℕ) (r : Row) (z : ℤ) → z ≡ factor_of k r.parts → z ≤ℤ pos 0 → is_positive k r ≡ false
-not_positive k r z e h = let f : factor_of k r.parts ≤ℤ pos 0 = subst (λ (y : ℤ). y ≤ℤ pos 0) e h in go (int_lt (pos 0) (factor_of k r.parts)) refl f
-  where
-    go : (b : Bool) → int_lt (pos 0) (factor_of k r.parts) ≡ b → factor_of k r.parts ≤ℤ pos 0 → b ≡ false
-    go true e f = absurd (omega (arith, ints))
-    go false e f = refl
+not_positive k r z e h = grind (arith, ints)
 
 pub not_negative : (k : ℕ) (r : Row) (z : ℤ) → z ≡ factor_of k r.parts → pos 0 ≤ℤ z → is_negative k r ≡ false
-not_negative k r z e h = let f : pos 0 ≤ℤ factor_of k r.parts = subst (λ (y : ℤ). pos 0 ≤ℤ y) e h in go (int_lt (factor_of k r.parts) (pos 0)) refl f
-  where
-    go : (b : Bool) → int_lt (factor_of k r.parts) (pos 0) ≡ b → pos 0 ≤ℤ factor_of k r.parts → b ≡ false
-    go true e f = absurd (omega (arith, ints))
-    go false e f = refl
+not_negative k r z e h = grind (arith, ints)
 
 pub positive : (k : ℕ) (r : Row) (z : ℤ) → z ≡ factor_of k r.parts → pos 0 <ℤ z → is_positive k r ≡ true
-positive k r z e h = let f : pos 0 <ℤ factor_of k r.parts = subst (λ (y : ℤ). pos 0 <ℤ y) e h in grind (arith, ints)
+positive k r z e h = grind (arith, ints)
 
 pub negative : (k : ℕ) (r : Row) (z : ℤ) → z ≡ factor_of k r.parts → z <ℤ pos 0 → is_negative k r ≡ true
-negative k r z e h = let f : factor_of k r.parts <ℤ pos 0 = subst (λ (y : ℤ). y <ℤ pos 0) e h in grind (arith, ints)
+negative k r z e h = grind (arith, ints)
 
 -- ---- the rows without the column
 
@@ -193,29 +173,19 @@ pub free : (k : ℕ) (r : Row) (z : ℤ) → z ≡ factor_of k r.parts → z ≡
 free k r z e h = ap (λ (y : ℤ). same_number y (pos 0)) (sym e ∙ h)
 
 pub not_free : (k : ℕ) (r : Row) (z : ℤ) → z ≡ factor_of k r.parts → z ≢ pos 0 → is_free k r ≡ false
-not_free k r z e h = go (same_number (factor_of k r.parts) (pos 0)) refl
-  where
-    go : (b : Bool) → same_number (factor_of k r.parts) (pos 0) ≡ b → b ≡ false
-    go true f = absurd (h (e ∙ same_number_is (factor_of k r.parts) (pos 0) f))
-    go false f = refl
+not_free k r z e h = grind (arith, ints)
 
 -- ---- only rows with the column are combined
 
 filter-filter : (f g : Row → Bool) (rows : List Row) → ((r : Row) → f r ≡ true → g r ≡ true) → filter f (filter g rows) ≡ filter f rows
 filter-filter f g [] h = refl
-filter-filter f g (r ∷ rs) h = go (f r) (g r) refl refl (filter-filter f g rs h)
-  where
-    go : (a b : Bool) → f r ≡ a → g r ≡ b → filter f (filter g rs) ≡ filter f rs → filter f (cond b (r ∷ filter g rs) (filter g rs)) ≡ cond a (r ∷ filter f rs) (filter f rs)
-    go true true e d i = rw e (ap (λ (l : List Row). r ∷ l) i)
-    go true false e d i = absurd (let x : g r ≡ true = h r e in cc)
-    go false true e d i = rw e i
-    go false false e d i = i
+filter-filter f g (r ∷ rs) h = grind (arith, h r, filter-filter f g rs h)
 
 positive-has : (k : ℕ) (r : Row) → is_positive k r ≡ true → has_column k r ≡ true
-positive-has k r e = ap not (not_free k r (factor_of k r.parts) refl (λ z. absurd (cc (ap (λ (y : ℤ). int_lt (pos 0) y) z))))
+positive-has k r e = grind (arith, ints)
 
 negative-has : (k : ℕ) (r : Row) → is_negative k r ≡ true → has_column k r ≡ true
-negative-has k r e = ap not (not_free k r (factor_of k r.parts) refl (λ z. absurd (cc (ap (λ (y : ℤ). int_lt y (pos 0)) z))))
+negative-has k r e = grind (arith, ints)
 
 pub combinations-with : (k : ℕ) (rows with : List Row) → with ≡ filter (has_column k) rows → combined_from k with with ≡ combinations k rows
 combinations-with k rows with e =

@@ -42,12 +42,8 @@ IsUseful-more inputs before more (Cut a) h u = subst (λ (r : Row). 1 < greatest
 
 named-below : (inputs before : List Row) (s : RowStep) (j : ℕ) → IsStep inputs before s → names s j ≡ true → j < length before
 named-below inputs before (Input i) j h e = absurd (cc)
-named-below inputs before (Add a m b n) j h e = go (a == j) refl e
-  where
-    go : (t : Bool) → (a == j) ≡ t → (t || b == j) ≡ true → j < length before
-    go true f g = omega (arith, eqb-true a j f, h.0)
-    go false f g = omega (arith, eqb-true b j g, h.1)
-named-below inputs before (Cut a) j h e = omega (arith, eqb-true a j e, h)
+named-below inputs before (Add a m b n) j h e = grind arith
+named-below inputs before (Cut a) j h e = grind arith
 
 -- the row of a step follows those before it
 front : (inputs before : List Row) (s : RowStep) (ss : List RowStep) → (more : List Row) × (made_from inputs before (s ∷ ss) ≡ before ++ row_made inputs before s ∷ more)
@@ -98,15 +94,8 @@ AllEarlier-steps inputs ss a = λ i j h n. (stands inputs ss i h a).earlier j n
 
 names-renumbered : (numbers : List ℕ) (s : RowStep) (j : ℕ) → names s j ≡ true → names (renumbered numbers s) (number_of numbers j) ≡ true
 names-renumbered numbers (Input i) j e = e
-names-renumbered numbers (Add a m b n) j e = go (a == j) refl e
-  where
-    same : (x y : ℕ) → (x == y) ≡ true → (number_of numbers x == number_of numbers y) ≡ true
-    same x y f = eq-eqb (number_of numbers x) (number_of numbers y) (ap (number_of numbers) (eqb-true x y f))
-
-    go : (t : Bool) → (a == j) ≡ t → (t || b == j) ≡ true → (number_of numbers a == number_of numbers j || number_of numbers b == number_of numbers j) ≡ true
-    go true f g = ap (λ (t : Bool). t || number_of numbers b == number_of numbers j) (same a j f)
-    go false f g = ap (λ (t : Bool). number_of numbers a == number_of numbers j || t) (same b j g) ∙ or-true (number_of numbers a == number_of numbers j)
-names-renumbered numbers (Cut a) j e = eq-eqb (number_of numbers a) (number_of numbers j) (ap (number_of numbers) (eqb-true a j e))
+names-renumbered numbers (Add a m b n) j e = grind arith
+names-renumbered numbers (Cut a) j e = grind arith
 
 -- where the rows from which it is made stand at the new numbers, it is a step and makes the row that it made
 pub record Matches (numbers : List ℕ) (all made : List Row) (j : ℕ) : Type 0 where
@@ -171,11 +160,7 @@ number-new numbers x k e = ap (number_of (numbers ++ x ∷ [])) e ∙ get_or-app
 
 -- an older place, or the newest
 newest : (k i : ℕ) → k < i + 1 → (k < i) ⊎ (k ≡ i)
-newest k i h = go (k == i) refl
-  where
-    go : (b : Bool) → (k == i) ≡ b → (k < i) ⊎ (k ≡ i)
-    go true e = inr (eqb-true k i e)
-    go false e = inl (omega (arith, eqb-false k i e))
+newest k i h = grind arith
 
 unmarked : (marks : List Bool) (k i : ℕ) → is_marked marks i ≡ false → is_marked marks k ≡ true → k ≡ i → ⊥
 unmarked marks k i e f g = let h : is_marked marks k ≡ is_marked marks i = ap (is_marked marks) g in absurd (cc)

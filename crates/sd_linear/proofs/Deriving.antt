@@ -4,7 +4,7 @@ use Rattle.std.proofs.Common.{ℤ, pos, negsuc, ◌^◌}
 use Rattle.std.specs.Prelude.{slice_index_or, int_div}
 use Rattle.std.proofs.lemmas.Int.{ints}
 use Rattle.std.proofs.Math.Nat.{div-le_self}
-use borrow.Author.Tests.{leb-true, leb-false}
+use Rattle.std.proofs.lemmas.Bool.Decides.{nat_tests}
 use Rattle.sd_rows.specs.declared.row.Row.{Row}
 use Rattle.sd_linear.specs.declared.step.RowStep.{RowStep}
 use Rattle.sd_linear.specs.declared.step.RowStep.TheVariants.{Cut}
@@ -74,13 +74,6 @@ AreDerivedRows-extended inputs ss ts hs a =
 pub IsProper-reduced : (r : Row) → IsProper r.parts → IsProper (reduced r).parts
 IsProper-reduced r h = IsProper-over (greatest_divisor (sizes r.parts)) r.parts (greatest_divisor-divides (sizes r.parts)) h
 
-pub le_yes : (a b : ℕ) → a ≤ b → nat_le a b ≡ true
-le_yes a b h = go (nat_le a b) refl
-  where
-    go : (t : Bool) → nat_le a b ≡ t → t ≡ true
-    go true e = refl
-    go false e = absurd (omega (arith, leb-false a b e))
-
 quotient_at_most : (z : ℤ) (d : ℕ) → unsigned_abs (int_div z (pos d)) ≤ unsigned_abs z
 quotient_at_most (pos a) d = div-le_self a d
 quotient_at_most (negsuc a) d = omega (arith, ints, div-le_self (suc a) d)
@@ -91,18 +84,12 @@ floor_at_most (negsuc a) d = omega (arith, div-le_self a d)
 
 are_small-over : (ps : Parts) (d : ℕ) → are_small ps ≡ true → are_small (over ps d) ≡ true
 are_small-over [] d h = refl
-are_small-over (p ∷ ps) d h =
-    let a : unsigned_abs p.1 ≤ 2 ^ 58 = leb-true (unsigned_abs p.1) (2 ^ 58) (and-left (nat_le (unsigned_abs p.1) (2 ^ 58)) (are_small ps) h) in
-    let b : nat_le (unsigned_abs (int_div p.1 (pos d))) (2 ^ 58) ≡ true = le_yes (unsigned_abs (int_div p.1 (pos d))) (2 ^ 58) (omega (arith, quotient_at_most p.1 d)) in
-    rw b (are_small-over ps d (and-right (nat_le (unsigned_abs p.1) (2 ^ 58)) (are_small ps) h))
+are_small-over (p ∷ ps) d h = grind (arith, nat_tests, quotient_at_most p.1 d, are_small-over ps d)
 
 pub is_within-reduced : (r : Row) → is_within r ≡ true → is_within (reduced r) ≡ true
 is_within-reduced r h =
     let d : ℕ = greatest_divisor (sizes r.parts) in
-    let a : unsigned_abs r.bound ≤ 2 ^ 66 = leb-true (unsigned_abs r.bound) (2 ^ 66) (and-right (are_small r.parts) (nat_le (unsigned_abs r.bound) (2 ^ 66)) h) in
-    let b : nat_le (unsigned_abs (floor_div r.bound d)) (2 ^ 66) ≡ true = le_yes (unsigned_abs (floor_div r.bound d)) (2 ^ 66) (omega (arith, floor_at_most r.bound d)) in
-    let c : are_small (over r.parts d) ≡ true = are_small-over r.parts d (and-left (are_small r.parts) (nat_le (unsigned_abs r.bound) (2 ^ 66)) h) in
-    rw (c, b) refl
+    grind (arith, nat_tests, floor_at_most r.bound d, are_small-over r.parts d)
 
 -- ---- a step and its cut
 

@@ -24,21 +24,11 @@ ColumnsIn ks [] = Unit {0}
 ColumnsIn ks (p ∷ ps) = IsIn p.0 ks × ColumnsIn ks ps
 
 ColumnsIn-unless_zero : (ks : List ℕ) (p : Part) (ps : Parts) → IsIn p.0 ks → ColumnsIn ks ps → ColumnsIn ks (unless_zero p ps)
-ColumnsIn-unless_zero ks p ps h a = go (same_number p.1 (pos 0))
-  where
-    go : (b : Bool) → ColumnsIn ks (if b then ps else p ∷ ps)
-    go true = a
-    go false = (h, a)
+ColumnsIn-unless_zero ks p ps h a = grind arith
 
 ColumnsIn-with_part : (ks : List ℕ) (p : Part) (ps : Parts) → IsIn p.0 ks → ColumnsIn ks ps → ColumnsIn ks (with_part p ps)
 ColumnsIn-with_part ks p [] h a = (h, tt)
-ColumnsIn-with_part ks p (q ∷ qs) h a = go (nat_lt p.0 q.0) (p.0 == q.0) (ColumnsIn-with_part ks p qs h a.1)
-  where
-    go : (b c : Bool) → ColumnsIn ks (with_part p qs)
-        → ColumnsIn ks (if b then p ∷ q ∷ qs else (if c then unless_zero (p.0, p.1 +ℤ q.1) qs else q ∷ with_part p qs))
-    go true c i = (h, a)
-    go false true i = ColumnsIn-unless_zero ks (p.0, p.1 +ℤ q.1) qs h a.1
-    go false false i = (a.0, i)
+ColumnsIn-with_part ks p (q ∷ qs) h a = grind (arith, ColumnsIn-with_part ks p qs h a.1, ColumnsIn-unless_zero ks (p.0, p.1 +ℤ q.1) qs h a.1)
 
 ColumnsIn-sum_of : (ks : List ℕ) (ps qs : Parts) → ColumnsIn ks ps → ColumnsIn ks qs → ColumnsIn ks (sum_of ps qs)
 ColumnsIn-sum_of ks [] qs a b = b
@@ -103,34 +93,17 @@ factor_of-combined k m n d r s e f g h i j l p q =
 
 pub without : (k : ℕ) (ks : List ℕ) (ps : Parts) → HasNoZero ps → factor_of k ps ≡ pos 0 → ColumnsIn (k ∷ ks) ps → ColumnsIn ks ps
 without k ks [] n e a = tt
-without k ks (p ∷ ps) n e a = go (p.0 == k) refl e a.0 (λ f. without k ks ps n.1 f a.1)
-  where
-    go : (b : Bool) → (p.0 == k) ≡ b → (if b then p.1 else factor_of k ps) ≡ pos 0 → (p.0 ≡ k) ⊎ IsIn p.0 ks → (factor_of k ps ≡ pos 0 → ColumnsIn ks ps) → IsIn p.0 ks × ColumnsIn ks ps
-    go true f g h i = absurd (n.0 g)
-    go false f g (inl h) i = absurd (eqb-false p.0 k f h)
-    go false f g (inr h) i = (h, i g)
+without k ks (p ∷ ps) n e a = grind (arith, n.0, without k ks ps n.1)
 
 pub sum-elsewhere : (k : ℕ) (v : ℤ) (x x' : ℕ → ℤ) (ps : Parts) → Puts k v x x' → HasNoZero ps → factor_of k ps ≡ pos 0 → sum_at x' ps ≡ sum_at x ps
 sum-elsewhere k v x x' [] p n e = refl
-sum-elsewhere k v x x' (q ∷ qs) p n e = go (q.0 == k) refl e (λ f. sum-elsewhere k v x x' qs p n.1 f)
-  where
-    go : (b : Bool) → (q.0 == k) ≡ b → (if b then q.1 else factor_of k qs) ≡ pos 0 → (factor_of k qs ≡ pos 0 → sum_at x' qs ≡ sum_at x qs) → q.1 *ℤ x' q.0 +ℤ sum_at x' qs ≡ q.1 *ℤ x q.0 +ℤ sum_at x qs
-    go true f g i = absurd (n.0 g)
-    go false f g i = ap (λ (w : ℤ). q.1 *ℤ w +ℤ sum_at x' qs) (p.elsewhere q.0 f) ∙ ap (λ (w : ℤ). q.1 *ℤ x q.0 +ℤ w) (i g)
+sum-elsewhere k v x x' (q ∷ qs) p n e = grind (arith, n.0, p.elsewhere q.0, sum-elsewhere k v x x' qs p n.1)
 
 -- ---- the columns of the rows
 
 IsIn-with_column : (k j : ℕ) (ks : List ℕ) → IsIn j (k ∷ ks) → IsIn j (with_column k ks)
 IsIn-with_column k j [] h = h
-IsIn-with_column k j (i ∷ is) h = go (nat_lt k i) (k == i) refl h (λ g. IsIn-with_column k j is g)
-  where
-    go : (b c : Bool) → (k == i) ≡ c → (j ≡ k) ⊎ ((j ≡ i) ⊎ IsIn j is) → (IsIn j (k ∷ is) → IsIn j (with_column k is)) → IsIn j (if b then k ∷ i ∷ is else (if c then i ∷ is else i ∷ with_column k is))
-    go true c e g f = g
-    go false true e (inl g) f = inl (g ∙ eqb-true k i e)
-    go false true e (inr g) f = g
-    go false false e (inl g) f = inr (f (inl g))
-    go false false e (inr (inl g)) f = inl g
-    go false false e (inr (inr g)) f = inr (f (inr g))
+IsIn-with_column k j (i ∷ is) h = grind (arith, IsIn-with_column k j is)
 
 IsIn-with_columns : (j : ℕ) (ps : Parts) (ks : List ℕ) → IsIn j ks → IsIn j (with_columns ps ks)
 IsIn-with_columns j [] ks h = h

@@ -5,7 +5,7 @@ use Rattle.std.specs.List.{position, prefix_len}
 use Rattle.std.specs.Ordering.{int_eq}
 use Rattle.std.proofs.lemmas.List.Quantifiers.{position-Some}
 use lib.Pointwise.{pointwise}
-use borrow.Author.Tests.{ltb-false}
+use Rattle.std.proofs.lemmas.Bool.Decides.{nat_tests}
 use Rattle.sd_rows.specs.declared.row.Row.{Row}
 use Rattle.sd_linear.specs.declared.list.DerivedRow.{DerivedRow}
 use Rattle.sd_rows.specs.Rows.{Part, Parts}
@@ -21,35 +21,21 @@ same_parts-is (p ∷ ps) (q ∷ qs) = ap (λ (t : Bool). (p.0 == q.0) && int_eq 
 abbrev pub fits_in : DerivedRow → DerivedRow → Bool
 fits_in h g = same_parts h.row.parts g.row.parts
 
-joined-here : (h g : DerivedRow) (gs : List DerivedRow) → fits_in h g ≡ true
-    → joined h.row (g.row ∷ rows_of gs) ≡ (if int_lt h.row.bound g.row.bound then h.row else g.row) ∷ rows_of gs
-joined-here h g gs e = rw e refl
-
-joined-past : (h g : DerivedRow) (gs : List DerivedRow) → fits_in h g ≡ false → joined h.row (g.row ∷ rows_of gs) ≡ g.row ∷ joined h.row (rows_of gs)
-joined-past h g gs e = rw e refl
-
 less-at : (h : DerivedRow) (hs : List DerivedRow) (i : ℕ) → i < length hs → fits_in h (get_or hs i default_row) ≡ true
     → ((k : ℕ) → k < i → fits_in h (get_or hs k default_row) ≡ false) → int_lt h.row.bound (get_or hs i default_row).row.bound ≡ true → joined h.row (rows_of hs) ≡ rows_of (set hs i h)
 less-at h [] i l e f b = absurd (omega arith)
-less-at h (g ∷ gs) zero l e f b = joined-here h g gs e ∙ ap (λ (t : Bool). (if t then h.row else g.row) ∷ rows_of gs) b
-less-at h (g ∷ gs) (suc i) l e f b =
-    joined-past h g gs (f 0 (omega arith)) ∙ ap (λ (rs : List Row). g.row ∷ rs) (less-at h gs i (omega arith) e (λ k m. f (suc k) (omega arith)) b)
+less-at h (g ∷ gs) zero l e f b = grind arith
+less-at h (g ∷ gs) (suc i) l e f b = grind (arith, f 0 (omega arith), less-at h gs i (omega arith) e (λ k m. f (suc k) (omega arith)) b)
 
 not-less-at : (h : DerivedRow) (hs : List DerivedRow) (i : ℕ) → i < length hs → fits_in h (get_or hs i default_row) ≡ true
     → ((k : ℕ) → k < i → fits_in h (get_or hs k default_row) ≡ false) → int_lt h.row.bound (get_or hs i default_row).row.bound ≡ false → joined h.row (rows_of hs) ≡ rows_of hs
 not-less-at h [] i l e f b = absurd (omega arith)
-not-less-at h (g ∷ gs) zero l e f b = joined-here h g gs e ∙ ap (λ (t : Bool). (if t then h.row else g.row) ∷ rows_of gs) b
-not-less-at h (g ∷ gs) (suc i) l e f b =
-    joined-past h g gs (f 0 (omega arith)) ∙ ap (λ (rs : List Row). g.row ∷ rs) (not-less-at h gs i (omega arith) e (λ k m. f (suc k) (omega arith)) b)
+not-less-at h (g ∷ gs) zero l e f b = grind arith
+not-less-at h (g ∷ gs) (suc i) l e f b = grind (arith, f 0 (omega arith), not-less-at h gs i (omega arith) e (λ k m. f (suc k) (omega arith)) b)
 
 last-at : (h : DerivedRow) (hs : List DerivedRow) → length hs ≤ prefix_len (λ (g : DerivedRow). not (fits_in h g)) hs → joined h.row (rows_of hs) ≡ rows_of (hs ++ h ∷ [])
 last-at h [] l = refl
-last-at h (g ∷ gs) l = go (fits_in h g) refl l (last-at h gs)
-  where
-    go : (b : Bool) → fits_in h g ≡ b → suc (length gs) ≤ cond (not b) (1 + prefix_len (λ (g : DerivedRow). not (fits_in h g)) gs) 0
-        → (length gs ≤ prefix_len (λ (g : DerivedRow). not (fits_in h g)) gs → joined h.row (rows_of gs) ≡ rows_of (gs ++ h ∷ [])) → joined h.row (g.row ∷ rows_of gs) ≡ g.row ∷ rows_of (gs ++ h ∷ [])
-    go true e m f = absurd (omega arith)
-    go false e m f = joined-past h g gs e ∙ ap (λ (rs : List Row). g.row ∷ rs) (f (omega arith))
+last-at h (g ∷ gs) l = grind (arith, last-at h gs)
 
 pub joined-less : (h : DerivedRow) (hs : List DerivedRow) (i : ℕ) → position (fits_in h) hs ≡ Some i → int_lt h.row.bound (get_or hs i default_row).row.bound ≡ true → joined h.row (rows_of hs) ≡ rows_of (set hs i h)
 joined-less h hs i e b = let s = position-Some (fits_in h) hs i default_row e in less-at h hs i s.0 s.1 s.2 b
@@ -58,12 +44,7 @@ pub joined-not_less : (h : DerivedRow) (hs : List DerivedRow) (i : ℕ) → posi
 joined-not_less h hs i e b = let s = position-Some (fits_in h) hs i default_row e in not-less-at h hs i s.0 s.1 s.2 b
 
 pub joined-last : (h : DerivedRow) (hs : List DerivedRow) → position (fits_in h) hs ≡ None → joined h.row (rows_of hs) ≡ rows_of (hs ++ h ∷ [])
-joined-last h hs e = last-at h hs (go (nat_lt (prefix_len (λ (g : DerivedRow). not (fits_in h g)) hs) (length hs)) refl e)
-  where
-    go : (b : Bool) → nat_lt (prefix_len (λ (g : DerivedRow). not (fits_in h g)) hs) (length hs) ≡ b → cond b (Some (prefix_len (λ (g : DerivedRow). not (fits_in h g)) hs)) None ≡ None
-        → length hs ≤ prefix_len (λ (g : DerivedRow). not (fits_in h g)) hs
-    go true f m = absurd (cc)
-    go false f m = ltb-false (prefix_len (λ (g : DerivedRow). not (fits_in h g)) hs) (length hs) f
+joined-last h hs e = last-at h hs (grind (arith, nat_tests))
 
 pub AreDerivedRows-append : (made : List Row) (hs gs : List DerivedRow) → AreDerivedRows made hs → AreDerivedRows made gs → AreDerivedRows made (hs ++ gs)
 AreDerivedRows-append made [] gs a b = b

@@ -16,7 +16,7 @@ use Rattle.sd_rows.specs.Rows.{is_empty}
 use Rattle.sd_rows.proofs.Integers.{same_number_is}
 use Rattle.sd_rows.proofs.Cuts.{Holds-unreduced, and-left, and-right}
 use Rattle.sd_linear.proofs.Deriving.{IsProper-reduced}
-use Rattle.sd_linear.proofs.Combining.{IsProper-added}
+use Rattle.sd_linear.proofs.Combining.{IsProper-added, combined_from}
 use Rattle.sd_rows.proofs.Greatest.{multipliers-positive}
 use Rattle.sd_linear.proofs.Choosing.{Puts, AllProper, HoldIfBound, InRange, range-holds, nearest-in}
 use Rattle.sd_linear.proofs.Falling.{ColumnsIn, AllColumnsIn, ColumnsIn-over, ColumnsIn-added, factor_of-combined, without, sum-elsewhere, in-columns}
@@ -41,44 +41,20 @@ AllListed ks (r ∷ rs) = IsListed ks r × AllListed ks rs
 
 -- ---- a row comes in
 
-same_parts-true : (a b : Parts) → same_parts a b ≡ true → a ≡ b
+pub same_parts-true : (a b : Parts) → same_parts a b ≡ true → a ≡ b
 same_parts-true [] [] e = refl
 same_parts-true [] (q ∷ qs) e = absurd (cc)
 same_parts-true (p ∷ ps) [] e = absurd (cc)
-same_parts-true (p ∷ ps) (q ∷ qs) e =
-    let a : (p.0 == q.0 && int_eq p.1 q.1) ≡ true = and-left (p.0 == q.0 && int_eq p.1 q.1) (same_parts ps qs) e in
-    let b : p.0 ≡ q.0 = eqb-true p.0 q.0 (and-left (p.0 == q.0) (int_eq p.1 q.1) a) in
-    let c : p.1 ≡ q.1 = same p.1 q.1 (and-right (p.0 == q.0) (int_eq p.1 q.1) a) in
-    let d : ps ≡ qs = same_parts-true ps qs (and-right (p.0 == q.0 && int_eq p.1 q.1) (same_parts ps qs) e) in
-    ap (λ (k : ℕ). (k, p.1) ∷ ps) b ∙ ap (λ (z : ℤ). (q.0, z) ∷ ps) c ∙ ap (λ (l : Parts). q ∷ l) d
-  where
-    same : (x y : ℤ) → int_eq x y ≡ true → x ≡ y
-    same x y f = grind (arith, Decides-int_eq)
+same_parts-true (p ∷ ps) (q ∷ qs) e = grind (arith, Decides-int_eq, same_parts-true ps qs)
 
 AllListed-joined : (ks : List ℕ) (r : Row) (rows : List Row) → IsListed ks r → AllListed ks rows → AllListed ks (joined r rows)
 AllListed-joined ks r [] h a = (h, tt)
-AllListed-joined ks r (s ∷ ss) h a = go (same_parts r.parts s.parts) (int_lt r.bound s.bound) (AllListed-joined ks r ss h a.1)
-  where
-    go : (b c : Bool) → AllListed ks (joined r ss) → AllListed ks (if b then (if c then r else s) ∷ ss else s ∷ joined r ss)
-    go true true i = (h, a.1)
-    go true false i = a
-    go false c i = (a.0, i)
+AllListed-joined ks r (s ∷ ss) h a = grind (arith, AllListed-joined ks r ss h a.1)
 
 AllHold-joined : (x : ℕ → ℤ) (r : Row) (rows : List Row) → AllHold x (joined r rows) → AllHold x rows × Holds x r
 AllHold-joined x r [] h = (tt, h.0)
-AllHold-joined x r (s ∷ ss) h = go (same_parts r.parts s.parts) refl (int_lt r.bound s.bound) refl h (λ g. AllHold-joined x r ss g)
-  where
-    go : (b : Bool) → same_parts r.parts s.parts ≡ b → (c : Bool) → int_lt r.bound s.bound ≡ c → AllHold x (if b then (if c then r else s) ∷ ss else s ∷ joined r ss)
-        → (AllHold x (joined r ss) → AllHold x ss × Holds x r) → AllHold x (s ∷ ss) × Holds x r
-    go true e true f g i =
-        let p : sum_at x r.parts ≡ sum_at x s.parts = ap (sum_at x) (same_parts-true r.parts s.parts e) in
-        let q : sum_at x r.parts ≤ℤ r.bound = g.0 in
-        ((omega (arith, ints), g.1), g.0)
-    go true e false f g i =
-        let p : sum_at x r.parts ≡ sum_at x s.parts = ap (sum_at x) (same_parts-true r.parts s.parts e) in
-        let q : sum_at x s.parts ≤ℤ s.bound = g.0 in
-        (g, omega (arith, ints))
-    go false e c f g i = let j = i g.1 in ((g.0, j.0), j.1)
+AllHold-joined x r (s ∷ ss) h =
+    grind (arith, ints, AllHold-joined x r ss, λ (e : same_parts r.parts s.parts ≡ true). ap (sum_at x) (same_parts-true r.parts s.parts e))
 
 -- the list has become good, and is at least as strong as before with the row
 pub record Strengthens (ks : List ℕ) (r : List Row) (old new : List Row) : Type 0 where
@@ -128,51 +104,25 @@ all-strengthen ks k (r ∷ rs) rows new h a e = go (come_in k r rows) refl e (λ
 -- ---- no step ends with a point
 
 with_reduced-no_point : (s : Row) (rows : List Row) (vs : List ℤ) → with_reduced s rows ≡ ends (point vs) → ⊥
-with_reduced-no_point s rows vs e = go (is_empty s.parts) (int_lt s.bound (pos 0)) (nat_le (length (joined s rows)) 20000) e
-  where
-    go : (b c d : Bool) → (if b then (if c then ends refuted else continues rows) else (if d then continues (joined s rows) else ends many)) ≡ ends (point vs) → ⊥
-    go true true d f = cc
-    go true false d f = cc
-    go false c true f = cc
-    go false c false f = cc
+with_reduced-no_point s rows vs e = grind arith
 
-come_in-no_point : (k : ℕ) (r : Row) (rows : List Row) (vs : List ℤ) → come_in k r rows ≡ ends (point vs) → ⊥
-come_in-no_point k r rows vs e = go (is_within r) e
-  where
-    go : (b : Bool) → (if b then with_reduced (reduced r) rows else ends (wide k)) ≡ ends (point vs) → ⊥
-    go true f = with_reduced-no_point (reduced r) rows vs f
-    go false f = cc
+pub come_in-no_point : (k : ℕ) (r : Row) (rows : List Row) (vs : List ℤ) → come_in k r rows ≡ ends (point vs) → ⊥
+come_in-no_point k r rows vs e = grind (arith, with_reduced-no_point (reduced r) rows vs)
 
 pub all_come_in-no_point : (k : ℕ) (rs rows : List Row) (vs : List ℤ) → all_come_in k rs rows ≡ ends (point vs) → ⊥
 all_come_in-no_point k [] rows vs e = cc
-all_come_in-no_point k (r ∷ rs) rows vs e = go (come_in k r rows) refl e (λ mid f. all_come_in-no_point k rs mid vs f)
-  where
-    go : (n : Next) → come_in k r rows ≡ n → after n (all_come_in k rs) ≡ ends (point vs) → ((mid : List Row) → all_come_in k rs mid ≡ ends (point vs) → ⊥) → ⊥
-    go (continues mid) f g i = i mid g
-    go (ends b) f g i = come_in-no_point k r rows vs (f ∙ g)
+all_come_in-no_point k (r ∷ rs) rows vs e = grind (arith, come_in-no_point k r rows vs, λ (m : List Row). all_come_in-no_point k rs m vs)
 
 -- ---- the rows after a column is eliminated
-
-below_zero : (z : ℤ) → int_lt z (pos 0) ≡ true → z <ℤ pos 0
-below_zero z e = omega (arith, ints)
-
-above_zero : (z : ℤ) → int_lt (pos 0) z ≡ true → pos 0 <ℤ z
-above_zero z e = omega (arith, ints)
-
-size_below : (z : ℤ) → z <ℤ pos 0 → 0 < unsigned_abs z
-size_below z h = omega (arith, ints)
-
-size_above : (z : ℤ) → pos 0 <ℤ z → 0 < unsigned_abs z
-size_above z h = omega (arith, ints)
 
 IsGood-combined : (k : ℕ) (ks : List ℕ) (r s : Row) → is_negative k r ≡ true → is_positive k s ≡ true → IsGood (k ∷ ks) r → IsGood (k ∷ ks) s → IsGood ks (combined k r s)
 IsGood-combined k ks r s e f a b =
     let p : ℕ = unsigned_abs (factor_of k r.parts) in
     let q : ℕ = unsigned_abs (factor_of k s.parts) in
     let d : ℕ = greatest_divisor (p ∷ q ∷ []) in
-    let n : factor_of k r.parts <ℤ pos 0 = below_zero (factor_of k r.parts) e in
-    let o : pos 0 <ℤ factor_of k s.parts = above_zero (factor_of k s.parts) f in
-    let m = multipliers-positive p q (size_below (factor_of k r.parts) n) (size_above (factor_of k s.parts) o) in
+    let n : factor_of k r.parts <ℤ pos 0 = omega (arith, ints) in
+    let o : pos 0 <ℤ factor_of k s.parts = omega (arith, ints) in
+    let m = multipliers-positive p q (omega (arith, ints)) (omega (arith, ints)) in
     let c : IsProper (combined k r s).parts = IsProper-added (q / d) (p / d) r s (omega (arith, m.0)) (omega (arith, m.1)) a.proper b.proper in
     record {
       proper = c;
@@ -187,34 +137,28 @@ AllGood-append ks (r ∷ rs) ss a b = (a.0, AllGood-append ks rs ss a.1 b)
 
 AllGood-with : (k : ℕ) (ks : List ℕ) (r : Row) (rows : List Row) → is_negative k r ≡ true → IsGood (k ∷ ks) r → AllListed (k ∷ ks) rows → AllGood ks (combined_with k r rows)
 AllGood-with k ks r [] e h a = tt
-AllGood-with k ks r (s ∷ ss) e h a = go (is_positive k s) refl (AllGood-with k ks r ss e h a.1)
-  where
-    go : (b : Bool) → is_positive k s ≡ b → AllGood ks (combined_with k r ss) → AllGood ks (map (combined k r) (cond b (s ∷ filter (is_positive k) ss) (filter (is_positive k) ss)))
-    go true f i = (IsGood-combined k ks r s e f h a.0.good, i)
-    go false f i = i
+AllGood-with k ks r (s ∷ ss) e h a =
+    grind (arith, AllGood-with k ks r ss e h a.1, λ (f : is_positive k s ≡ true). IsGood-combined k ks r s e f h a.0.good)
 
-AllGood-combinations : (k : ℕ) (ks : List ℕ) (all rows : List Row) → AllListed (k ∷ ks) all → AllListed (k ∷ ks) rows → AllGood ks (flat_map (λ r. combined_with k r all) (filter (is_negative k) rows))
+AllGood-combinations : (k : ℕ) (ks : List ℕ) (all rows : List Row) → AllListed (k ∷ ks) all → AllListed (k ∷ ks) rows → AllGood ks (combined_from k all rows)
 AllGood-combinations k ks all [] h a = tt
-AllGood-combinations k ks all (r ∷ rs) h a = go (is_negative k r) refl (AllGood-combinations k ks all rs h a.1)
-  where
-    go : (b : Bool) → is_negative k r ≡ b → AllGood ks (flat_map (λ r. combined_with k r all) (filter (is_negative k) rs))
-        → AllGood ks (flat_map (λ r. combined_with k r all) (cond b (r ∷ filter (is_negative k) rs) (filter (is_negative k) rs)))
-    go true f i = AllGood-append ks (combined_with k r all) (flat_map (λ r. combined_with k r all) (filter (is_negative k) rs)) (AllGood-with k ks r all f a.0.good h) i
-    go false f i = i
+AllGood-combinations k ks all (r ∷ rs) h a =
+    grind (
+      arith,
+      AllGood-combinations k ks all rs h a.1,
+      λ (f : is_negative k r ≡ true) (i : AllGood ks (combined_from k all rs)).
+          AllGood-append ks (combined_with k r all) (combined_from k all rs) (AllGood-with k ks r all f a.0.good h) i,
+    )
+
+IsListed-free : (k : ℕ) (ks : List ℕ) (r : Row) → is_free k r ≡ true → IsListed (k ∷ ks) r → IsListed ks r
+IsListed-free k ks r e a = record {
+  good = record { proper = a.good.proper; columns = without k ks r.parts a.good.proper.no_zero (same_number_is (factor_of k r.parts) (pos 0) e) a.good.columns };
+  full = a.full;
+}
 
 AllListed-free : (k : ℕ) (ks : List ℕ) (rows : List Row) → AllListed (k ∷ ks) rows → AllListed ks (filter (is_free k) rows)
 AllListed-free k ks [] a = tt
-AllListed-free k ks (r ∷ rs) a = go (is_free k r) refl (AllListed-free k ks rs a.1)
-  where
-    go : (b : Bool) → is_free k r ≡ b → AllListed ks (filter (is_free k) rs) → AllListed ks (cond b (r ∷ filter (is_free k) rs) (filter (is_free k) rs))
-    go true e i = (
-      record {
-        good = record { proper = a.0.good.proper; columns = without k ks r.parts a.0.good.proper.no_zero (same_number_is (factor_of k r.parts) (pos 0) e) a.0.good.columns };
-        full = a.0.full;
-      },
-      i,
-    )
-    go false e i = i
+AllListed-free k ks (r ∷ rs) a = grind (arith, AllListed-free k ks rs a.1, λ (e : is_free k r ≡ true). IsListed-free k ks r e a.0)
 
 eliminated-strengthens : (k : ℕ) (ks : List ℕ) (rows later : List Row) → AllListed (k ∷ ks) rows → eliminated k rows ≡ continues later → Strengthens ks (combinations k rows) (filter (is_free k) rows) later
 eliminated-strengthens k ks rows later a e =
@@ -224,29 +168,20 @@ eliminated-strengthens k ks rows later a e =
 
 free-or-bound : (k : ℕ) (v : ℤ) (x x' : ℕ → ℤ) (ks : List ℕ) (rows : List Row) → Puts k v x x' → AllListed ks rows → AllHold x (filter (is_free k) rows) → HoldIfBound k x' rows → AllHold x' rows
 free-or-bound k v x x' ks [] p a h b = tt
-free-or-bound k v x x' ks (r ∷ rs) p a h b = go (is_free k r) refl h (λ g. free-or-bound k v x x' ks rs p a.1 g b.1)
-  where
-    go : (t : Bool) → is_free k r ≡ t → AllHold x (cond t (r ∷ filter (is_free k) rs) (filter (is_free k) rs)) → (AllHold x (filter (is_free k) rs) → AllHold x' rs) → AllHold x' (r ∷ rs)
-    go true e g i =
-        (subst (λ (z : ℤ). z ≤ℤ r.bound) (sym (sum-elsewhere k v x x' r.parts p a.0.good.proper.no_zero (same_number_is (factor_of k r.parts) (pos 0) e))) g.0, i g.1)
-    go false e g i = (b.0 e, i g)
+free-or-bound k v x x' ks (r ∷ rs) p a h b =
+    grind (
+      arith,
+      b.0,
+      λ (g : AllHold x (filter (is_free k) rs)). free-or-bound k v x x' ks rs p a.1 g b.1,
+      λ (e : is_free k r ≡ true). sum-elsewhere k v x x' r.parts p a.0.good.proper.no_zero (same_number_is (factor_of k r.parts) (pos 0) e),
+    )
 
 AllProper-listed : (ks : List ℕ) (rows : List Row) → AllListed ks rows → AllProper rows
 AllProper-listed ks [] a = tt
 AllProper-listed ks (r ∷ rs) a = (a.0.good.proper, AllProper-listed ks rs a.1)
 
 puts : (k : ℕ) (ks : List ℕ) (v : ℤ) (vs : List ℤ) → Puts k v (value_of ks vs) (value_of (k ∷ ks) (v ∷ vs))
-puts k ks v vs = record {
-  here = let e : (k == k) ≡ true = eq-eqb k k refl in rw e refl;
-  elsewhere = λ j f. let e : (k == j) ≡ false = turned k j f in rw e refl;
-}
-  where
-    turned : (k j : ℕ) → (j == k) ≡ false → (k == j) ≡ false
-    turned k j f = go (k == j) refl
-      where
-        go : (b : Bool) → (k == j) ≡ b → b ≡ false
-        go true e = absurd (eqb-false j k f (sym (eqb-true k j e)))
-        go false e = refl
+puts k ks v vs = record { here = grind arith; elsewhere = λ j f. grind arith }
 
 -- nothing is left once there are no columns
 none-left : (rows : List Row) → AllListed [] rows → rows ≡ []

@@ -51,11 +51,7 @@ fails-later inputs (Ends x) k ks rows later e s = (solved-continues k ks rows la
 
 AllComputable-filter : (f : Row → Bool) (rows : List Row) → AllComputable rows → AllComputable (filter f rows)
 AllComputable-filter f [] a = tt
-AllComputable-filter f (r ∷ rs) a = go (f r) (AllComputable-filter f rs a.1)
-  where
-    go : (b : Bool) → AllComputable (filter f rs) → AllComputable (cond b (r ∷ filter f rs) (filter f rs))
-    go true i = (a.0, i)
-    go false i = i
+AllComputable-filter f (r ∷ rs) a = grind (arith, AllComputable-filter f rs a.1)
 
 -- the lists lead from the first rows to those that are left now, once n columns are gone
 pub record Leads (columns : List ℕ) (n : ℕ) (first now : List Row) (lists : List (List DerivedRow)) : Type 0 where
@@ -80,11 +76,7 @@ leads-start columns first = record {
 
 -- an older place, or the newest
 older : (i n : ℕ) → i < n + 1 → (i < n) ⊎ (i ≡ n)
-older i n h = go (i == n) refl
-  where
-    go : (b : Bool) → (i == n) ≡ b → (i < n) ⊎ (i ≡ n)
-    go true e = inr (eqb-true i n e)
-    go false e = inl (omega (arith, eqb-false i n e))
+older i n h = grind arith
 
 descends-push : (columns : List ℕ) (n : ℕ) (all : List (List Row)) (later : List Row) (lists lists' : List (List DerivedRow)) (with : List DerivedRow) → lists' ≡ lists ++ with ∷ []
     → eliminated (slice_index_or columns n 0) (rows_at all n) ≡ continues later → rows_of with ≡ filter (has_column (slice_index_or columns n 0)) (rows_at all n) → AllComputable (rows_of with)
