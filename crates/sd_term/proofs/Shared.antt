@@ -51,11 +51,7 @@ not-there bank new t h e = e ∙ sym (with_tree-lacks bank t h)
 -- a tree that no number has isn't there
 pub lacks-has : (bank : List Tree) (t : Tree) → ((i : ℕ) → i < length bank → tree_at bank i ≢ t) → has bank t ≡ false
 lacks-has [] t h = refl
-lacks-has (u ∷ bank) t h = go (same_tree u t) refl (lacks-has bank t (λ i lt e. h (suc i) (suc-le-suc lt) e))
-  where
-    go : (b : Bool) → same_tree u t ≡ b → has bank t ≡ false → b || has bank t ≡ false
-    go true e f = absurd (h 0 (omega arith) (same_tree-true u t e))
-    go false e f = f
+lacks-has (u ∷ bank) t h = grind (arith, lacks-has bank t (λ i lt e. h (suc i) (suc-le-suc lt) e), h 0 (omega arith), same_tree-true u t)
 
 pub if-none : {P : Type 0} (r : Option ℕ) → P → IfNone r P
 if-none None p = p
