@@ -11,20 +11,12 @@ use Rattle.sd_forms.specs.LinearForms.{place_of}
 -- it is a number of the list
 pub place_of-below : (terms : List Tree) (t : Tree) → has terms t ≡ true → place_of terms t < length terms
 place_of-below [] t e = let f : false ≡ true = e in absurd (cc)
-place_of-below (u ∷ us) t e = go (same_tree u t) e (place_of-below us t)
-  where
-    go : (b : Bool) → b || has us t ≡ true → (has us t ≡ true → place_of us t < length us) → cond b 0 (suc (place_of us t)) < length (u ∷ us)
-    go true h ih = omega arith
-    go false h ih = let l : place_of us t < length us = ih h in omega arith
+place_of-below (u ∷ us) t e = grind (arith, place_of-below us t)
 
 -- the tree there is the tree itself
 pub place_of-tree : (terms : List Tree) (t : Tree) → has terms t ≡ true → tree_at terms (place_of terms t) ≡ t
 place_of-tree [] t e = let f : false ≡ true = e in absurd (cc)
-place_of-tree (u ∷ us) t e = go (same_tree u t) refl e (place_of-tree us t)
-  where
-    go : (b : Bool) → same_tree u t ≡ b → b || has us t ≡ true → (has us t ≡ true → tree_at us (place_of us t) ≡ t) → tree_at (u ∷ us) (cond b 0 (suc (place_of us t))) ≡ t
-    go true f h ih = same_tree-true u t f
-    go false f h ih = ih h
+place_of-tree (u ∷ us) t e = grind (arith, place_of-tree us t, same_tree-true u t)
 
 -- a term's place is its number
 pub place_of-at : (terms : List Tree) (i : ℕ) → AreDistinct terms → i < length terms → place_of terms (tree_at terms i) ≡ i
@@ -35,8 +27,4 @@ place_of-at terms i d h =
 -- it stays where the list grows
 pub place_of-append : (terms more : List Tree) (t : Tree) → has terms t ≡ true → place_of (terms ++ more) t ≡ place_of terms t
 place_of-append [] more t e = let f : false ≡ true = e in absurd (cc)
-place_of-append (u ∷ us) more t e = go (same_tree u t) e (place_of-append us more t)
-  where
-    go : (b : Bool) → b || has us t ≡ true → (has us t ≡ true → place_of (us ++ more) t ≡ place_of us t) → cond b 0 (suc (place_of (us ++ more) t)) ≡ cond b 0 (suc (place_of us t))
-    go true h ih = refl
-    go false h ih = ap (λ n. suc n) (ih h)
+place_of-append (u ∷ us) more t e = grind (arith, place_of-append us more t)

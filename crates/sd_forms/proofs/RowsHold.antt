@@ -3,6 +3,7 @@ use Rattle.std.proofs.Common.{◌≡◌, ℕ, zero, suc, ◌<◌, List, [], ◌�
 use Rattle.std.proofs.Common.{ℤ, pos, negsuc, ◌-ℤ◌, ◌≤ℤ◌, ◌<ℤ◌}
 use Rattle.std.specs.Prelude.{int_le}
 use Rattle.std.proofs.lemmas.Int.{ints}
+use Rattle.std.proofs.lemmas.Bool.{and_parts, or_left, or_right}
 use Rattle.sd_base.specs.Value.{Truth, same_value}
 use Rattle.sd_base.specs.Meaning.{number_of, truth_of}
 use Rattle.sd_base.proofs.ValueLemmas.{value_is}
@@ -28,17 +29,11 @@ use Rattle.sd_forms.proofs.FormMeaning.{form_of-number}
 
 under : (x : ℕ → ℤ) (f g : Form) (a b : ℤ) → value_at x f ≡ a → value_at x g ≡ b → a ≤ℤ b → Holds x (at_most (pos 0) (less f g))
 under x f g a b e h l =
-    Holds-at_most x (pos 0) (less f g) (subst (λ (z : ℤ). z ≤ℤ pos 0) (sym (value_at-less x f g ∙ (λ i. e i -ℤ h i))) (taken a b l))
-  where
-    taken : (a b : ℤ) → a ≤ℤ b → (a -ℤ b) ≤ℤ pos 0
-    taken a b l = omega (arith, ints)
+    let d : value_at x (less f g) ≡ a -ℤ b = value_at-less x f g ∙ (λ i. e i -ℤ h i) in Holds-at_most x (pos 0) (less f g) (omega (arith, ints))
 
 strictly-under : (x : ℕ → ℤ) (f g : Form) (a b : ℤ) → value_at x f ≡ a → value_at x g ≡ b → a <ℤ b → Holds x (at_most (negsuc 0) (less f g))
 strictly-under x f g a b e h l =
-    Holds-at_most x (negsuc 0) (less f g) (subst (λ (z : ℤ). z ≤ℤ negsuc 0) (sym (value_at-less x f g ∙ (λ i. e i -ℤ h i))) (taken a b l))
-  where
-    taken : (a b : ℤ) → a <ℤ b → (a -ℤ b) ≤ℤ negsuc 0
-    taken a b l = omega (arith, ints)
+    let d : value_at x (less f g) ≡ a -ℤ b = value_at-less x f g ∙ (λ i. e i -ℤ h i) in Holds-at_most x (negsuc 0) (less f g) (omega (arith, ints))
 
 -- ---- comparisons
 
@@ -50,29 +45,18 @@ eq-head : (h : Head) → is_eq_head h ≡ true → h ≡ Eq
 eq-head Eq e = refl
 eq-head _ e = let f : false ≡ true = e in absurd (cc)
 
-and-left : (a b : Bool) → a && b ≡ true → a ≡ true
-and-left true b e = refl
-and-left false b e = e
-
-or-left : (a b : Bool) → a ≡ true → a || b ≡ true
-or-left a b e = ap (λ c. c || b) e
-
-or-right : (a b : Bool) → b ≡ true → a || b ≡ true
-or-right true b e = refl
-or-right false b e = e
-
 le-compares : (t : Tree) → is_le t ≡ true → is_comparison t ≡ true
-le-compares t e = or-left (is_le t) (is_int_eq t) e
+le-compares t e = or_left (is_le t) (is_int_eq t) e
 
 eq-compares : (t : Tree) → is_int_eq t ≡ true → is_comparison t ≡ true
-eq-compares t e = or-right (is_le t) (is_int_eq t) e
+eq-compares t e = or_right (is_le t) (is_int_eq t) e
 
 le-value : (v : Valuation) (t : Tree) → is_le t ≡ true → value v t ≡ Truth (int_le (number_of (value_in (values v t) 0)) (number_of (value_in (values v t) 1)))
 le-value v t e = λ i. apply v (le-head (head_of t) e i) (sort_by (le-head (head_of t) e i) (sorts_of t)) (values v t)
 
 eq-value : (v : Valuation) (t : Tree) → is_int_eq t ≡ true → value v t ≡ Truth (same_value (value_in (values v t) 0) (value_in (values v t) 1))
 eq-value v t e =
-    let h : is_eq_head (head_of t) ≡ true = and-left (is_eq_head (head_of t)) (is_int_sort (sort_of (part_at t 0))) e in
+    let h : is_eq_head (head_of t) ≡ true = (and_parts (is_eq_head (head_of t)) (is_int_sort (sort_of (part_at t 0))) e).0 in
     λ i. apply v (eq-head (head_of t) h i) (sort_by (eq-head (head_of t) h i) (sorts_of t)) (values v t)
 
 value-part : (v : Valuation) (ts : List Tree) (k : ℕ) → k < length ts → value_in (map (value v) ts) k ≡ value v (get_or ts k (leaf True))
@@ -140,15 +124,11 @@ above_row-holds v terms t c h w e is =
 -- all rows of a term with its truth value
 pub rows_of-hold : (v : Valuation) (terms : List Tree) (t : Tree) (b : Bool) → IsClosed terms → has terms t ≡ true → IsWellSorted t → value v t ≡ Truth b
     → AllHold (columns_under v terms) (rows_of terms t b)
-rows_of-hold v terms t true c h w is = go (is_le t) refl (is_int_eq t) refl
-  where
-    go : (l : Bool) → is_le t ≡ l → (q : Bool) → is_int_eq t ≡ q
-        → AllHold (columns_under v terms) (if l then below_row terms t ∷ [] else (if q then below_row terms t ∷ back_row terms t ∷ [] else []))
-    go true e q f = (below_row-holds v terms t c h w (le-compares t e) is, tt)
-    go false e true f = (below_row-holds v terms t c h w (eq-compares t f) is, (back_row-holds v terms t c h w f is, tt))
-    go false e false f = tt
-rows_of-hold v terms t false c h w is = go (is_le t) refl
-  where
-    go : (l : Bool) → is_le t ≡ l → AllHold (columns_under v terms) (if l then above_row terms t ∷ [] else [])
-    go true e = (above_row-holds v terms t c h w e is, tt)
-    go false e = tt
+rows_of-hold v terms t true c h w is =
+    grind (
+      arith,
+      λ (e : is_le t ≡ true). below_row-holds v terms t c h w (le-compares t e) is,
+      λ (e : is_int_eq t ≡ true). below_row-holds v terms t c h w (eq-compares t e) is,
+      λ (e : is_int_eq t ≡ true). back_row-holds v terms t c h w e is,
+    )
+rows_of-hold v terms t false c h w is = grind (arith, λ (e : is_le t ≡ true). above_row-holds v terms t c h w e is)

@@ -1,5 +1,5 @@
 -- a well-sorted comparison has two parts
-use Rattle.std.proofs.Common.{◌≡◌, ℕ, suc, ◌<◌, List, [], ◌∷◌, ◌++◌, map, length, get_or, slice_get, Some, None, zero, refl, sym, ap, ◌∙◌, Bool, true, false, ◌||◌, ◌&&◌, arith}
+use Rattle.std.proofs.Common.{◌≡◌, ℕ, suc, ◌<◌, List, [], ◌∷◌, ◌++◌, map, length, get_or, slice_get, Some, None, zero, refl, sym, ap, ◌∙◌, Bool, true, false, ◌||◌, ◌&&◌, arith, length-append}
 use Rattle.sd_base.specs.declared.sort.Sort.{Sort, Int}
 use Rattle.sd_term.specs.declared.node.Head.{Head}
 use Rattle.sd_term.specs.declared.node.Head.TheVariants.{Op as Plain}
@@ -11,8 +11,9 @@ use Rattle.sd_term.specs.Tree.{Tree, leaf, call, head_of, parts_of}
 use Rattle.sd_term.specs.Sorts.{sort_of, sorts_of, Takes, IsWellSorted}
 use Rattle.sd_term.specs.Bank.{tree_at, tree_of}
 use Rattle.sd_term.proofs.Folds.{head_of-node, get_or-some}
-use Rattle.sd_term.proofs.Firsts.{length-maps}
-use Rattle.sd_term.proofs.Numbers.{node-parts, part-at, slice_get-map}
+use Rattle.std.proofs.lemmas.List.{length-map}
+use Rattle.sd_term.proofs.Numbers.{node-parts, part-at}
+use Rattle.sd_base.proofs.Lists.{get_or-map_none, slice_get-map_some}
 use Rattle.sd_forms.specs.FactRows.{part_at, is_int_sort, is_le_head, is_eq_head, is_le, is_comparison}
 
 -- the sorts of a comparison's parts
@@ -23,13 +24,7 @@ takes-two _ ss b k e = let f : false ≡ true = e in absurd (cc)
 
 length-sorts_of : (t : Tree) → length (sorts_of t) ≡ length (parts_of t)
 length-sorts_of (leaf h) = refl
-length-sorts_of (call f x) = snoc (sorts_of f) (parts_of f) (sort_of x) x (length-sorts_of f)
-  where
-    snoc : (ss : List Sort) (ts : List Tree) (s : Sort) (t : Tree) → length ss ≡ length ts → length (ss ++ s ∷ []) ≡ length (ts ++ t ∷ [])
-    snoc [] [] s t e = refl
-    snoc [] (u ∷ ts) s t e = absurd (omega (arith, e))
-    snoc (r ∷ ss) [] s t e = absurd (omega (arith, e))
-    snoc (r ∷ ss) (u ∷ ts) s t e = ap (λ n. suc n) (snoc ss ts s t (omega (arith, e)))
+length-sorts_of (call f x) = omega (arith, length-append (sorts_of f) (sort_of x ∷ []), length-append (parts_of f) (x ∷ []), length-sorts_of f)
 
 pub two-parts : (t : Tree) → IsWellSorted t → is_comparison t ≡ true → length (parts_of t) ≡ 2
 two-parts t w e = sym (length-sorts_of t) ∙ takes-two (head_of t) (sorts_of t) (is_int_sort (sort_of (part_at t 0))) w.1 e
@@ -39,19 +34,14 @@ pub part_at-node : (terms : List Tree) (node : TermNode) (t : Tree) (ps : List �
 part_at-node terms node t ps k p at e h is = get_or-some (parts_of t) k (leaf True) (tree_at terms p) (part-at terms node t ps k p at e h is)
 
 pub part_at-none : (terms : List Tree) (node : TermNode) (t : Tree) (k : ℕ) → tree_of terms node ≡ t → slice_get node.parts k ≡ None → part_at t k ≡ leaf True
-part_at-none terms node t k at e = ap (λ ts. get_or ts k (leaf True)) (node-parts terms node t at) ∙ none node.parts k e
-  where
-    none : (ps : List ℕ) (i : ℕ) → slice_get ps i ≡ None → get_or (map (λ n. tree_at terms n) ps) i (leaf True) ≡ leaf True
-    none [] i f = refl
-    none (q ∷ ps) zero f = cc
-    none (q ∷ ps) (suc i) f = none ps i f
+part_at-none terms node t k at e = ap (λ ts. get_or ts k (leaf True)) (node-parts terms node t at) ∙ get_or-map_none (λ n. tree_at terms n) node.parts k (leaf True) e
 
 pub part_at-some : (terms : List Tree) (node : TermNode) (t : Tree) (k p : ℕ) → tree_of terms node ≡ t → slice_get node.parts k ≡ Some p → part_at t k ≡ tree_at terms p
 part_at-some terms node t k p at e =
-    get_or-some (parts_of t) k (leaf True) (tree_at terms p) (ap (λ ts. slice_get ts k) (node-parts terms node t at) ∙ slice_get-map (λ n. tree_at terms n) node.parts k p e)
+    get_or-some (parts_of t) k (leaf True) (tree_at terms p) (ap (λ ts. slice_get ts k) (node-parts terms node t at) ∙ slice_get-map_some (λ n. tree_at terms n) node.parts k p e)
 
 pub two-numbers : (terms : List Tree) (node : TermNode) (t : Tree) → tree_of terms node ≡ t → IsWellSorted t → is_comparison t ≡ true → length node.parts ≡ 2
-two-numbers terms node t at w e = sym (length-maps (λ n. tree_at terms n) node.parts) ∙ sym (ap length (node-parts terms node t at)) ∙ two-parts t w e
+two-numbers terms node t at w e = sym (length-map node.parts (λ n. tree_at terms n)) ∙ sym (ap length (node-parts terms node t at)) ∙ two-parts t w e
 
 -- tests of a node's head
 pub le-node : (terms : List Tree) (node : TermNode) (t : Tree) (h : Head) → tree_of terms node ≡ t → node.head ≡ h → is_le_head h ≡ is_le t

@@ -52,7 +52,9 @@ above_row terms t = at_most (negsuc 0) (less (form_of terms (part_at t 1)) (form
 
 -- the rows of a term with this truth value: one of an order, two of a true equality of integers, and else none
 abbrev pub rows_of : List Tree → Tree → Bool → List Row
-rows_of terms t true = if is_le t then below_row terms t ∷ [] else (if is_int_eq t then below_row terms t ∷ back_row terms t ∷ [] else [])
+rows_of terms t true =
+    if is_le t then below_row terms t ∷ []
+    else (if is_int_eq t then below_row terms t ∷ back_row terms t ∷ [] else [])
 rows_of terms t false = if is_le t then above_row terms t ∷ [] else []
 
 -- the columns of each row ascend, each once, and none has the factor 0

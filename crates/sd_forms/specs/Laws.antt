@@ -19,9 +19,11 @@ KeepsValue terms t f = (v : Valuation) → sort_of t ≡ Int → value v t ≡ N
 
 -- an integer term of closed terms has the value of its linear form
 abbrev pub FormsKeepValues : Type 0
-FormsKeepValues = (terms : List Tree) (t : Tree) → IsClosed terms → has terms t ≡ true → KeepsValue terms t (form_of terms t)
+FormsKeepValues = (terms : List Tree) (t : Tree) → IsClosed terms → has terms t ≡ true
+    → KeepsValue terms t (form_of terms t)
 
 -- the rows of a well-sorted term of closed terms hold where it has the truth value
 abbrev pub RowsHold : Type 0
 RowsHold =
-    (v : Valuation) (terms : List Tree) (t : Tree) (b : Bool) → IsClosed terms → has terms t ≡ true → IsWellSorted t → value v t ≡ Truth b → AllHold (columns_under v terms) (rows_of terms t b)
+    (v : Valuation) (terms : List Tree) (t : Tree) (b : Bool) → IsClosed terms → has terms t ≡ true → IsWellSorted t
+    → value v t ≡ Truth b → AllHold (columns_under v terms) (rows_of terms t b)

@@ -14,7 +14,8 @@ use std::alloc::Global;
 /// The linear forms of all terms, by their numbers.
 pub fn forms_of(alloc: Global, terms: &Bank) -> Result<Items<Form>, NoMemory>
     ensures forms { IfOk result (λ fs. fs ≡ map (form_of terms.now) terms.now) }
-    ensures values { IfOk result (λ fs. (k : ℕ) → k < length terms.now → KeepsValue terms.now (tree_at terms.now k) (form_at fs k)) }
+    ensures values { IfOk result (λ fs. (k : ℕ) → k < length terms.now
+        → KeepsValue terms.now (tree_at terms.now k) (form_at fs k)) }
 {
     let mut forms = Items::new(alloc);
     for number in 0..terms.len() as u32 {

@@ -144,7 +144,9 @@ fn difference(
     requires forms { forms.now ≡ map (form_of terms.now) terms.now }
     requires of { of < 2 }
     requires from { from < 2 }
-    ensures form { IfOk result (λ f. f ≡ less (form_of terms.now (part_at (tree_at terms.now id) of)) (form_of terms.now (part_at (tree_at terms.now id) from))) }
+    ensures form { IfOk result (λ f. f
+        ≡ less (form_of terms.now (part_at (tree_at terms.now id) of)) (form_of terms.now (part_at
+        (tree_at terms.now id) from))) }
     ensures proper { IfOk result (λ f. IsProper f.parts) }
     ensures near { IfOk result (λ f. unsigned_abs f.constant ≤ 2 ^ 67) }
 {

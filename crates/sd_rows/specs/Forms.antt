@@ -5,7 +5,8 @@ use Rattle.sd_rows.specs.declared.row.Row.{Row}
 use Rattle.sd_rows.specs.Rows.{Parts, sum_at, are_small, is_empty, IsProper}
 use Rattle.sd_rows.specs.RowOps.{unless_zero, sum_of}
 
--- a form that may be computed with: its columns ascend, each once, no factor is 0, and factors and constant are within the bounds
+-- a form that may be computed with: its columns ascend, each once, no factor is 0, and factors and constant are within
+-- the bounds
 pub record IsFit (f : Form) : Type 0 where
   pub proper : IsProper f.parts
   pub small : are_small f.parts ≡ true

@@ -28,7 +28,10 @@ times m (p ∷ ps) = (p.0, pos m *ℤ p.1) ∷ times m ps
 
 -- m times the first row and n times the second
 abbrev pub added : ℕ → Row → ℕ → Row → Row
-added m r n s = record { parts = sum_of (times m r.parts) (times n s.parts); bound = pos m *ℤ r.bound +ℤ pos n *ℤ s.bound }
+added m r n s = record {
+  parts = sum_of (times m r.parts) (times n s.parts);
+  bound = pos m *ℤ r.bound +ℤ pos n *ℤ s.bound;
+}
 
 abbrev pub sizes : Parts → List ℕ
 sizes [] = []
