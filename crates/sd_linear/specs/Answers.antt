@@ -18,7 +18,8 @@ answer_of (Gap k) = gap k
 answer_of (Wide k) = wide k
 answer_of Many = many
 
--- the last row that the steps derive is absurd, each row that they make is within the bounds, each other row is used, and each cut divides
+-- the last row that the steps derive is absurd, each row that they make is within the bounds, each other row is used,
+-- and each cut divides
 pub record IsRefutation (inputs : List Row) (steps : List RowStep) : Type 0 where
   pub refutes : Refutes inputs steps
   pub within : AllWithin (rows_made inputs steps)

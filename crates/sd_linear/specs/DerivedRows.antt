@@ -51,12 +51,15 @@ rows_at all i = slice_index_or all i []
 abbrev pub has_column : ℕ → Row → Bool
 has_column k r = not (is_free k r)
 
--- all the rows, first with all columns and then without one more each time, until n are gone; the lists hold those with the next column
+-- all the rows, first with all columns and then without one more each time, until n are gone; the lists hold those with
+-- the next column
 pub record Descends (columns : List ℕ) (n : ℕ) (all : List (List Row)) (lists : List (List DerivedRow)) : Type 0 where
   pub count : length all ≡ n + 1
-  pub later : (i : ℕ) → i < n → eliminated (slice_index_or columns i 0) (rows_at all i) ≡ continues (rows_at all (i + 1))
+  pub later : (i : ℕ) → i < n
+      → eliminated (slice_index_or columns i 0) (rows_at all i) ≡ continues (rows_at all (i + 1))
   pub listed : length lists ≡ n
-  pub with_column : (i : ℕ) → i < n → rows_of (list_at lists i) ≡ filter (has_column (slice_index_or columns i 0)) (rows_at all i)
+  pub with_column : (i : ℕ) → i < n
+      → rows_of (list_at lists i) ≡ filter (has_column (slice_index_or columns i 0)) (rows_at all i)
   pub computable : (i : ℕ) → i < n → AllComputable (rows_of (list_at lists i))
 
 pub record DescendsFrom (columns : List ℕ) (first : List Row) (lists : List (List DerivedRow)) : Type 0 where

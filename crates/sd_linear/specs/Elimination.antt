@@ -46,7 +46,9 @@ abbrev pub kept : List Row → Next
 kept rows = if nat_le (length rows) 20000 then continues rows else ends many
 
 abbrev pub with_reduced : Row → List Row → Next
-with_reduced r rows = if is_empty r.parts then (if int_lt r.bound (pos 0) then ends refuted else continues rows) else kept (joined r rows)
+with_reduced r rows =
+    if is_empty r.parts then (if int_lt r.bound (pos 0) then ends refuted else continues rows)
+    else kept (joined r rows)
 
 -- while column k is eliminated
 abbrev pub come_in : ℕ → Row → List Row → Next

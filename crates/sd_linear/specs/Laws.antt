@@ -7,4 +7,5 @@ use Rattle.sd_linear.specs.RowSteps.{Refutes}
 
 -- no integers meet rows that are refuted
 abbrev pub RefutedRowsAreUnmet : Type 0
-RefutedRowsAreUnmet = (x : ℕ → ℤ) (inputs : List Row) (steps : List RowStep) → Refutes inputs steps → AllHold x inputs → ⊥
+RefutedRowsAreUnmet =
+    (x : ℕ → ℤ) (inputs : List Row) (steps : List RowStep) → Refutes inputs steps → AllHold x inputs → ⊥

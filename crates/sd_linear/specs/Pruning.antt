@@ -22,7 +22,8 @@ pub record AreNeeded (steps : List RowStep) (marks : List Bool) : Type 0 where
   pub count : length marks ≡ length steps
   pub last : (k : ℕ) → k + 1 ≡ length steps → is_marked marks k ≡ true
   pub closed : (k j : ℕ) → is_marked marks k ≡ true → names (step_at steps k) j ≡ true → is_marked marks j ≡ true
-  pub used : (k : ℕ) → k + 1 < length steps → is_marked marks k ≡ true → (j : ℕ) × (is_marked marks j ≡ true) × (names (step_at steps j) k ≡ true)
+  pub used : (k : ℕ) → k + 1 < length steps → is_marked marks k ≡ true
+      → (j : ℕ) × (is_marked marks j ≡ true) × (names (step_at steps j) k ≡ true)
 
 -- the step by the new numbers
 abbrev pub renumbered : List ℕ → RowStep → RowStep

@@ -25,7 +25,8 @@ rows_made inputs steps = made_from inputs [] steps
 -- it names rows that are there, with multipliers from 1 to 2^58
 abbrev pub IsStep : List Row → List Row → RowStep → Type 0
 IsStep inputs before (Input i) = i < length inputs
-IsStep inputs before (Add a m b n) = (a < length before) × (b < length before) × (1 ≤ m) × (m ≤ 2 ^ 58) × (1 ≤ n) × (n ≤ 2 ^ 58)
+IsStep inputs before (Add a m b n) = (a < length before) × (b < length before) × (1 ≤ m) × (m ≤ 2 ^ 58) × (1 ≤ n)
+    × (n ≤ 2 ^ 58)
 IsStep inputs before (Cut a) = a < length before
 
 abbrev pub AreSteps : List Row → List Row → List RowStep → Type 0
@@ -35,7 +36,8 @@ AreSteps inputs before (s ∷ ss) = IsStep inputs before s × AreSteps inputs (b
 -- the last row that the steps derive from the inputs is absurd
 pub record Refutes (inputs : List Row) (steps : List RowStep) : Type 0 where
   pub are_steps : AreSteps inputs [] steps
-  pub ends : (k : ℕ) × (k + 1 ≡ length (rows_made inputs steps)) × IsAbsurd (slice_index_or (rows_made inputs steps) k nothing)
+  pub ends : (k : ℕ) × (k + 1 ≡ length (rows_made inputs steps))
+      × IsAbsurd (slice_index_or (rows_made inputs steps) k nothing)
 
 -- the step is made from the row of step i
 abbrev pub names : RowStep → ℕ → Bool

@@ -19,7 +19,8 @@ use std::alloc::Global;
 /// How many rows are kept at most.
 const MAX_ROWS: usize = 20000;
 
-/// The factor of a column, 0 where the row has none. The columns of a row ascend, so that no part after a greater one is looked at.
+/// The factor of a column, 0 where the row has none. The columns of a row ascend, so that no part after a greater one
+/// is looked at.
 pub(crate) fn factor_of(row: &Row, column: u32) -> i128
     requires { IsProper row.now.parts }
     ensures { result ≡ factor_of column row.now.parts }
@@ -35,8 +36,9 @@ pub(crate) fn factor_of(row: &Row, column: u32) -> i128
     0
 }
 
-/// A row comes into the list, derived by a step: divided by the greatest common divisor of its factors, with its bound rounded down
-/// (Gomory 1958; Chvátal 1973). A row that says nothing is left out, and one that cannot be met ends the elimination.
+/// A row comes into the list, derived by a step: divided by the greatest common divisor of its factors, with its bound
+/// rounded down (Gomory 1958; Chvátal 1973). A row that says nothing is left out, and one that cannot be met ends the
+/// elimination.
 pub(crate) fn comes_in(
     alloc: Global,
     inputs: &[Row],
@@ -93,10 +95,12 @@ fn combine(
     requires second { IsDerivedRow (rows_made inputs.now steps.old) s.now }
     requires derived { IsDerivation inputs.now steps.old list.old }
 
-    ensures continues { OnOk result (come_in column (combined column r.now.row s.now.row) (rows_of list.old) ≡ continues (rows_of list.new)) }
+    ensures continues { OnOk result (come_in column (combined column r.now.row s.now.row) (rows_of list.old)
+        ≡ continues (rows_of list.new)) }
     ensures derived { OnOk result (IsDerivation inputs.now steps.new list.new) }
     ensures extends { OnOk result (Extends steps.old steps.new) }
-    ensures stops { IfErr result (λ stop. Stops inputs.now stop (come_in column (combined column r.now.row s.now.row) (rows_of list.old))) }
+    ensures stops { IfErr result (λ stop. Stops inputs.now stop (come_in column (combined column r.now.row s.now.row)
+        (rows_of list.old))) }
 {
     let p = size_of_factor(&r.row, column);
     let q = size_of_factor(&s.row, column);
@@ -138,10 +142,12 @@ fn combine_all(
     requires rows { AreDerivedRows (rows_made inputs.now steps.old) rows.now }
     requires derived { IsDerivation inputs.now steps.old list.old }
 
-    ensures continues { OnOk result (all_come_in column (combined_with column r.now.row (rows_of rows.now)) (rows_of list.old) ≡ continues (rows_of list.new)) }
+    ensures continues { OnOk result (all_come_in column (combined_with column r.now.row (rows_of rows.now))
+        (rows_of list.old) ≡ continues (rows_of list.new)) }
     ensures derived { OnOk result (IsDerivation inputs.now steps.new list.new) }
     ensures extends { OnOk result (Extends steps.old steps.new) }
-    ensures stops { IfErr result (λ stop. Stops inputs.now stop (all_come_in column (combined_with column r.now.row (rows_of rows.now)) (rows_of list.old))) }
+    ensures stops { IfErr result (λ stop. Stops inputs.now stop (all_come_in column (combined_with column r.now.row
+        (rows_of rows.now)) (rows_of list.old))) }
 {
     for s in rows {
         if factor_of(&s.row, column) > 0 {
@@ -160,7 +166,8 @@ fn partition(
     requires { AllComputable (rows_of rows.now) }
     ensures with { IfOk result (λ lists. rows_of lists.0 ≡ filter (has_column column) (rows_of rows.now)) }
     ensures free { IfOk result (λ lists. rows_of lists.1 ≡ filter (is_free column) (rows_of rows.now)) }
-    ensures derived { IfOk result (λ lists. (made : List Row) → AreDerivedRows made rows.now → AreDerivedRows made lists.0 × AreDerivedRows made lists.1) }
+    ensures derived { IfOk result (λ lists. (made : List Row) → AreDerivedRows made rows.now
+        → AreDerivedRows made lists.0 × AreDerivedRows made lists.1) }
 {
     let mut with = Items::new(alloc);
     let mut free = Items::new(alloc);
@@ -187,10 +194,12 @@ fn combine_rows(
     requires rows { AreDerivedRows (rows_made inputs.now steps.old) rows.now }
     requires derived { IsDerivation inputs.now steps.old list.old }
 
-    ensures continues { OnOk result (all_come_in column (combinations column (rows_of rows.now)) (rows_of list.old) ≡ continues (rows_of list.new)) }
+    ensures continues { OnOk result (all_come_in column (combinations column (rows_of rows.now)) (rows_of list.old)
+        ≡ continues (rows_of list.new)) }
     ensures derived { OnOk result (IsDerivation inputs.now steps.new list.new) }
     ensures extends { OnOk result (Extends steps.old steps.new) }
-    ensures stops { IfErr result (λ stop. Stops inputs.now stop (all_come_in column (combinations column (rows_of rows.now)) (rows_of list.old))) }
+    ensures stops { IfErr result (λ stop. Stops inputs.now stop (all_come_in column (combinations column
+        (rows_of rows.now)) (rows_of list.old))) }
 {
     for r in rows {
         if factor_of(&r.row, column) < 0 {

@@ -18,15 +18,16 @@ use std::alloc::{AllocError, Global};
 /// What the rows come to.
 #[derive(Drop)]
 pub enum Eliminated {
-    /// No integers meet the rows: the last of these steps derives a row with no factor and a bound below 0. Each other step is one
-    /// from which a later step is made, each cut divides by more than 1, and all rows are within the bounds.
+    /// No integers meet the rows: the last of these steps derives a row with no factor and a bound below 0. Each other
+    /// step is one from which a later step is made, each cut divides by more than 1, and all rows are within the
+    /// bounds.
     Refuted(Items<RowStep>),
     /// The values of the rows' columns, in ascending order of the columns. They meet all rows.
     Point(Items<i128>),
     /// Given the values of the columns after it, no integer is left for this column. Other values may meet the rows.
     Gap(u32),
-    /// A number went beyond its bound at this column: a factor beyond 2^58 or a bound beyond 2^66 in a combination, what a row leaves
-    /// for the column beyond 128 bits, or a value beyond 2^56, all in absolute value.
+    /// A number went beyond its bound at this column: a factor beyond 2^58 or a bound beyond 2^66 in a combination,
+    /// what a row leaves for the column beyond 128 bits, or a value beyond 2^56, all in absolute value.
     Wide(u32),
     /// More than 20000 rows with left sides of their own were left at a time.
     Many,
@@ -61,8 +62,8 @@ impl From<AllocError> for Stop {
     }
 }
 
-/// Eliminates the columns in ascending order, and then chooses a value for each, from the last to the first, as near to 0 as the rows
-/// let it be (Fourier-Motzkin elimination; Dantzig and Eaves 1973).
+/// Eliminates the columns in ascending order, and then chooses a value for each, from the last to the first, as near to
+/// 0 as the rows let it be (Fourier-Motzkin elimination; Dantzig and Eaves 1973).
 ///
 /// Out of memory is the only error. More than 2^32 rows, or a step after 2^32 - 1 others, count as such.
 pub fn eliminate(alloc: Global, rows: &[Row]) -> Result<Eliminated, NoMemory>
@@ -168,8 +169,10 @@ fn choose_values(
 ) -> Result<Items<i128>, Stop>
     requires count { length lists.now ≡ length columns.now }
     requires computable { (i : ℕ) → i < length columns.now → AllComputable (rows_of (list_at lists.now i)) }
-    ensures point { IfOk result (λ values. (first : List Row) → DescendsFrom columns.now first lists.now → solved columns.now first ≡ point values) }
-    ensures fails { IfErr result (λ stop. (first : List Row) → DescendsFrom columns.now first lists.now → Fails inputs.now stop (solved columns.now first)) }
+    ensures point { IfOk result (λ values. (first : List Row) → DescendsFrom columns.now first lists.now
+        → solved columns.now first ≡ point values) }
+    ensures fails { IfErr result (λ stop. (first : List Row) → DescendsFrom columns.now first lists.now
+        → Fails inputs.now stop (solved columns.now first)) }
 {
     let mut values = Items::from_vec(vec![in alloc; 0; columns.len()]?);
     for i in (0..columns.len()).rev() {

@@ -61,7 +61,8 @@ fn is_less(list: &[DerivedRow], place: usize, bound: i128) -> bool
 /// The lesser bound takes the place of the row with the same left side, or the row continues last.
 pub(crate) fn join(list: &mut Items<DerivedRow>, derived: DerivedRow) -> Result<(), NoMemory>
     ensures rows { OnOk result (rows_of list.new ≡ joined derived.row (rows_of list.old)) }
-    ensures derived { OnOk result ((made : List Row) → IsDerivedRow made derived → AreDerivedRows made list.old → AreDerivedRows made list.new) }
+    ensures derived { OnOk result ((made : List Row) → IsDerivedRow made derived → AreDerivedRows made list.old
+        → AreDerivedRows made list.new) }
 {
     match place_of(list.as_slice(), derived.row.parts.as_slice()) {
         Some(place) => {

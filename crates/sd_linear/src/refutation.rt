@@ -67,7 +67,8 @@ fn copied(alloc: Global, steps: &[RowStep], marks: &[bool]) -> Result<Items<RowS
     requires small { length steps.now < 2 ^ 32 }
     requires earlier { AllEarlier steps.now }
     requires marks { AreNeeded steps.now marks.now }
-    ensures { IfOk result (λ kept. (inputs : List Row) → Refutes inputs steps.now → AllWithin (rows_made inputs steps.now) → AreUseful inputs [] steps.now → IsRefutation inputs kept) }
+    ensures { IfOk result (λ kept. (inputs : List Row) → Refutes inputs steps.now
+        → AllWithin (rows_made inputs steps.now) → AreUseful inputs [] steps.now → IsRefutation inputs kept) }
 {
     let mut kept = Items::new(alloc);
     let mut numbers = Vec::new(alloc);

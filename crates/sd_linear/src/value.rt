@@ -161,9 +161,12 @@ pub(crate) fn choose(
 ) -> Result<i128, Eliminated>
     requires rows { AllComputable (rows_of rows.now) }
     requires values { AllNear values.now }
-    ensures chosen { IfOk result (λ v. in_range column values.now (range_in column (value_of columns.now values.now) (rows_of rows.now) (None, None)) ≡ point (v ∷ values.now)) }
+    ensures chosen { IfOk result (λ v. in_range column values.now (range_in column (value_of columns.now values.now)
+        (rows_of rows.now) (None, None)) ≡ point (v ∷ values.now)) }
     ensures near { IfOk result (λ v. unsigned_abs v ≤ 2 ^ 56) }
-    ensures ends { IfErr result (λ e. answer_of e ≡ in_range column values.now (range_in column (value_of columns.now values.now) (rows_of rows.now) (None, None))) }
+    ensures ends { IfErr result (λ e. answer_of e
+        ≡ in_range column values.now (range_in column (value_of columns.now values.now) (rows_of rows.now)
+        (None, None))) }
     ensures justified { IfErr result (λ e. (inputs : List Row) → Justified inputs e) }
     ensures no_point { IfErr result (λ e. IsNoPoint e) }
 {
