@@ -7,7 +7,7 @@ use Rattle.std.proofs.lemmas.Bool.{and_parts}
 use Rattle.sd_base.specs.declared.Sort.{Sort, Int, Bool, Named}
 use Rattle.sd_base.specs.declared.Var.{Var}
 use Rattle.sd_base.specs.Value.{Text, same_text}
-use Rattle.sd_base.specs.Sorts.{MapOf}
+use Rattle.sd_base.specs.Sorts.{MapOf, same_sort}
 use Rattle.sd_ast.specs.Tree.{names_of}
 use Rattle.sd_ast.specs.declared.Decl.{Decl}
 use Rattle.sd_ast.specs.declared.Decl.TheVariants.{Const, Function, Globals}
@@ -30,14 +30,14 @@ use Rattle.sd_types.specs.declared.scope.Site.TheVariants as site
 use Rattle.sd_types.specs.Answer.{and_then, both, each}
 use Rattle.sd_types.specs.Tables.{named}
 use Rattle.sd_types.specs.Scopes.{Context, context, declared_as}
-use Rattle.sd_types.specs.Phrases.{known_sort, same_sort, is_of, sort_of, is_truth}
+use Rattle.sd_types.specs.Phrases.{known_sort, is_of, sort_of, is_truth}
 use Rattle.sd_types.specs.Phrases.{index_sort}
 use Rattle.sd_types.specs.Statements.{routine}
 use Rattle.sd_types.specs.Declarations.{variables_as, constants_of, parameters, modifies_of, callee_of, locals_of, own_names, nothing, known_sorts, known_vars, head_rule, spec_rule, body_variables, body_stmts_rule, body_rule, own_body_rule, procedure_rule, have_sorts, same_types, decl_rule, WellTyped}
 use Rattle.sd_types.specs.Typing.{HasType}
 use Rattle.sd_types.specs.TypedBodies.{IsTypedBody, IsTypedOwnBody, HasTypedBody, HaveTypedBodies}
 use Rattle.sd_types.proofs.TypingLemmas.{parts, ok_is, fits-same, types_exact}
-use Rattle.sd_types.proofs.SortTests.{sort_is}
+use Rattle.sd_base.proofs.SortLemmas.{same_sort-is}
 use Rattle.sd_types.proofs.TypedBodyLemmas.{typed_scope, bodies_typed}
 use Rattle.sd_core.specs.Formed.{sorts_of, IsIndexSort, IsSort}
 use Rattle.sd_extract.proofs.FormedChecks.{is_declared, each_all, EachChecked, EachTyped, stmts_checked, all_typed}
@@ -202,7 +202,7 @@ same_sorts [] (v ∷ vs) h = absurd (cc)
 same_sorts (s ∷ ss) [] h = absurd (cc)
 same_sorts (s ∷ ss) (v ∷ vs) h =
     let k = and_parts (same_sort s v.sort) (have_sorts ss vs) h in
-    let e = sort_is s v.sort k.0 in let f = same_sorts ss vs k.1 in
+    let e = same_sort-is s v.sort k.0 in let f = same_sorts ss vs k.1 in
     λ i. sym e i ∷ f i
 
 types_same : (h : Head) (q : Callee) (u : Unit {0}) → same_types h q ≡ Ok u → (sorts_of h.ins ≡ q.ins) × (sorts_of h.outs ≡ q.outs)

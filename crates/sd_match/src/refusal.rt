@@ -106,7 +106,7 @@ fn retyped_global<'a>(
 
 // ---- functions and constants
 
-/// Whether it is a constant, or isn't, as is asked.
+/// Whether it is a constant as wanted.
 fn is_as(function: &Function, constant: bool) -> bool
     ensures { result ≡ beq function.now.constant constant }
 {

@@ -1,6 +1,6 @@
 -- Phrases beside the types that are wanted of them.
 use Rattle.std.proofs.Common.{◌≡◌, ℕ, ◌≤◌, List, [], ◌∷◌, Result, Ok, Err, IsErrAnd, refl, sym, ap, ◌∙◌, subst, drop, length, Bool, true, false}
-use Rattle.std.specs.Prelude.{if◌then◌else◌}
+use Rattle.std.specs.Prelude.{if◌then◌else◌, ◌↔◌, IsTrue}
 use Rattle.sd_base.specs.declared.sort.Sort.{Sort}
 use Rattle.sd_base.specs.declared.sort.Place.{Place}
 use Rattle.sd_base.specs.Value.{Text}
@@ -12,7 +12,8 @@ use Rattle.sd_types.specs.declared.refusal.TypeError.TheVariants.{Kind}
 use Rattle.sd_types.specs.declared.scope.Given.{Given}
 use Rattle.sd_types.specs.Answer.{and_then, Answers}
 use Rattle.sd_types.specs.Scopes.{Context}
-use Rattle.sd_types.specs.Phrases.{agree, at_place, sort_of, sorts_of, given, all_given, applied}
+use Rattle.sd_types.specs.Phrases.{is_of, agree, at_place, sort_of, sorts_of, given, all_given, applied}
+use Rattle.sd_base.proofs.SortLemmas.{same_sort-test}
 use Rattle.sd_types.proofs.AnswerLemmas.{drop-end, goes_on}
 
 agree-none : (ss : List Sort) → agree ss [] ≡ Ok tt
@@ -78,3 +79,11 @@ old-allowed p {s = s} {b = b} h k t = record { ok = rw h (rw (sym k ∙ t) refl)
 
 pub old-refused : (p : Place) {d : Result Sort TypeError} {s : Sort} {b r : Bool} → d ≡ Ok s → r ≡ b → r ≡ false → Answers (and_then d (λ s. if b then Ok s else Err (Kind p))) (Err (Kind p))
 old-refused p h k t = record { ok = tt; err = λ _. rw h (rw (sym k ∙ t) refl) }
+
+-- ---- tests of types
+
+pub fits : (w : Sort) (p : Place) (s : Sort) (r : Bool) → (IsTrue r ↔ (w ≡ s)) → r ≡ true → Ok tt ≡ is_of w p s
+fits w p s r h e = rw (sym (same_sort-test w s r h) ∙ e) refl
+
+pub fits_not : (w : Sort) (p : Place) (s : Sort) (r : Bool) → (IsTrue r ↔ (w ≡ s)) → r ≡ false → Err (Kind p) ≡ is_of w p s
+fits_not w p s r h e = rw (sym (same_sort-test w s r h) ∙ e) refl

@@ -3,6 +3,7 @@ use Rattle.std.proofs.Common.{◌≡◌, ℕ, suc, ◌+◌, ◌<◌, Bool, true,
 use Rattle.std.specs.Prelude.{◌↔◌, ◌&&◌, IsTrue}
 use Rattle.std.proofs.lemmas.List.{take_more}
 use Rattle.sd_base.specs.Value.{Text, same_text}
+use Rattle.sd_base.specs.Sorts.{same_sort}
 use Rattle.sd_base.specs.declared.sort.Sort.{Sort}
 use Rattle.sd_base.specs.declared.sort.Var.{Var}
 use Rattle.sd_ast.specs.declared.tree.Head.{Head}
@@ -20,11 +21,11 @@ use Rattle.sd_types.specs.Answer.{Answers, each}
 use Rattle.sd_types.specs.Names.{HaveSame}
 use Rattle.sd_types.specs.Tables.{named, FindSame}
 use Rattle.sd_types.specs.Scopes.{context, if_named, or_global, has_old}
-use Rattle.sd_types.specs.Phrases.{is_truth, same_sort}
+use Rattle.sd_types.specs.Phrases.{is_truth}
 use Rattle.sd_types.specs.Statements.{routine, each_stmt}
 use Rattle.sd_types.specs.Declarations.{variables_as, parameters, body_variables, spec_rule, body_stmts_rule, have_sorts}
 use Rattle.sd_types.proofs.AnswerLemmas.{drop-at}
-use Rattle.sd_types.proofs.SortTests.{same_sort-test}
+use Rattle.sd_base.proofs.SortLemmas.{same_sort-test}
 
 -- ---- tables
 

@@ -4,7 +4,7 @@ use Rattle.std.specs.Prelude.{◌==◌, if◌then◌else◌}
 use Rattle.sd_base.specs.declared.sort.Sort.{Sort, Int, Bool}
 use Rattle.sd_base.specs.declared.sort.Place.{Place}
 use Rattle.sd_base.specs.Value.{Text}
-use Rattle.sd_base.specs.Sorts.{MapOf}
+use Rattle.sd_base.specs.Sorts.{MapOf, same_sort}
 use Rattle.sd_ast.specs.declared.tree.BinOp.{BinOp}
 use Rattle.sd_ast.specs.declared.tree.BinOp.TheVariants as op
 use Rattle.sd_ast.specs.declared.tree.UnOp.{UnOp}
@@ -18,9 +18,9 @@ use Rattle.sd_types.specs.declared.scope.Signature.{Signature}
 use Rattle.sd_types.specs.declared.scope.Given.{Given}
 use Rattle.sd_types.specs.Answer.{and_then, both}
 use Rattle.sd_types.specs.Scopes.{Context}
-use Rattle.sd_types.specs.Phrases.{same_sort, is_of, agree, same_number, unary_sort, from_to, binary_sort, selected, stored, applied, sort_in, at_place, sort_of, sorts_of}
+use Rattle.sd_types.specs.Phrases.{is_of, agree, same_number, unary_sort, from_to, binary_sort, selected, stored, applied, sort_in, at_place, sort_of, sorts_of}
 use Rattle.sd_types.specs.Typing.{Joins, TakesOne, TakesTwo, HasType, HaveTypes, TypesAreExact}
-use Rattle.sd_types.proofs.SortTests.{sort_is, same_sort-refl}
+use Rattle.sd_base.proofs.SortLemmas.{same_sort-is, same_sort-refl}
 
 -- ---- checks that passed
 
@@ -42,7 +42,7 @@ pub fits-same : (w : Sort) (p : Place) (s : Sort) (u : Unit {0}) → is_of w p s
 fits-same w p s u = go (same_sort w s) refl
   where
     go : (b : Test) → same_sort w s ≡ b → (if b then Ok tt else Err (Kind p)) ≡ Ok u → w ≡ s
-    go true e h = sort_is w s e
+    go true e h = same_sort-is w s e
     go false e h = absurd (cc)
 
 same-fits : (w : Sort) (p : Place) (s : Sort) → w ≡ s → is_of w p s ≡ Ok tt

@@ -2,6 +2,7 @@
 use Rattle.std.specs.Prelude.{◌≡◌, Bool, true, false, ◌&&◌, List, [], ◌∷◌, ◌++◌, map, Option, Some, None, Result, Ok, Err, if◌then◌else◌}
 use Rattle.sd_base.specs.declared.sort.Sort.{Sort}
 use Rattle.sd_base.specs.declared.sort.Var.{Var}
+use Rattle.sd_base.specs.Sorts.{same_sort}
 use Rattle.sd_base.specs.Value.{Text}
 use Rattle.sd_ast.specs.declared.tree.Expr.{Expr}
 use Rattle.sd_ast.specs.declared.tree.Head.{Head}
@@ -26,7 +27,7 @@ use Rattle.sd_types.specs.Names.{is_among}
 use Rattle.sd_types.specs.Answer.{and_then, both, each}
 use Rattle.sd_types.specs.Tables.{named, with_name, with_names, with_entry, with_entries}
 use Rattle.sd_types.specs.Scopes.{context, declared_as}
-use Rattle.sd_types.specs.Phrases.{known_sort, same_sort, is_truth}
+use Rattle.sd_types.specs.Phrases.{known_sort, is_truth}
 use Rattle.sd_types.specs.Statements.{routine, each_stmt, is_global}
 
 -- ---- what is declared

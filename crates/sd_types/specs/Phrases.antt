@@ -1,9 +1,9 @@
 -- The types of types and expressions, or the first rule that is broken: from left to right, inner phrases first.
-use Rattle.std.specs.Prelude.{Bool as Test, true, false, ◌&&◌, ◌==◌, List, [], ◌∷◌, length, Option, Some, None, Result, Ok, Err, codes, if◌then◌else◌}
+use Rattle.std.specs.Prelude.{Bool as Test, true, false, ◌==◌, List, [], ◌∷◌, length, Option, Some, None, Result, Ok, Err, codes, if◌then◌else◌}
 use Rattle.sd_base.specs.declared.sort.Sort.{Sort, Int, Bool, Named}
 use Rattle.sd_base.specs.declared.sort.Place.{Place}
-use Rattle.sd_base.specs.Value.{Text, same_text}
-use Rattle.sd_base.specs.Sorts.{MapOf}
+use Rattle.sd_base.specs.Value.{Text}
+use Rattle.sd_base.specs.Sorts.{MapOf, same_sort}
 use Rattle.sd_ast.specs.declared.tree.BinOp.{BinOp}
 use Rattle.sd_ast.specs.declared.tree.BinOp.TheVariants as op
 use Rattle.sd_ast.specs.declared.tree.UnOp.{UnOp}
@@ -36,14 +36,7 @@ known_sort types Bool = Ok tt
 known_sort types (Named t) = if is_among types t then Ok tt else Err (Unknown t)
 known_sort types (MapOf i v) = both (known_sort types i) (both (known_sort types v) (index_sort i))
 
-abbrev pub same_sort : Sort → Sort → Test
-same_sort Int Int = true
-same_sort Bool Bool = true
-same_sort (Named t) (Named u) = same_text t u
-same_sort (MapOf i v) (MapOf j w) = same_sort i j && same_sort v w
-same_sort _ _ = false
-
--- ---- what operators ask of their parts
+-- ---- what operators need of their parts
 
 -- a phrase at this place has this type
 abbrev pub is_of : Sort → Place → Sort → Result (Unit {0}) TypeError

@@ -16,6 +16,7 @@ use Rattle.sd_types.specs.declared.scope.Site.TheVariants as site
 use Rattle.sd_types.specs.declared.scope.Variable.{Variable}
 use Rattle.sd_types.specs.declared.scope.Callee.{Callee}
 use Rattle.sd_types.specs.declared.scope.Scope.{Scope}
+use Rattle.sd_types.specs.declared.scope.Frame.{Frame}
 use Rattle.sd_types.specs.declared.scope.Given.{Given}
 use Rattle.sd_types.specs.Names.{is_among}
 use Rattle.sd_types.specs.Answer.{and_then, both, each, all_of}
@@ -31,6 +32,9 @@ pub record Routine : Type 0 where
 
 abbrev pub routine : Scope → List (Text × Variable) → List Text → Routine
 routine G locals M = record { scope = G; context = context G locals site.Body; modifies = is_among M }
+
+abbrev pub routine_of : Frame → Routine
+routine_of f = routine f.scope.now f.locals.now f.modifies.now
 
 -- ---- names that are assigned
 

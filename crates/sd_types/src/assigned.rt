@@ -5,11 +5,11 @@ ghost use Rattle.sd_types.specs.declared.scope.Site.TheVariants as spot;
 ghost use Rattle.sd_types.specs.Names.{is_among};
 ghost use Rattle.sd_types.specs.Answer.{Answers, each, all_of};
 ghost use Rattle.sd_types.specs.Scopes.{context};
-ghost use Rattle.sd_types.specs.Statements.{Routine, routine, distinct, targets, assigned_as, assignable, indexed, left_sort, left_names, typed_indices, modified_rule, is_global};
+ghost use Rattle.sd_types.specs.Statements.{routine_of, distinct, targets, assigned_as, assignable, indexed, left_sort, left_names, typed_indices, modified_rule, is_global};
 
 use crate::phrase::{given_args, select, sort_named};
 use crate::refusal::{TypeError, not_modified, read_only, unknown};
-use crate::scope::{Given, Nature, Scope, Site, Variable, find_variable};
+use crate::scope::{Frame, Given, Nature, Scope, Site, Variable, find_variable};
 use crate::table::{NameList, Table};
 use sd_ast::Left;
 use sd_base::{CloneOf, Name, NoMemory, Place, Sort};
@@ -69,15 +69,13 @@ fn check_nature(
 /// Sees that a variable may be assigned.
 fn check_assignable(
     alloc: Global,
-    scope: &Scope,
-    locals: &Table<Variable>,
-    modifies: &NameList,
+    frame: &Frame<'_>,
     name: &Name,
 ) -> Result<(), TypeError>
-    ensures { Answers (assignable (routine scope.now locals.now modifies.now) name.now) result }
+    ensures { Answers (assignable (routine_of frame.now) name.now) result }
 {
-    match find_variable(scope, locals, Site::Body, name) {
-        Some(variable) => check_nature(alloc, modifies, name, variable.nature),
+    match find_variable(frame.scope, frame.locals, Site::Body, name) {
+        Some(variable) => check_nature(alloc, frame.modifies, name, variable.nature),
         None => unknown(alloc, name),
     }
 }
@@ -85,15 +83,13 @@ fn check_assignable(
 /// Sees that each of the variables may be assigned.
 pub(crate) fn check_all_assignable(
     alloc: Global,
-    scope: &Scope,
-    locals: &Table<Variable>,
-    modifies: &NameList,
+    frame: &Frame<'_>,
     names: &Items<Name>,
 ) -> Result<(), TypeError>
-    ensures { Answers (each (assignable (routine scope.now locals.now modifies.now)) names.now) result }
+    ensures { Answers (each (assignable (routine_of frame.now)) names.now) result }
 {
     for name in names.as_slice() {
-        check_assignable(alloc, scope, locals, modifies, name)?;
+        check_assignable(alloc, frame, name)?;
     }
     Ok(())
 }
@@ -111,15 +107,13 @@ pub(crate) fn is_global_variable(variable: Option<&Variable>) -> bool
 /// Sees that a global which a callee modifies is in the caller's `modifies`.
 fn check_modified(
     alloc: Global,
-    scope: &Scope,
-    locals: &Table<Variable>,
-    modifies: &NameList,
+    frame: &Frame<'_>,
     name: &Name,
 ) -> Result<(), TypeError>
-    ensures { Answers (modified_rule (routine scope.now locals.now modifies.now) name.now) result }
+    ensures { Answers (modified_rule (routine_of frame.now) name.now) result }
 {
-    if is_global_variable(scope.globals.get(name)) {
-        if modifies.has(name) {
+    if is_global_variable(frame.scope.globals.get(name)) {
+        if frame.modifies.has(name) {
             Ok(())
         } else {
             not_modified(alloc, name)
@@ -132,15 +126,13 @@ fn check_modified(
 /// The same for each of the names in the callee's `modifies`.
 pub(crate) fn check_all_modified(
     alloc: Global,
-    scope: &Scope,
-    locals: &Table<Variable>,
-    modifies: &NameList,
+    frame: &Frame<'_>,
     names: &Items<Name>,
 ) -> Result<(), TypeError>
-    ensures { Answers (each (modified_rule (routine scope.now locals.now modifies.now)) names.now) result }
+    ensures { Answers (each (modified_rule (routine_of frame.now)) names.now) result }
 {
     for name in names.as_slice() {
-        check_modified(alloc, scope, locals, modifies, name)?;
+        check_modified(alloc, frame, name)?;
     }
     Ok(())
 }

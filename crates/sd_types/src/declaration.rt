@@ -12,7 +12,7 @@ use crate::assigned::is_global_variable;
 use crate::declare::modifies_of;
 use crate::phrase::{check_sort, expect_truth};
 use crate::refusal::{TypeError, unknown};
-use crate::scope::{Callee, Nature, Scope, Site, Variable};
+use crate::scope::{Callee, Frame, Nature, Scope, Site, Variable};
 use crate::statement::check_stmts;
 use crate::table::{NameList, Table, name_set};
 use sd_ast::{Body, Decl, Expr, Head, Impl, Proc, Spec};
@@ -162,7 +162,12 @@ fn check_body_stmts(
 {
     let locals = body_table(alloc, head, body)?;
     let modifies = name_set(alloc, modifies)?;
-    check_stmts(alloc, scope, &locals, &modifies, false, &body.stmts)
+    let frame = Frame {
+        scope,
+        locals: &locals,
+        modifies: &modifies,
+    };
+    check_stmts(alloc, &frame, false, &body.stmts)
 }
 
 fn check_body(

@@ -52,6 +52,14 @@ pub struct Scope {
     pub bodies: NameList,
 }
 
+/// What the statements of a body see: the text, the variables of the body, and the `modifies` of the procedure.
+#[derive(Clone, Copy)]
+pub(crate) struct Frame<'a> {
+    pub scope: &'a Scope,
+    pub locals: &'a Table<Variable>,
+    pub modifies: &'a NameList,
+}
+
 /// Where an expression stands.
 #[derive(Clone, Copy, Debug, PartialEq, Eq)]
 pub enum Site {

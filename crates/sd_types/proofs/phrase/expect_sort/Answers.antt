@@ -1,4 +1,4 @@
-use Rattle.sd_types.proofs.SortTests.{fits, fits_not}
+use Rattle.sd_types.proofs.GivenLemmas.{fits, fits_not}
 use Rattle.sd_types.proofs.phrase.expect_sort.Goals as goal
 
 pub returns-then-is_same_sort : goal.returns-then-is_same_sort
