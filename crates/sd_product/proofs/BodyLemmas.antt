@@ -8,10 +8,10 @@ use Rattle.sd_vcgen.specs.Body.{Context}
 use Rattle.sd_product.specs.Query.{Claimed, Work, Infallibles, old_context, new_context, facts_of, query_by}
 use Rattle.sd_product.specs.Work.{Held, work_of}
 use Rattle.sd_product.specs.Work as held
-use Rattle.sd_product.specs.declared.facts.Question.{Question}
+use Rattle.sd_product.specs.declared.facts.Obligation.{Obligation}
 use Rattle.sd_product.specs.declared.sides.Sides.{Sides}
 use Rattle.sd_product.specs.Sides.{AreSides, side_at, IsSideWithin}
-use Rattle.sd_product.specs.Questions.{work_in, infallibles_in, AreSidesFor}
+use Rattle.sd_product.specs.Obligations.{work_in, infallibles_in, AreSidesFor}
 use Rattle.sd_product.proofs.SideLemmas.{side_within, facts_same}
 
 pub sides_within : (C D : Context) (bank : List Tree) (p q : Option CoreProc) (n : Sides) → AreSides C D bank p q (Some n) → IsSideWithin bank n.old × IsSideWithin bank n.new
@@ -37,8 +37,8 @@ module _ (w : Work) (z : Infallibles) (table : List Bool) (x : Claimed) (bank : 
 pub some_is : {A : Type 0} (a b : A) → ◌≡◌ {A = Option A} (Some a) (Some b) → a ≡ b
 some_is a b e = cc
 
--- the bodies of a pair are those of a question about it
-pub sides_for : (h : Held) (q : Question) (bank : List Tree) (o : Option Sides) (own : Pair) → work_in q ≡ work_of h.old h.new → infallibles_in q ≡ held.infallibles_in h → own ≡ q.pair.now
+-- the bodies of a pair are those of an obligation about it
+pub sides_for : (h : Held) (q : Obligation) (bank : List Tree) (o : Option Sides) (own : Pair) → work_in q ≡ work_of h.old h.new → infallibles_in q ≡ held.infallibles_in h → own ≡ q.pair.now
     → AreSides (old_context (work_of h.old h.new) (held.infallibles_in h)) (new_context (work_of h.old h.new) (held.infallibles_in h)) bank (slice_get h.old.procs own.old) (slice_get h.new.procs own.new) o → AreSidesFor q bank o
 sides_for h q bank o own work infallibles here s =
     subst (λ (k : Work × Infallibles × Pair). AreSides (old_context k.0 k.1) (new_context k.0 k.1) bank (slice_get k.0.old.procs k.2.old) (slice_get k.0.new.procs k.2.new) o) (λ i. (sym work i, sym infallibles i, here i)) s

@@ -8,7 +8,7 @@ use Rattle.sd_term.specs.Tree.{Tree}
 use Rattle.sd_term.specs.Build.{not_of, or_of}
 use Rattle.sd_term.specs.Truth.{Valuation, value, MakesTrue}
 use Rattle.sd_vcgen.specs.Body.{Site}
-use Rattle.sd_vcgen.specs.Law.{truth, InputsFit, SiteHolds, SitesHold}
+use Rattle.sd_vcgen.specs.Laws.{truth, InputsFit, SiteHolds, SitesHold}
 use Rattle.sd_vcgen.proofs.Truths.{first_on, second_on}
 use Rattle.sd_product.specs.Relations.{term_of, claim_term, claim_holds}
 use Rattle.sd_product.specs.Query.{Claimed, Work, is_live, site_inputs, site_ends, under, implication, is_about, calls_related, with_each, all_related}

@@ -9,7 +9,7 @@ use Rattle.sd_base.specs.Meaning.{Interpretation}
 use Rattle.sd_core.specs.Formed.{sorts_of}
 use Rattle.sd_core.specs.Meanings.{HaveSorts}
 use Rattle.sd_term.specs.Truth.{Valuation}
-use Rattle.sd_vcgen.specs.Law.{Carries}
+use Rattle.sd_vcgen.specs.Laws.{Carries}
 use Rattle.sd_vcgen.proofs.Logs.{sorted-length}
 
 pub vars-length : (vars : List Var) (xs : List Value) → HaveSorts (sorts_of vars) xs → length xs ≡ length vars

@@ -21,7 +21,7 @@ use Rattle.sd_term.specs.Build.{not_of, eq_of}
 use Rattle.sd_term.specs.Truth.{Valuation, value, MakesTrue}
 use Rattle.sd_term.proofs.Typed.{cast-same, sorted-has}
 use Rattle.sd_vcgen.specs.Body.{term_in}
-use Rattle.sd_vcgen.specs.Law.{Reads}
+use Rattle.sd_vcgen.specs.Laws.{Reads}
 use Rattle.sd_vcgen.proofs.Truths.{not_truth, first_on, second_on}
 use Rattle.sd_vcgen.proofs.Values.{term-value}
 use Rattle.sd_product.specs.Query.{no_terms, axioms_of, occurs, constant_term, apart_from, apart}

@@ -20,7 +20,7 @@ use Rattle.sd_match.specs.Pairs.{by_position, by_name, in_pairs, fixed_ins, root
 use Rattle.sd_cand.specs.declared.candidate.Relation.{Relation}
 use Rattle.sd_cand.specs.declared.candidate.Claim.{Claim}
 use Rattle.sd_cand.specs.declared.candidate.Claim.TheVariants.{Flag}
-use Rattle.sd_vcgen.specs.Law.{InputsFit}
+use Rattle.sd_vcgen.specs.Laws.{InputsFit}
 use Rattle.sd_product.specs.Relations.{entry, exit, related_at, all_hold, claim_holds}
 use Rattle.sd_product.specs.Summaries.{MutualSummaries, NoNewFailure}
 

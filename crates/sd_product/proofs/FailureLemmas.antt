@@ -28,7 +28,7 @@ use Rattle.sd_cand.specs.declared.candidate.Relation.{Relation}
 use Rattle.sd_cand.specs.declared.candidate.Claim.{Claim}
 use Rattle.sd_cand.specs.Candidates.{equal_inputs}
 use Rattle.sd_vcgen.specs.Body.{Context, Site, symbols, count_all, outs_of}
-use Rattle.sd_vcgen.specs.Law.{Reads, truth, all_true, SitesHold, IsRun, AreInputTerms, ValuationsAreRuns}
+use Rattle.sd_vcgen.specs.Laws.{Reads, truth, all_true, SitesHold, IsRun, AreInputTerms, ValuationsAreRuns}
 use Rattle.sd_vcgen.proofs.Symbols.{symbols-sort}
 use Rattle.sd_vcgen.proofs.Truths.{not_truth}
 use Rattle.sd_product.specs.Relations.{entry, term_of, claim_holds}

@@ -13,7 +13,7 @@ use Rattle.sd_term.specs.Tree.{Tree}
 use Rattle.sd_term.specs.Build.{not_of}
 use Rattle.sd_term.specs.Truth.{Valuation, value, MakesTrue, IsUnsatisfiable}
 use Rattle.sd_vcgen.specs.Body.{State, count_all, outs_of}
-use Rattle.sd_vcgen.specs.Law.{truth, Carries, InputsFit, IsRun, HasLog, RunsAreValuations}
+use Rattle.sd_vcgen.specs.Laws.{truth, Carries, InputsFit, IsRun, HasLog, RunsAreValuations}
 use Rattle.sd_vcgen.proofs.Logs.{carries_front, carries_back, symbols-value}
 use Rattle.sd_vcgen.proofs.Symbols.{symbols-sort}
 use Rattle.sd_vcgen.proofs.Truths.{not_truth}

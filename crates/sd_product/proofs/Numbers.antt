@@ -10,7 +10,7 @@ use Rattle.sd_term.specs.Tree.{Tree}
 use Rattle.sd_term.specs.Bank.{tree_at}
 use Rattle.sd_term.specs.Build.{Extends, not_of, or_of}
 use Rattle.sd_vcgen.specs.Body.{nothing}
-use Rattle.sd_vcgen.specs.Numbers.{Denotes, held}
+use Rattle.sd_vcgen.specs.Numbers.{Denotes, number_at}
 use Rattle.sd_vcgen.proofs.Stores.{map_absent}
 use Rattle.sd_vcgen.proofs.Numbers.{extends_self, extends_then, all_later, trees_later}
 use Rattle.sd_vcgen.proofs.Loops.{drop_split}
@@ -37,19 +37,19 @@ all-append P (x ∷ xs) ys h k (suc i) d lt = all-append P xs ys (λ j e l. h (s
 
 -- ---- states
 
-pub held_some : (bank : List Tree) (n : StateTerms) (s : Spot) (id : ℕ) → AreWithin bank n → held (numbers_of n) s ≡ Some id → Denotes bank id (read nothing (store_at bank n) s)
-held_some bank n (Slot i) id w e = record {
+pub number_at-some : (bank : List Tree) (n : StateTerms) (s : Spot) (id : ℕ) → AreWithin bank n → number_at (numbers_of n) s ≡ Some id → Denotes bank id (read nothing (store_at bank n) s)
+number_at-some bank n (Slot i) id w e = record {
   within = found (λ k. k < length bank) (n.ins.now ++ n.outs.now) i id e (all-append (λ k. k < length bank) n.ins.now n.outs.now w.ins w.outs);
   tree = sym (found-map (tree_at bank) (n.ins.now ++ n.outs.now) i id nothing e);
 }
-held_some bank n (Global i) id w e = record {
+number_at-some bank n (Global i) id w e = record {
   within = found (λ k. k < length bank) n.globals.now i id e w.globals;
   tree = sym (found-map (tree_at bank) n.globals.now i id nothing e);
 }
 
-pub held_none : (bank : List Tree) (n : StateTerms) (s : Spot) → held (numbers_of n) s ≡ None → read nothing (store_at bank n) s ≡ nothing
-held_none bank n (Slot i) e = map_absent (tree_at bank) (n.ins.now ++ n.outs.now) i nothing e
-held_none bank n (Global i) e = map_absent (tree_at bank) n.globals.now i nothing e
+pub number_at-none : (bank : List Tree) (n : StateTerms) (s : Spot) → number_at (numbers_of n) s ≡ None → read nothing (store_at bank n) s ≡ nothing
+number_at-none bank n (Slot i) e = map_absent (tree_at bank) (n.ins.now ++ n.outs.now) i nothing e
+number_at-none bank n (Global i) e = map_absent (tree_at bank) n.globals.now i nothing e
 
 pub within_later : (a b : List Tree) (n : StateTerms) → Extends a b → AreWithin a n → AreWithin b n
 within_later a b n h w = record { ins = all_later a b n.ins.now h w.ins; outs = all_later a b n.outs.now h w.outs; globals = all_later a b n.globals.now h w.globals }

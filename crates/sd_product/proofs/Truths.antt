@@ -12,7 +12,7 @@ use Rattle.sd_term.specs.Build.{not_of, or_of, relation_of}
 use Rattle.sd_term.specs.Truth.{Valuation, value, MakesTrue}
 use Rattle.sd_match.specs.declared.pair.SpotPair.{SpotPair}
 use Rattle.sd_vcgen.specs.Body as body
-use Rattle.sd_vcgen.specs.Law.{truth, all_true}
+use Rattle.sd_vcgen.specs.Laws.{truth, all_true}
 use Rattle.sd_vcgen.proofs.Stores.{read_map}
 use Rattle.sd_vcgen.proofs.Truths.{not_truth, or_truth, or_on, first_on, second_on}
 use Rattle.sd_cand.specs.declared.candidate.Relation.{Relation}

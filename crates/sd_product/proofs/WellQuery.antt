@@ -25,7 +25,7 @@ use Rattle.sd_cand.specs.declared.candidate.Relation.{Relation}
 use Rattle.sd_cand.specs.declared.candidate.Claim.{Claim}
 use Rattle.sd_cand.specs.declared.candidate.Claim.TheVariants.{Flag, Output}
 use Rattle.sd_vcgen.specs.Body.{Context, Site, nothing, symbols, term_in, count_all, body_of, outs_of}
-use Rattle.sd_vcgen.specs.Law.{IsSortedSite, site_terms}
+use Rattle.sd_vcgen.specs.Laws.{IsSortedSite, site_terms}
 use Rattle.sd_vcgen.proofs.Stores.{read_map}
 use Rattle.sd_vcgen.proofs.Symbols.{symbols-sort}
 use Rattle.sd_vcgen.proofs.Sorted.{bodies-are-sorted}

@@ -11,7 +11,7 @@ pub mod Numbers
 pub mod Claims
 pub mod Unique
 pub mod Sides
-pub mod Questions
+pub mod Obligations
 pub mod Fits
 pub mod Failures
 pub mod Judged

@@ -13,7 +13,7 @@ use Rattle.sd_term.specs.declared.build.Kind.TheVariants as kind
 use Rattle.sd_term.specs.Truth.{IsUnsatisfiable}
 use Rattle.sd_match.specs.Pairs.{same_types, inputs_of}
 use Rattle.sd_cand.specs.declared.candidate.Claim.TheVariants.{Flag}
-use Rattle.sd_vcgen.specs.Law.{InputsFit}
+use Rattle.sd_vcgen.specs.Laws.{InputsFit}
 use Rattle.sd_product.specs.Relations.{entry, exit, all_hold, claim_holds}
 use Rattle.sd_product.specs.Query.{Claimed, Work, Infallibles, is_live, query_of}
 

@@ -67,8 +67,8 @@ impl<'a> PairBodies<'a> {
         ensures { IfOk result (λ q. slice_get (queries_under self.now.work table.now) candidate ≡ Some q) }
     {
         let work = self.work;
-        let question = work.question(table, candidate);
-        let query = put_query(alloc, &question, &self.bank, &self.sides)?;
+        let obligation = work.obligation(table, candidate);
+        let query = put_query(alloc, &obligation, &self.bank, &self.sides)?;
         Ok(query)
     }
 }

@@ -6,7 +6,7 @@ ghost use Rattle.sd_vcgen.specs.Numbers.{Denotes, DenoteAll};
 ghost use Rattle.sd_product.specs.Query.{axioms_of, conditions_of, all_related, premises_of, claim_of, facts_of, query_of};
 ghost use Rattle.sd_product.specs.Numbers.{Adds};
 ghost use Rattle.sd_product.specs.Sides.{side_at, IsSideWithin};
-ghost use Rattle.sd_product.specs.Questions.{work_in, infallibles_in, asked, IsQuestion, IsSorted, AreSidesFor};
+ghost use Rattle.sd_product.specs.Obligations.{work_in, infallibles_in, candidate_in, HasTables, IsSorted, AreSidesFor};
 
 use crate::apart::put_uniques;
 use crate::calls::{Claims, put_all_related};
@@ -23,7 +23,7 @@ use std::alloc::Global;
 
 /// What a query is about: a candidate of a pair, and what is known of the calls of the two programs.
 #[derive(Clone, Copy)]
-pub(crate) struct Question<'a> {
+pub(crate) struct Obligation<'a> {
     pub(crate) old: Context<'a>,
     pub(crate) new: Context<'a>,
     pub(crate) claims: Claims<'a>,
@@ -51,22 +51,22 @@ fn put_program_axioms(
 fn put_conditions(
     bank: &mut Bank,
     facts: &mut Items<TermId>,
-    question: &Question<'_>,
+    obligation: &Obligation<'_>,
     old: &Side,
     new: &Side,
 ) -> Result<(), NoMemory>
     requires facts { All (λ id. id < length bank.old) facts.old }
     requires old { IsSideWithin bank.old old.now }
     requires new { IsSideWithin bank.old new.now }
-    ensures { OnOk result (Adds bank.old facts.old bank.new facts.new (conditions_of (asked question.now) (side_at bank.old old.now) (side_at bank.old new.now))) }
+    ensures { OnOk result (Adds bank.old facts.old bank.new facts.new (conditions_of (candidate_in obligation.now) (side_at bank.old old.now) (side_at bank.old new.now))) }
 {
     put_relations(
         bank,
         facts,
-        question.pair.inputs.as_slice(),
+        obligation.pair.inputs.as_slice(),
         &side_inputs(old),
         &side_inputs(new),
-        question.candidate.when.as_slice(),
+        obligation.candidate.when.as_slice(),
     )?;
     Ok(())
 }
@@ -85,21 +85,21 @@ fn add_assumptions(bank: &Bank, facts: &mut Items<TermId>, side: &Side) -> Resul
 fn put_calls(
     bank: &mut Bank,
     facts: &mut Items<TermId>,
-    question: &Question<'_>,
+    obligation: &Obligation<'_>,
     old: &Side,
     new: &Side,
 ) -> Result<(), NoMemory>
-    requires question { IsQuestion question.now }
+    requires tables { HasTables obligation.now }
     requires facts { All (λ id. id < length bank.old) facts.old }
     requires old { IsSideWithin bank.old old.now }
     requires new { IsSideWithin bank.old new.now }
-    ensures { OnOk result (Adds bank.old facts.old bank.new facts.new (all_related question.now.table.now (work_in question.now).claims (side_at bank.old old.now).body.sites (side_at bank.old new.now).body.sites)) }
+    ensures { OnOk result (Adds bank.old facts.old bank.new facts.new (all_related obligation.now.table.now (work_in obligation.now).claims (side_at bank.old old.now).body.sites (side_at bank.old new.now).body.sites)) }
 {
     put_all_related(
         bank,
         facts,
-        &question.claims,
-        question.table,
+        &obligation.claims,
+        obligation.table,
         old.body.sites.as_slice(),
         new.body.sites.as_slice(),
     )?;
@@ -110,43 +110,43 @@ fn put_calls(
 fn put_premises(
     bank: &mut Bank,
     facts: &mut Items<TermId>,
-    question: &Question<'_>,
+    obligation: &Obligation<'_>,
     old: &Side,
     new: &Side,
 ) -> Result<(), NoMemory>
-    requires question { IsQuestion question.now }
+    requires tables { HasTables obligation.now }
     requires facts { All (λ id. id < length bank.old) facts.old }
     requires old { IsSideWithin bank.old old.now }
     requires new { IsSideWithin bank.old new.now }
-    ensures { OnOk result (Adds bank.old facts.old bank.new facts.new (premises_of (work_in question.now) question.now.table.now (asked question.now) (side_at bank.old old.now) (side_at bank.old new.now))) }
+    ensures { OnOk result (Adds bank.old facts.old bank.new facts.new (premises_of (work_in obligation.now) obligation.now.table.now (candidate_in obligation.now) (side_at bank.old old.now) (side_at bank.old new.now))) }
 {
-    put_program_axioms(bank, facts, question.old.program)?;
-    put_program_axioms(bank, facts, question.new.program)?;
-    put_conditions(bank, facts, question, old, new)?;
+    put_program_axioms(bank, facts, obligation.old.program)?;
+    put_program_axioms(bank, facts, obligation.new.program)?;
+    put_conditions(bank, facts, obligation, old, new)?;
     add_assumptions(bank, facts, old)?;
     add_assumptions(bank, facts, new)?;
-    put_calls(bank, facts, question, old, new)?;
+    put_calls(bank, facts, obligation, old, new)?;
     Ok(())
 }
 
 // ---- the claim
 
 /// What the candidate claims of the ends of the two bodies.
-fn put_claimed(
+fn put_candidate_claim(
     bank: &mut Bank,
-    question: &Question<'_>,
+    obligation: &Obligation<'_>,
     old: &Side,
     new: &Side,
 ) -> Result<TermId, NoMemory>
     requires old { IsSideWithin bank.old old.now }
     requires new { IsSideWithin bank.old new.now }
-    ensures term { IfOk result (λ id. Denotes bank.new id (claim_of (asked question.now) (side_at bank.old old.now) (side_at bank.old new.now))) }
+    ensures term { IfOk result (λ id. Denotes bank.new id (claim_of (candidate_in obligation.now) (side_at bank.old old.now) (side_at bank.old new.now))) }
     ensures kept { OnOk result (Extends bank.old bank.new) }
 {
     let claim = put_claim(
         bank,
-        question.pair.outputs.as_slice(),
-        question.candidate.claim,
+        obligation.pair.outputs.as_slice(),
+        obligation.candidate.claim,
         &EndTerms {
             state: side_ends(old),
             flag: old.body.flag,
@@ -162,24 +162,24 @@ fn put_claimed(
 /// The premises, then that unique constants differ, and last the denial of the claim.
 fn put_facts(
     bank: &mut Bank,
-    question: &Question<'_>,
+    obligation: &Obligation<'_>,
     old: &Side,
     new: &Side,
 ) -> Result<Items<TermId>, NoMemory>
-    requires question { IsQuestion question.now }
+    requires tables { HasTables obligation.now }
     requires old { IsSideWithin bank.old old.now }
     requires new { IsSideWithin bank.old new.now }
-    ensures { IfOk result (λ ids. DenoteAll bank.new ids (facts_of (work_in question.now) question.now.table.now (asked question.now) (side_at bank.old old.now) (side_at bank.old new.now))) }
+    ensures { IfOk result (λ ids. DenoteAll bank.new ids (facts_of (work_in obligation.now) obligation.now.table.now (candidate_in obligation.now) (side_at bank.old old.now) (side_at bank.old new.now))) }
 {
     let mut facts = Items::new(bank.allocator());
-    put_premises(bank, &mut facts, question, old, new)?;
-    let claim = put_claimed(bank, question, old, new)?;
+    put_premises(bank, &mut facts, obligation, old, new)?;
+    let claim = put_candidate_claim(bank, obligation, old, new)?;
     put_uniques(
         bank,
         &mut facts,
         claim,
-        question.old.program.uniques.as_slice(),
-        question.new.program.uniques.as_slice(),
+        obligation.old.program.uniques.as_slice(),
+        obligation.new.program.uniques.as_slice(),
     )?;
     let denial = bank.not(claim)?;
     facts.push(denial)?;
@@ -189,35 +189,35 @@ fn put_facts(
 // ---- the query
 
 /// The facts of the query of a candidate, over the bodies of its pair. Where there are no bodies, there are none.
-fn put_question(
+fn put_obligation(
     alloc: Global,
     bank: &mut Bank,
-    question: &Question<'_>,
+    obligation: &Obligation<'_>,
     sides: &Option<Sides>,
 ) -> Result<Items<TermId>, NoMemory>
-    requires question { IsQuestion question.now }
-    requires sides { AreSidesFor question.now bank.old sides.now }
-    ensures { IfOk result (λ ids. DenoteAll bank.new ids (query_of (work_in question.now) (infallibles_in question.now) question.now.table.now (asked question.now))) }
+    requires tables { HasTables obligation.now }
+    requires sides { AreSidesFor obligation.now bank.old sides.now }
+    ensures { IfOk result (λ ids. DenoteAll bank.new ids (query_of (work_in obligation.now) (infallibles_in obligation.now) obligation.now.table.now (candidate_in obligation.now))) }
 {
     match sides {
-        Some(sides) => put_facts(bank, question, &sides.old, &sides.new),
+        Some(sides) => put_facts(bank, obligation, &sides.old, &sides.new),
         None => Ok(Items::new(alloc)),
     }
 }
 
-/// The query that a question asks for, from a copy of the bank with the bodies of its pair.
+/// The query that an obligation asks for, from a copy of the bank with the bodies of its pair.
 pub(crate) fn put_query(
     alloc: Global,
-    question: &Question<'_>,
+    obligation: &Obligation<'_>,
     bodies: &Bank,
     sides: &Option<Sides>,
 ) -> Result<Query, NoMemory>
-    requires question { IsQuestion question.now }
-    requires sorts { IsSorted question.now }
-    requires sides { AreSidesFor question.now bodies.now sides.now }
-    ensures { IfOk result (λ q. q ≡ query_of (work_in question.now) (infallibles_in question.now) question.now.table.now (asked question.now)) }
+    requires tables { HasTables obligation.now }
+    requires sorts { IsSorted obligation.now }
+    requires sides { AreSidesFor obligation.now bodies.now sides.now }
+    ensures { IfOk result (λ q. q ≡ query_of (work_in obligation.now) (infallibles_in obligation.now) obligation.now.table.now (candidate_in obligation.now)) }
 {
     let mut bank = bodies.clone_of(alloc)?;
-    let facts = put_question(alloc, &mut bank, question, sides)?;
+    let facts = put_obligation(alloc, &mut bank, obligation, sides)?;
     Ok(Query::new(bank, facts))
 }

@@ -4,7 +4,7 @@ ghost use Rattle.sd_core.specs.Store.{read};
 ghost use Rattle.sd_term.specs.Bank.{tree_at};
 ghost use Rattle.sd_term.specs.Build.{Extends, or_of, relation_of};
 ghost use Rattle.sd_vcgen.specs.Body.{constant, nothing};
-ghost use Rattle.sd_vcgen.specs.Numbers.{Denotes, held};
+ghost use Rattle.sd_vcgen.specs.Numbers.{Denotes, number_at};
 ghost use Rattle.sd_product.specs.Relations.{term_of, claim_term};
 ghost use Rattle.sd_product.specs.Query.{under};
 ghost use Rattle.sd_product.specs.Numbers.{Adds, AreWithin, IsEndWithin, numbers_of, store_at};
@@ -42,8 +42,8 @@ fn slot(state: &StateTerms<'_>, place: usize) -> Option<TermId>
     state.outs.get(place - state.ins.len()).copied()
 }
 
-fn held(state: &StateTerms<'_>, spot: Spot) -> Option<TermId>
-    ensures { result ≡ held (numbers_of state.now) spot }
+fn number_at(state: &StateTerms<'_>, spot: Spot) -> Option<TermId>
+    ensures { result ≡ number_at (numbers_of state.now) spot }
 {
     match spot {
         Spot::Slot(place) => slot(state, place as usize),
@@ -65,7 +65,7 @@ fn put_spot(bank: &mut Bank, state: &StateTerms<'_>, spot: Spot) -> Result<TermI
     ensures term { IfOk result (λ id. Denotes bank.new id (read nothing (store_at bank.old state.now) spot)) }
     ensures kept { OnOk result (Extends bank.old bank.new) }
 {
-    match held(state, spot) {
+    match number_at(state, spot) {
         Some(term) => Ok(term),
         None => put_truth(bank, false),
     }

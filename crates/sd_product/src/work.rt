@@ -10,11 +10,11 @@ ghost use Rattle.sd_product.specs.Work as held;
 ghost use Rattle.sd_product.specs.Work.{IsHeld, IsAt, pairs_in, claims_in, work_of};
 ghost use Rattle.sd_product.specs.Claims.{claims_of, AreTables};
 ghost use Rattle.sd_product.specs.Bodies.{IsAbout, count_before};
-ghost use Rattle.sd_product.specs.Questions.{work_in, infallibles_in, asked, IsQuestion, IsSorted};
+ghost use Rattle.sd_product.specs.Obligations.{work_in, infallibles_in, candidate_in, HasTables, IsSorted};
 ghost use Rattle.sd_product.specs.WorkErrors.{Tells};
 
 use crate::calls::Claims;
-use crate::facts::Question;
+use crate::facts::Obligation;
 use crate::tables::{candidate_places, first_numbers, pairs_by_old};
 use sd_base::NoMemory;
 use sd_cand::{Candidate, LiveTable, candidates};
@@ -252,18 +252,18 @@ impl Work {
     }
 
     /// What the query of a candidate is about.
-    pub(crate) fn question<'a>(&'a self, table: &'a LiveTable, candidate: u32) -> Question<'a>
+    pub(crate) fn obligation<'a>(&'a self, table: &'a LiveTable, candidate: u32) -> Obligation<'a>
         requires within { candidate < length (claims_in self.now) }
         requires size { length table.now ≡ length (claims_in self.now) }
         ensures work { work_in result ≡ work_of self.now.old self.now.new }
         ensures infallibles { infallibles_in result ≡ held.infallibles_in self.now }
-        ensures asked { slice_get (claims_in self.now) candidate ≡ Some (asked result) }
+        ensures candidate { slice_get (claims_in self.now) candidate ≡ Some (candidate_in result) }
         ensures table { result.table.now ≡ table.now }
-        ensures question { IsQuestion result }
+        ensures tables { HasTables result }
         ensures sorted { IsSorted result }
     {
         let (pair, place) = self.candidate_place(candidate);
-        Question {
+        Obligation {
             old: self.old_context(),
             new: self.new_context(),
             claims: self.claims(),

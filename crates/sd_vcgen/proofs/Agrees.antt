@@ -25,7 +25,7 @@ use Rattle.sd_term.specs.Truth.{Valuation, value}
 use Rattle.sd_term.proofs.BuildSorts.{ite-sort}
 use Rattle.sd_term.proofs.BuildValues.{ite-chosen}
 use Rattle.sd_vcgen.specs.Body.{State, Context, nothing, term_in, guard_of, assign, modified_sorts, changed, site_of, call, count, row_count, step, steps, all_steps, begun, outs_of}
-use Rattle.sd_vcgen.specs.Law.{Reads, AreInputTerms, truth, all_true, SiteHolds, SitesHold}
+use Rattle.sd_vcgen.specs.Laws.{Reads, AreInputTerms, truth, all_true, SiteHolds, SitesHold}
 use Rattle.sd_vcgen.proofs.Stores.{read_map, write_map, write_read}
 use Rattle.sd_vcgen.proofs.Typed.{spot-sort, write-sorts, assign-sorts, all-sorts}
 use Rattle.sd_vcgen.proofs.Values.{term-value}

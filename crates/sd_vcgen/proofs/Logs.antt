@@ -13,7 +13,7 @@ use Rattle.sd_runs.specs.Kept.{at_all}
 use Rattle.sd_term.specs.Truth.{Valuation, value}
 use Rattle.sd_term.proofs.Typed.{cast-same, sorted-has}
 use Rattle.sd_vcgen.specs.Body.{symbols, site_flag, flag_symbols}
-use Rattle.sd_vcgen.specs.Law.{truth, Carries}
+use Rattle.sd_vcgen.specs.Laws.{truth, Carries}
 
 -- ---- positions
 

@@ -10,7 +10,7 @@ use Rattle.sd_term.specs.Build.{Extends, not_of, and_of, or_of}
 use Rattle.sd_term.proofs.Trees.{map_at-same}
 use Rattle.sd_vcgen.specs.Body.{State, nothing, guard_of}
 use Rattle.sd_vcgen.specs.Body as spec
-use Rattle.sd_vcgen.specs.Numbers.{Denotes, DenoteAll, DenotesSite, DenoteSites, site_at, IsSiteWithin, numbers_of, held, store_of, AreWithin, Stands, state_of, IsWithin}
+use Rattle.sd_vcgen.specs.Numbers.{Denotes, DenoteAll, DenotesSite, DenoteSites, site_at, IsSiteWithin, numbers_of, number_at, store_of, AreWithin, Stands, state_of, IsWithin}
 use Rattle.sd_vcgen.specs.declared.body.BodyState.{BodyState}
 use Rattle.sd_vcgen.specs.declared.call.Site.{Site}
 use Rattle.sd_vcgen.specs.declared.spots.Spots.{Spots}
@@ -49,9 +49,9 @@ pub store_later : (a b : List Tree) (n : Spots) → Extends a b → AreWithin a 
 store_later a b n h w = λ i. record { slots = trees_later a b n.slots h w.slots i; globals = trees_later a b n.globals h w.globals i }
 
 -- a spot that isn't there
-pub held_none : (bank : List Tree) (n : Spots) (s : Spot) → held (numbers_of n) s ≡ None → read nothing (store_of bank n) s ≡ nothing
-held_none bank n (Slot i) e = map_absent (tree_at bank) n.slots i nothing e
-held_none bank n (Global i) e = map_absent (tree_at bank) n.globals i nothing e
+pub number_at-none : (bank : List Tree) (n : Spots) (s : Spot) → number_at (numbers_of n) s ≡ None → read nothing (store_of bank n) s ≡ nothing
+number_at-none bank n (Slot i) e = map_absent (tree_at bank) n.slots i nothing e
+number_at-none bank n (Global i) e = map_absent (tree_at bank) n.globals i nothing e
 
 -- a spot that takes another number
 pub held_store : (a b : List Tree) (n after : Spots) (s : Spot) (id : ℕ) (t : Tree) → AreWithin a n → Extends a b → numbers_of after ≡ write (numbers_of n) s id → tree_at b id ≡ t → store_of b after ≡ write (store_of a n) s t

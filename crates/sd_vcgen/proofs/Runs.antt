@@ -22,7 +22,7 @@ use Rattle.sd_term.specs.Tree.{Tree}
 use Rattle.sd_term.specs.Build.{not_of, and_of, or_of}
 use Rattle.sd_term.specs.Truth.{Valuation, value}
 use Rattle.sd_vcgen.specs.Body.{State, Context, constant, term_in, guard_of, modified_sorts, changed, site_of, call, call_symbols, flag_symbols, count, row_count, count_all, step, steps, all_steps, begun, body_of}
-use Rattle.sd_vcgen.specs.Law.{Reads, truth, all_true, Carries, IsRun, HasLog, RunsAreValuations}
+use Rattle.sd_vcgen.specs.Laws.{Reads, truth, all_true, Carries, IsRun, HasLog, RunsAreValuations}
 use Rattle.sd_vcgen.proofs.Typed.{assign-sorts, all-sorts}
 use Rattle.sd_vcgen.proofs.Values.{have-sorts, all-values}
 use Rattle.sd_vcgen.proofs.Symbols.{set_all-map}

@@ -21,7 +21,7 @@ use Rattle.sd_term.specs.Sorts.{sort_of}
 use Rattle.sd_term.specs.Build.{and_of, not_of}
 use Rattle.sd_term.proofs.BuildSorts.{and-sort, or-sort}
 use Rattle.sd_vcgen.specs.Body.{State, Context, nothing, constant, term_in, guard_of, assign, symbols, modified_sorts, changed, site_of, call, count, row_count, step, steps, all_steps, begun, body_of, outs_of}
-use Rattle.sd_vcgen.specs.Law.{IsSortedSite, BodiesAreSorted}
+use Rattle.sd_vcgen.specs.Laws.{IsSortedSite, BodiesAreSorted}
 use Rattle.sd_vcgen.proofs.Stores.{read_map}
 use Rattle.sd_vcgen.proofs.Truths.{all_push}
 use Rattle.sd_vcgen.proofs.Typed.{assign-sorts, all-sorts}

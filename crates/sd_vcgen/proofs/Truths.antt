@@ -7,7 +7,7 @@ use Rattle.sd_term.specs.Tree.{Tree}
 use Rattle.sd_term.specs.Build.{not_of, and_of, or_of}
 use Rattle.sd_term.specs.Truth.{Valuation}
 use Rattle.sd_term.proofs.BuildValues.{not-value, and-value, or-value}
-use Rattle.sd_vcgen.specs.Law.{truth, all_true}
+use Rattle.sd_vcgen.specs.Laws.{truth, all_true}
 
 -- ---- lists
 

@@ -18,7 +18,7 @@ use Rattle.sd_term.specs.Tree.{Tree}
 use Rattle.sd_term.specs.Build.{not_of, and_of, or_of}
 use Rattle.sd_term.specs.Truth.{Valuation, value}
 use Rattle.sd_vcgen.specs.Body.{State, Context, constant, term_in, guard_of, changed, site_of, call, count, row_count, step, steps, all_steps, begun, body_of, outs_of}
-use Rattle.sd_vcgen.specs.Law.{Reads, AreInputTerms, truth, all_true, SiteHolds, SitesHold, IsRun, ValuationsAreRuns}
+use Rattle.sd_vcgen.specs.Laws.{Reads, AreInputTerms, truth, all_true, SiteHolds, SitesHold, IsRun, ValuationsAreRuns}
 use Rattle.sd_vcgen.proofs.Typed.{assign-sorts, all-sorts}
 use Rattle.sd_vcgen.proofs.Values.{all-values}
 use Rattle.sd_vcgen.proofs.Symbols.{set_all-map}

@@ -28,7 +28,7 @@ use Rattle.sd_term.proofs.Trees.{head_of-applied, parts_of-applied}
 use Rattle.sd_term.proofs.Typed.{value-sorted, read-made, write-made}
 use Rattle.sd_term.proofs.BuildValues.{value-by, not-value, and-value, or-value}
 use Rattle.sd_vcgen.specs.Body.{constant, nothing, op_term, result_of, term_in, terms_in}
-use Rattle.sd_vcgen.specs.Law.{Reads}
+use Rattle.sd_vcgen.specs.Laws.{Reads}
 use Rattle.sd_vcgen.proofs.Stores.{read_map}
 use Rattle.sd_vcgen.proofs.Typed.{by_one, by_two, by_three, terms-sort}
 

@@ -31,7 +31,7 @@ use Rattle.sd_term.proofs.Trees.{head_of-applied}
 use Rattle.sd_term.proofs.BuildSorts.{not-sort, and-sort, or-sort, ite-sort, not-well, and-well, or-well, ite-well, eq-well, le-well}
 use Rattle.sd_vcgen.specs.Body.{Site, State, Context, nothing, constant, op_term, result_of, term_in, terms_in, guard_of, assign, symbols, site_flag, modified_sorts, changed, site_of, count, row_count, step, steps, all_steps, begun, body_of, outs_of}
 use Rattle.sd_vcgen.specs.Body.{call as call_term}
-use Rattle.sd_vcgen.specs.Law.{site_terms, BodiesAreWellSorted}
+use Rattle.sd_vcgen.specs.Laws.{site_terms, BodiesAreWellSorted}
 use Rattle.sd_vcgen.proofs.Truths.{all_push}
 use Rattle.sd_vcgen.proofs.Typed.{by_one, by_two, by_three, spot-sort, write-sorts, assign-sorts, term-sort, terms-sort, all-sorts}
 use Rattle.sd_vcgen.proofs.Symbols.{symbols-sort, modified-spots}

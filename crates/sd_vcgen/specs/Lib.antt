@@ -1,3 +1,3 @@
 pub mod Body
-pub mod Law
+pub mod Laws
 pub mod Numbers

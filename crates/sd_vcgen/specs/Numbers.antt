@@ -60,9 +60,9 @@ abbrev pub numbers_of : Spots → Store ℕ
 numbers_of n = record { slots = n.slots; globals = n.globals }
 
 -- what a spot holds, where there is such a spot
-abbrev pub held : Store ℕ → Spot → Option ℕ
-held n (Slot i) = slice_get n.slots i
-held n (Global i) = slice_get n.globals i
+abbrev pub number_at : Store ℕ → Spot → Option ℕ
+number_at n (Slot i) = slice_get n.slots i
+number_at n (Global i) = slice_get n.globals i
 
 -- the trees that they stand for
 abbrev pub store_of : List Tree → Spots → Store Tree

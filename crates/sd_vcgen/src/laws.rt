@@ -1,5 +1,5 @@
 //! What the terms of a body have to do with the runs of its procedure.
-ghost use Rattle.sd_vcgen.specs.Law.{RunsAreValuations, ValuationsAreRuns, BodiesAreSorted, BodiesAreWellSorted};
+ghost use Rattle.sd_vcgen.specs.Laws.{RunsAreValuations, ValuationsAreRuns, BodiesAreSorted, BodiesAreWellSorted};
 
 /// For each ended run there are values for the symbols of the calls with which every valuation is that run: its assumptions are
 /// true, its outs, globals and flag have the run's values, and each call that counts is the ended run of its callee.

@@ -4,7 +4,7 @@ ghost use Rattle.sd_core.specs.declared.Spot.TheVariants.{Slot};
 ghost use Rattle.sd_core.specs.Store.{read, write};
 ghost use Rattle.sd_term.specs.Build.{Extends};
 ghost use Rattle.sd_vcgen.specs.Body.{constant, nothing};
-ghost use Rattle.sd_vcgen.specs.Numbers.{Denotes, AreWithin, numbers_of, held, store_of};
+ghost use Rattle.sd_vcgen.specs.Numbers.{Denotes, AreWithin, numbers_of, number_at, store_of};
 
 use sd_base::NoMemory;
 use sd_core::Spot;
@@ -32,7 +32,7 @@ pub(crate) fn put_spot(bank: &mut Bank, spots: &Spots, spot: Spot) -> Result<Ter
     ensures term { IfOk result (λ id. Denotes bank.new id (read nothing (store_of bank.old spots.now) spot)) }
     ensures kept { OnOk result (Extends bank.old bank.new) }
 {
-    match held(spots, spot) {
+    match number_at(spots, spot) {
         Some(term) => Ok(term),
         None => put_truth(bank, false),
     }
@@ -50,8 +50,8 @@ pub(crate) fn put_slot(bank: &mut Bank, spots: &Spots, place: usize) -> Result<T
     }
 }
 
-fn held(spots: &Spots, spot: Spot) -> Option<TermId>
-    ensures { result ≡ held (numbers_of spots.now) spot }
+fn number_at(spots: &Spots, spot: Spot) -> Option<TermId>
+    ensures { result ≡ number_at (numbers_of spots.now) spot }
 {
     match spot {
         Spot::Slot(place) => spots.slots.get(place as usize).copied(),

@@ -20,4 +20,4 @@ put_all_related-requires-clause-news c =
 pub returns : goal.returns
 returns c =
     let a = c.args.bank.now in
-    subst (Adds a c.args.facts.now c.put_all_related.new.bank c.put_all_related.new.facts) (λ i. all_related c.args.question.now.table.now (claims_of c.args.question.now.claims) (map (site_at a) (c.as_slice.ensures i)) (map (site_at a) (c.as_slice-2.ensures i))) c.in_ok-put_all_related.ensures
+    subst (Adds a c.args.facts.now c.put_all_related.new.bank c.put_all_related.new.facts) (λ i. all_related c.args.obligation.now.table.now (claims_of c.args.obligation.now.claims) (map (site_at a) (c.as_slice.ensures i)) (map (site_at a) (c.as_slice-2.ensures i))) c.in_ok-put_all_related.ensures

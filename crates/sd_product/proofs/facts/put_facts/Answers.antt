@@ -4,7 +4,7 @@ use Rattle.sd_term.specs.Bank.{tree_at}
 use Rattle.sd_vcgen.proofs.Numbers.{all_later}
 use Rattle.sd_product.specs.Query.{premises_of, claim_of}
 use Rattle.sd_product.specs.Sides.{side_at}
-use Rattle.sd_product.specs.Questions.{work_in, asked}
+use Rattle.sd_product.specs.Obligations.{work_in, candidate_in}
 use Rattle.sd_product.proofs.SideLemmas.{side_same, side_stays}
 use Rattle.sd_product.proofs.FactLemmas.{facts_made, all_none}
 use Rattle.sd_product.proofs.facts.put_facts.Goals as goal
@@ -14,25 +14,25 @@ put_premises-requires-clause-facts c =
     let a = c.args.bank.now in
     subst (All (λ id. id < length a)) (sym c.new-facts.ensures) (all_none (λ id. id < length a))
 
-pub put_claimed-requires-clause-old : goal.put_claimed-requires-clause-old
-put_claimed-requires-clause-old c = side_stays c.args.bank.now c.put_premises.new.bank c.args.old.now c.in_ok-put_premises.ensures.kept c.requires.old
+pub put_candidate_claim-requires-clause-old : goal.put_candidate_claim-requires-clause-old
+put_candidate_claim-requires-clause-old c = side_stays c.args.bank.now c.put_premises.new.bank c.args.old.now c.in_ok-put_premises.ensures.kept c.requires.old
 
-pub put_claimed-requires-clause-new : goal.put_claimed-requires-clause-new
-put_claimed-requires-clause-new c = side_stays c.args.bank.now c.put_premises.new.bank c.args.new.now c.in_ok-put_premises.ensures.kept c.requires.new
+pub put_candidate_claim-requires-clause-new : goal.put_candidate_claim-requires-clause-new
+put_candidate_claim-requires-clause-new c = side_stays c.args.bank.now c.put_premises.new.bank c.args.new.now c.in_ok-put_premises.ensures.kept c.requires.new
 
 pub put_uniques-requires-clause-facts : goal.put_uniques-requires-clause-facts
-put_uniques-requires-clause-facts c = all_later c.put_premises.new.bank c.put_claimed.new.bank c.put_premises.new.facts c.in_ok-claim.ensures.kept c.in_ok-put_premises.ensures.within
+put_uniques-requires-clause-facts c = all_later c.put_premises.new.bank c.put_candidate_claim.new.bank c.put_premises.new.facts c.in_ok-claim.ensures.kept c.in_ok-put_premises.ensures.within
 
 pub returns : goal.returns
 returns c =
     let a = c.args.bank.now in
     let b1 = c.put_premises.new.bank in
-    let b2 = c.put_claimed.new.bank in
+    let b2 = c.put_candidate_claim.new.bank in
     let b3 = c.put_uniques.new.bank in
     let b4 = c.not.new.self in
-    let w = work_in c.args.question.now in
-    let x = asked c.args.question.now in
-    let table = c.args.question.now.table.now in
+    let w = work_in c.args.obligation.now in
+    let x = candidate_in c.args.obligation.now in
+    let table = c.args.obligation.now.table.now in
     let m = c.args.old.now in
     let n = c.args.new.now in
     let k1 = c.in_ok-put_premises.ensures in

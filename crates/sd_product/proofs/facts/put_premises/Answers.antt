@@ -3,7 +3,7 @@ use Rattle.sd_vcgen.proofs.Numbers.{extends_then}
 use Rattle.sd_product.specs.Query.{axioms_of, conditions_of, all_related}
 use Rattle.sd_product.specs.Numbers.{Adds}
 use Rattle.sd_product.specs.Sides.{side_at}
-use Rattle.sd_product.specs.Questions.{work_in, asked}
+use Rattle.sd_product.specs.Obligations.{work_in, candidate_in}
 use Rattle.sd_product.proofs.SideLemmas.{side_same, side_stays}
 use Rattle.sd_product.proofs.FactLemmas.{premises_made}
 use Rattle.sd_product.proofs.facts.put_premises.Goals as goal
@@ -38,9 +38,9 @@ returns c =
     let k3 = c.in_ok-put_conditions.ensures in
     let to2 = extends_then a b1 b2 k1.kept k2.kept in
     let to3 = extends_then a b2 b3 to2 k3.kept in
-    let w = work_in c.args.question.now in
-    let x = asked c.args.question.now in
-    let table = c.args.question.now.table.now in
+    let w = work_in c.args.obligation.now in
+    let x = candidate_in c.args.obligation.now in
+    let table = c.args.obligation.now.table.now in
     let m = c.args.old.now in
     let n = c.args.new.now in
     let old = side_at a m in

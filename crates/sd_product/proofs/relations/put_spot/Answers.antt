@@ -1,12 +1,12 @@
 use Rattle.std.proofs.Common.{sym, subst, IfOk}
 use Rattle.sd_term.specs.Tree.{Tree}
 use Rattle.sd_vcgen.specs.Numbers.{Denotes}
-use Rattle.sd_product.proofs.Numbers.{held_some, held_none}
+use Rattle.sd_product.proofs.Numbers.{number_at-some, number_at-none}
 use Rattle.sd_product.proofs.relations.put_spot.Goals as goal
 
 pub returns-in-None-clause-term : goal.returns-in-None-clause-term
 returns-in-None-clause-term c =
-    subst (λ (t : Tree). IfOk c.put_truth.result (λ id. Denotes c.put_truth.new.bank id t)) (sym (held_none c.args.bank.now c.args.state.now c.args.spot (sym c.in-None.ensures))) c.put_truth.ensures.term
+    subst (λ (t : Tree). IfOk c.put_truth.result (λ id. Denotes c.put_truth.new.bank id t)) (sym (number_at-none c.args.bank.now c.args.state.now c.args.spot (sym c.in-None.ensures))) c.put_truth.ensures.term
 
 pub returns-in-Some-clause-term : goal.returns-in-Some-clause-term
-returns-in-Some-clause-term c = held_some c.args.bank.now c.args.state.now c.args.spot c.in-Some.term c.requires (sym c.in-Some.ensures)
+returns-in-Some-clause-term c = number_at-some c.args.bank.now c.args.state.now c.args.spot c.in-Some.term c.requires (sym c.in-Some.ensures)

@@ -2,9 +2,9 @@ use Rattle.std.proofs.Common.{sym, subst, IfOk}
 use Rattle.sd_term.specs.Tree.{Tree}
 use Rattle.sd_core.specs.declared.Spot.TheVariants.{Slot}
 use Rattle.sd_vcgen.specs.Numbers.{Denotes}
-use Rattle.sd_vcgen.proofs.Numbers.{held_none}
+use Rattle.sd_vcgen.proofs.Numbers.{number_at-none}
 use Rattle.sd_vcgen.proofs.spots.put_slot.Goals as goal
 
 pub returns-in-None-clause-term : goal.returns-in-None-clause-term
 returns-in-None-clause-term c =
-    subst (λ (t : Tree). IfOk c.put_truth.result (λ id. Denotes c.put_truth.new.bank id t)) (sym (held_none c.args.bank.now c.args.spots.now (Slot c.args.place) (sym c.in-None.ensures.value))) c.put_truth.ensures.term
+    subst (λ (t : Tree). IfOk c.put_truth.result (λ id. Denotes c.put_truth.new.bank id t)) (sym (number_at-none c.args.bank.now c.args.spots.now (Slot c.args.place) (sym c.in-None.ensures.value))) c.put_truth.ensures.term

@@ -10,7 +10,7 @@ use Rattle.sd_product.specs.Claims as claims
 use Rattle.sd_product.specs.Fits.{FitsPair}
 use Rattle.sd_product.proofs.PlaceLemmas.{claim_at}
 use Rattle.sd_product.proofs.FitLemmas.{claims_fit, fits_each}
-use Rattle.sd_product.proofs.work.Work.question.Goals as goal
+use Rattle.sd_product.proofs.work.Work.obligation.Goals as goal
 
 pub returns-clause-sorted : goal.returns-clause-sorted
 returns-clause-sorted c =
@@ -29,5 +29,5 @@ returns-clause-sorted c =
       old = subst WellFormed old i.is_held.old_formed;
       new = subst WellFormed new i.is_held.new_formed;
       claims = subst (λ (k : Work). AllByRecursion (FitsPair k) xs) same all;
-      asked = subst (λ (k : Work). FitsPair k x) same (fits_each held xs c.args.candidate x all (ap (λ (ys : List Claimed). slice_get ys c.args.candidate) c.claims.ensures.claims ∙ at));
+      own = subst (λ (k : Work). FitsPair k x) same (fits_each held xs c.args.candidate x all (ap (λ (ys : List Claimed). slice_get ys c.args.candidate) c.claims.ensures.claims ∙ at));
     }

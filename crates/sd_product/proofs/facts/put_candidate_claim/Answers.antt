@@ -2,7 +2,7 @@ use Rattle.std.proofs.Common.{◌∙◌, refl}
 use Rattle.sd_term.specs.Bank.{tree_at}
 use Rattle.sd_product.specs.Relations.{claim_term}
 use Rattle.sd_product.proofs.SideLemmas.{side_ends_are, ends_within}
-use Rattle.sd_product.proofs.facts.put_claimed.Goals as goal
+use Rattle.sd_product.proofs.facts.put_candidate_claim.Goals as goal
 
 pub put_claim-requires-clause-old : goal.put_claim-requires-clause-old
 put_claim-requires-clause-old c =
@@ -24,5 +24,5 @@ returns-clause-term c =
     let claim = c.in_ok-claim.ensures.term in
     record {
       within = claim.within;
-      tree = claim.tree ∙ (λ i. claim_term (c.as_slice.ensures i) c.args.question.now.candidate.now.claim (old i) (tree_at a c.args.old.now.body.flag) (new i) (tree_at a c.args.new.now.body.flag));
+      tree = claim.tree ∙ (λ i. claim_term (c.as_slice.ensures i) c.args.obligation.now.candidate.now.claim (old i) (tree_at a c.args.old.now.body.flag) (new i) (tree_at a c.args.new.now.body.flag));
     }
