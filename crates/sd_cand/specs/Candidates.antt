@@ -26,7 +26,8 @@ flag_candidates (r ∷ rs) = record { when = []; claim = Flag } ∷ record { whe
 -- under this condition the outputs from n on are equal, one by one
 abbrev pub output_candidates : List Relation → ℕ → List SpotPair → List Candidate
 output_candidates when n [] = []
-output_candidates when n (s ∷ ss) = record { when = when; claim = Output (record { place = n; kind = Eq }) } ∷ output_candidates when (suc n) ss
+output_candidates when n (s ∷ ss) =
+    record { when = when; claim = Output (record { place = n; kind = Eq }) } ∷ output_candidates when (suc n) ss
 
 -- A refused pair has no candidates.
 abbrev pub candidates_in : PairState → Pair → List Candidate

@@ -76,8 +76,8 @@ fn put_outputs(
     Ok(())
 }
 
-/// The candidates of a pair, in order: the new run fails only where the old one does, and equal inputs give equal outputs
-/// (Lahiri and others 2013).
+/// The candidates of a pair, in order: the new run fails only where the old one does, and equal inputs give equal
+/// outputs (Lahiri and others 2013).
 pub fn candidates_of(alloc: Global, pair: &Pair) -> Result<Items<Candidate>, NoMemory>
     ensures { IfOk result (λ list. list ≡ candidates_of pair.now) }
 {

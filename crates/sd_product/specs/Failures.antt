@@ -23,12 +23,15 @@ pub record IsPropositionalClaim (w : Work) (z : Infallibles) (x : Claimed) : Typ
   pub claim : IsEqualFlagClaim x
   pub roots : IsRootPair w x
 
--- A valuation that makes the query of such a claim true, under any table, is a failure of the new procedure that the old one lacks.
+-- A valuation that makes the query of such a claim true, under any table, is a failure of the new procedure that the
+-- old one lacks.
 abbrev pub ValuationsAreFailures : Type 0
 ValuationsAreFailures =
-    (w : Work) (z : Infallibles) (table : List Bool) (x : Claimed) (v : Valuation) → IsPropositionalClaim w z x → MakesTrue v (query_of w z table x) → NewFailureOf w.old w.new x.pair.old x.pair.new
+    (w : Work) (z : Infallibles) (table : List Bool) (x : Claimed) (v : Valuation) → IsPropositionalClaim w z x →
+    MakesTrue v (query_of w z table x) → NewFailureOf w.old w.new x.pair.old x.pair.new
 
 -- So is an open cube of the query.
 abbrev pub OpenCubesAreFailures : Type 0
 OpenCubesAreFailures =
-    (w : Work) (z : Infallibles) (table : List Bool) (x : Claimed) (cube : Cube) → IsPropositionalClaim w z x → IsOpenCube (query_of w z table x) cube → NewFailureOf w.old w.new x.pair.old x.pair.new
+    (w : Work) (z : Infallibles) (table : List Bool) (x : Claimed) (cube : Cube) → IsPropositionalClaim w z x →
+    IsOpenCube (query_of w z table x) cube → NewFailureOf w.old w.new x.pair.old x.pair.new

@@ -49,4 +49,6 @@ pub record FitsBoth (w : Work) (x : Claimed) (p q : CoreProc) : Type 0 where
 
 -- those of its pair
 abbrev pub FitsPair : Work → Claimed → Type 0
-FitsPair w x = (p q : CoreProc) → slice_get w.old.procs x.pair.old ≡ Some p → slice_get w.new.procs x.pair.new ≡ Some q → FitsBoth w x p q
+FitsPair w x =
+    (p q : CoreProc) → slice_get w.old.procs x.pair.old ≡ Some p → slice_get w.new.procs x.pair.new ≡ Some q →
+    FitsBoth w x p q

@@ -21,16 +21,20 @@ pub record IsFlagAt (h : Held) (n : ℕ) (x : Claimed) : Type 0 where
   pub found : slice_get h.old.procs x.pair.old ≡ Some old
   pub root : old.parent ≡ None
 
--- Where such a candidate is live in a table that stands on proofs, the new procedure has no failure that the old one lacks.
+-- Where such a candidate is live in a table that stands on proofs, the new procedure has no failure that the old one
+-- lacks.
 abbrev pub LiveFlagsAreSafe : Type 0
 LiveFlagsAreSafe =
-    (h : Held) (table : List Bool) (proofs : List Proved) (n : ℕ) (x : Claimed) → IsHeld h → IsInductive (queries_under h table) table proofs →
+    (h : Held) (table : List Bool) (proofs : List Proved) (n : ℕ) (x : Claimed) → IsHeld h →
+    IsInductive (queries_under h table) table proofs →
     IsFlagAt h n x → slice_get table n ≡ Some true → NewFailureOf h.old h.new x.pair.old x.pair.new → ⊥
 
--- Where both programs are over truth values and call nothing, and the query of such a candidate that asks for equal inputs has an open cube
--- under some table, it has one.
+-- Where both programs are over truth values and call nothing, and the query of such a candidate that asks for equal
+-- inputs has an open cube under some table, it has one.
 abbrev pub OpenFlagsAreFailures : Type 0
 OpenFlagsAreFailures =
-    (h : Held) (seen : List Bool) (n : ℕ) (x : Claimed) (facts : List Tree) (cube : Cube) → IsHeld h → IsPropositionalCore h.old → IsPropositionalCore h.new →
-    IsFlagAt h n x → x.candidate.when ≡ equal_inputs x.pair → slice_get (queries_under h seen) n ≡ Some facts → IsOpenCube facts cube →
+    (h : Held) (seen : List Bool) (n : ℕ) (x : Claimed) (facts : List Tree) (cube : Cube) → IsHeld h →
+    IsPropositionalCore h.old → IsPropositionalCore h.new →
+    IsFlagAt h n x → x.candidate.when ≡ equal_inputs x.pair → slice_get (queries_under h seen) n ≡ Some facts →
+    IsOpenCube facts cube →
     NewFailureOf h.old h.new x.pair.old x.pair.new

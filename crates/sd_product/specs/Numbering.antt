@@ -21,7 +21,8 @@ places_from i (list ∷ lists) = places_in i 0 list ++ places_from (suc i) lists
 -- The old procedures of these pairs are at ascending places before m.
 pub record AreAscending (m : ℕ) (pairs : List Pair) : Type 0 where
   pub within : (i : ℕ) (p : Pair) → slice_get pairs i ≡ Some p → p.old < m
-  pub ascending : (i j : ℕ) (p q : Pair) → i < j → slice_get pairs i ≡ Some p → slice_get pairs j ≡ Some q → p.old < q.old
+  pub ascending : (i j : ℕ) (p q : Pair) → i < j → slice_get pairs i ≡ Some p → slice_get pairs j ≡ Some q →
+      p.old < q.old
 
 -- the entry of each pair's old procedure is the place of the pair
 abbrev pub FindsPairs : List (Option ℕ) → List Pair → Type 0

@@ -37,4 +37,6 @@ pub record IsSorted (q : Obligation) : Type 0 where
 
 -- the numbers of the bodies of its pair
 abbrev pub AreSidesFor : Obligation → List Tree → Option Sides → Type 0
-AreSidesFor q bank = AreSides (context_of q.old) (context_of q.new) bank (slice_get q.old.program.now.procs q.pair.now.old) (slice_get q.new.program.now.procs q.pair.now.new)
+AreSidesFor q bank =
+    AreSides (context_of q.old) (context_of q.new) bank (slice_get q.old.program.now.procs q.pair.now.old)
+    (slice_get q.new.program.now.procs q.pair.now.new)

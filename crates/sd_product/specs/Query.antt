@@ -1,4 +1,5 @@
--- The query of a candidate: facts that no valuation makes true where the candidate holds, if the live candidates hold at calls.
+-- The query of a candidate: facts that no valuation makes true where the candidate holds, if the live candidates hold
+-- at calls.
 use Rattle.std.specs.Prelude.{ℕ, suc, ◌+◌, ◌==◌, Bool, false, ◌&&◌, ◌||◌, List, [], ◌∷◌, ◌++◌, map, length, get_or, Option, Some, slice_get, if◌then◌else◌}
 use Rattle.sd_base.specs.declared.Var.{Var}
 use Rattle.sd_base.specs.Value.{same_text}
@@ -63,7 +64,9 @@ side_of p inputs s = record { inputs = inputs; body = s; ends = exit inputs.slot
 
 -- a side whose inputs have symbols from i on, and whose calls have them from k on
 abbrev pub side_from : Context → CoreProc → (i k : ℕ) → Side
-side_from C p i k = side_of p (inputs_from i C.program p) (body_of C p k (inputs_from i C.program p).slots (inputs_from i C.program p).globals)
+side_from C p i k =
+    side_of p (inputs_from i C.program p)
+    (body_of C p k (inputs_from i C.program p).slots (inputs_from i C.program p).globals)
 
 -- Symbols are numbered in this order: old inputs, new inputs, old calls, new calls.
 abbrev pub first_call : Context → Context → CoreProc → CoreProc → ℕ
@@ -92,7 +95,8 @@ site_ends a = exit a.args a.outs a.after
 abbrev pub implication : Claimed → Site → Site → Tree
 implication x a b =
     or_of (not_of a.guard) (or_of (not_of b.guard)
-    (under (map (term_of x.pair.inputs (site_inputs a) (site_inputs b)) x.candidate.when) (claim_term x.pair.outputs x.candidate.claim (site_ends a) a.flag (site_ends b) b.flag)))
+    (under (map (term_of x.pair.inputs (site_inputs a) (site_inputs b)) x.candidate.when)
+    (claim_term x.pair.outputs x.candidate.claim (site_ends a) a.flag (site_ends b) b.flag)))
 
 -- whether it is a candidate of the pair of the two callees
 abbrev pub is_about : Claimed → Site → Site → Bool
@@ -101,7 +105,8 @@ is_about x a b = (x.pair.old == a.callee) && (x.pair.new == b.callee)
 -- each live candidate of their pair, where candidates are numbered from n on
 abbrev pub calls_related : List Bool → ℕ → List Claimed → Site → Site → List Tree
 calls_related table n [] a b = []
-calls_related table n (x ∷ xs) a b = (if is_live table n && is_about x a b then implication x a b ∷ [] else []) ++ calls_related table (suc n) xs a b
+calls_related table n (x ∷ xs) a b =
+    (if is_live table n && is_about x a b then implication x a b ∷ [] else []) ++ calls_related table (suc n) xs a b
 
 -- an old call with each new call
 abbrev pub with_each : List Bool → List Claimed → Site → List Site → List Tree
@@ -143,7 +148,8 @@ constant_term c = leaf (Const c.name c.sort)
 abbrev pub apart_from : List Tree → Var → List Var → List Tree
 apart_from facts c [] = []
 apart_from facts c (d ∷ ds) =
-    (if same_sort c.sort d.sort && (occurs facts c && occurs facts d) then not_of (eq_of (constant_term c) (constant_term d)) ∷ [] else []) ++ apart_from facts c ds
+    (if same_sort c.sort d.sort && (occurs facts c && occurs facts d) then not_of
+    (eq_of (constant_term c) (constant_term d)) ∷ [] else []) ++ apart_from facts c ds
 
 -- each two unique constants of one type that occur in these facts differ
 abbrev pub apart : List Tree → List Var → List Tree
@@ -163,15 +169,20 @@ claim_of x a b = claim_term x.pair.outputs x.candidate.claim a.ends a.body.flag 
 -- axioms, conditions, what both bodies assume, and what is known of their calls
 abbrev pub premises_of : Work → List Bool → Claimed → Side → Side → List Tree
 premises_of w table x a b =
-    axioms_of w.old ++ (axioms_of w.new ++ (conditions_of x a b ++ (a.body.assumes ++ (b.body.assumes ++ all_related table w.claims a.body.sites b.body.sites))))
+    axioms_of w.old ++ (axioms_of w.new
+    ++ (conditions_of x a b ++ (a.body.assumes
+    ++ (b.body.assumes ++ all_related table w.claims a.body.sites b.body.sites))))
 
 -- the premises, then that unique constants which occur in them or in the claim differ, and last the denial of the claim
 abbrev pub facts_of : Work → List Bool → Claimed → Side → Side → List Tree
 facts_of w table x a b =
-    premises_of w table x a b ++ (apart (premises_of w table x a b ++ claim_of x a b ∷ []) w.old.uniques ++ (apart (premises_of w table x a b ++ claim_of x a b ∷ []) w.new.uniques ++ not_of (claim_of x a b) ∷ []))
+    premises_of w table x a b ++ (apart (premises_of w table x a b ++ claim_of x a b ∷ []) w.old.uniques
+    ++ (apart (premises_of w table x a b ++ claim_of x a b ∷ []) w.new.uniques ++ not_of (claim_of x a b) ∷ []))
 
 abbrev pub query_by : Work → Infallibles → List Bool → Claimed → Option CoreProc → Option CoreProc → List Tree
-query_by w z table x (Some p) (Some q) = facts_of w table x (old_side (old_context w z) (new_context w z) p q) (new_side (old_context w z) (new_context w z) p q)
+query_by w z table x (Some p) (Some q) =
+    facts_of w table x (old_side (old_context w z) (new_context w z) p q)
+    (new_side (old_context w z) (new_context w z) p q)
 query_by w z table x _ _ = []
 
 -- the query of a candidate under a table of live candidates

@@ -25,7 +25,13 @@ pub record DenotesSide (bank : List Tree) (n : Side) (s : query.Side) : Type 0 w
 abbrev pub side_at : List Tree → Side → query.Side
 side_at bank n = record {
   inputs = entry (map (tree_at bank) n.ins) (map (tree_at bank) n.globals);
-  body = record { store = entry [] []; flag = tree_at bank n.body.flag; gone = nothing; assumes = map (tree_at bank) n.body.assumes; sites = map (site_at bank) n.body.sites };
+  body = record {
+    store = entry [] [];
+    flag = tree_at bank n.body.flag;
+    gone = nothing;
+    assumes = map (tree_at bank) n.body.assumes;
+    sites = map (site_at bank) n.body.sites;
+  };
   ends = record { slots = map (tree_at bank) (n.ins ++ n.body.outs); globals = map (tree_at bank) n.body.globals };
 }
 
@@ -35,7 +41,8 @@ IsSideWithin bank n = DenotesSide bank n (side_at bank n)
 
 -- the numbers of the bodies of two procedures, where both are there
 abbrev pub AreSides : Context → Context → List Tree → Option CoreProc → Option CoreProc → Option Sides → Type 0
-AreSides C D bank (Some p) (Some q) (Some n) = DenotesSide bank n.old (old_side C D p q) × DenotesSide bank n.new (new_side C D p q)
+AreSides C D bank (Some p) (Some q) (Some n) =
+    DenotesSide bank n.old (old_side C D p q) × DenotesSide bank n.new (new_side C D p q)
 AreSides C D bank (Some p) (Some q) None = ⊥
 AreSides C D bank (Some p) None None = Unit {0}
 AreSides C D bank None q None = Unit {0}

@@ -17,7 +17,8 @@ use Rattle.sd_vcgen.specs.Laws.{InputsFit}
 use Rattle.sd_product.specs.Relations.{entry, exit, all_hold, claim_holds}
 use Rattle.sd_product.specs.Query.{Claimed, Work, Infallibles, is_live, query_of}
 
--- The candidate holds of all ended runs of its pair: where its conditions hold of their inputs, its claim holds of their ends.
+-- The candidate holds of all ended runs of its pair: where its conditions hold of their inputs, its claim holds of
+-- their ends.
 abbrev pub HoldsOf : Work → Calls → Calls → Claimed → Type 0
 HoldsOf w old new x =
     (ins globals ins' globals' outs after outs' after' : List Value) (flag flag' : Bool) →
@@ -50,8 +51,10 @@ IsSupported w z table = EachLive w table (λ x. IsUnsatisfiable (query_of w z ta
 -- (Hawblitzel and others 2013).
 abbrev pub MutualSummaries : Type 0
 MutualSummaries =
-    (w : Work) (z : Infallibles) (table : List Bool) (M : Meaning) → IsWork w z → IsMeaning w M → IsSupported w z table →
-    (n m : ℕ) → EachLive w table (HoldsOf w (flag_run (interpretation M) w.old.procs n) (flag_run (interpretation M) w.new.procs m))
+    (w : Work) (z : Infallibles) (table : List Bool) (M : Meaning) → IsWork w z → IsMeaning w M →
+    IsSupported w z table →
+    (n m : ℕ) → EachLive w table (HoldsOf w (flag_run (interpretation M) w.old.procs n)
+    (flag_run (interpretation M) w.new.procs m))
 
 -- procedures of the texts whose inputs a pair compares
 pub record IsRootPair (w : Work) (x : Claimed) : Type 0 where

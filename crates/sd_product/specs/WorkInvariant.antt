@@ -7,7 +7,13 @@ use Rattle.sd_product.specs.Numbering.{firsts_from, places_from, FindsPairs}
 use Rattle.sd_product.specs.declared.work.Work.TheInside.{Inside}
 
 abbrev pub held : Inside → Held
-held w = record { old = w.old; new = w.new; old_infallible = w.old_infallible.items; new_infallible = w.new_infallible.items }
+held w =
+    record {
+      old = w.old;
+      new = w.new;
+      old_infallible = w.old_infallible.items;
+      new_infallible = w.new_infallible.items;
+    }
 
 -- The pairs and candidates are those of the programs, and the tables are theirs.
 pub record IsWork (w : Inside) : Type 0 where

@@ -80,7 +80,8 @@ fn put_if_present(
     constant: &Var,
 ) -> Result<(), NoMemory>
     requires { All (λ id. id < length bank.old) found.old }
-    ensures { OnOk result (Adds bank.old found.old bank.new found.new (if any_constant constant.now terms.now then constant_term constant.now ∷ [] else [])) }
+    ensures { OnOk result (Adds bank.old found.old bank.new found.new
+        (if any_constant constant.now terms.now then constant_term constant.now ∷ [] else [])) }
 {
     if occurs(terms, constant) {
         let id = put_constant(bank, constant)?;
@@ -112,7 +113,8 @@ fn put_if_differing(
     requires facts { All (λ id. id < length bank.old) facts.old }
     requires left { left < length bank.old }
     requires right { right < length bank.old }
-    ensures { OnOk result (Adds bank.old facts.old bank.new facts.new (differ_two (tree_at bank.old left) (tree_at bank.old right))) }
+    ensures { OnOk result (Adds bank.old facts.old bank.new facts.new
+        (differ_two (tree_at bank.old left) (tree_at bank.old right))) }
 {
     if is_same_sort(bank.sort(left), bank.sort(right)) {
         let same = bank.eq(left, right)?;
@@ -133,7 +135,8 @@ fn put_differing(
     requires facts { All (λ id. id < length bank.old) facts.old }
     requires first { first < length bank.old }
     requires others { All (λ id. id < length bank.old) others.now }
-    ensures { OnOk result (Adds bank.old facts.old bank.new facts.new (differ_from (tree_at bank.old first) (map (tree_at bank.old) (drop start others.now)))) }
+    ensures { OnOk result (Adds bank.old facts.old bank.new facts.new
+        (differ_from (tree_at bank.old first) (map (tree_at bank.old) (drop start others.now)))) }
 {
     for i in start..others.len() {
         put_if_differing(bank, facts, first, others[i])?;
@@ -171,7 +174,8 @@ fn put_apart(
     Ok(())
 }
 
-/// Adds that the unique constants of each side which occur in the facts or in the claim differ, where they have one type.
+/// Adds that the unique constants of each side which occur in the facts or in the claim differ, where they have one
+/// type.
 pub(crate) fn put_uniques(
     bank: &mut Bank,
     facts: &mut Items<TermId>,
@@ -181,7 +185,9 @@ pub(crate) fn put_uniques(
 ) -> Result<(), NoMemory>
     requires facts { All (λ id. id < length bank.old) facts.old }
     requires claim { claim < length bank.old }
-    ensures { OnOk result (Adds bank.old facts.old bank.new facts.new (apart (map (tree_at bank.old) facts.old ++ tree_at bank.old claim ∷ []) olds.now ++ apart (map (tree_at bank.old) facts.old ++ tree_at bank.old claim ∷ []) news.now)) }
+    ensures { OnOk result (Adds bank.old facts.old bank.new facts.new
+        (apart (map (tree_at bank.old) facts.old ++ tree_at bank.old claim ∷ []) olds.now
+        ++ apart (map (tree_at bank.old) facts.old ++ tree_at bank.old claim ∷ []) news.now)) }
 {
     if olds.is_empty() && news.is_empty() {
         return Ok(());

@@ -12,7 +12,8 @@ use sd_term::{Bank, Query};
 use std::alloc::Global;
 use std::marker::Model;
 
-/// The two bodies of a pair, turned into terms once. The query of each of the pair's candidates is made from a copy of these terms.
+/// The two bodies of a pair, turned into terms once. The query of each of the pair's candidates is made from a copy
+/// of these terms.
 #[derive(Drop)]
 pub struct PairBodies<'a> {
     work: &'a Work,
@@ -59,8 +60,8 @@ impl<'a> PairBodies<'a> {
         })
     }
 
-    /// The query of one of the pair's candidates under a table of live candidates: facts that no valuation makes true where the
-    /// candidate holds, if the live candidates hold at calls (Hawblitzel and others 2013).
+    /// The query of one of the pair's candidates under a table of live candidates: facts that no valuation makes true
+    /// where the candidate holds, if the live candidates hold at calls (Hawblitzel and others 2013).
     pub fn query(&self, alloc: Global, table: &LiveTable, candidate: u32) -> Result<Query, NoMemory>
         requires about { IsAbout self.now.work candidate self.now.pair }
         requires size { length table.now ≡ length (claims_in self.now.work) }

@@ -16,7 +16,8 @@ use sd_term::{Bank, TermId};
 use sd_vcgen::Site;
 use sqlite_items::Items;
 
-/// What is known of the pairs of two programs: the pairs, and the candidates of each, which are numbered through in order.
+/// What is known of the pairs of two programs: the pairs, and the candidates of each, which are numbered through in
+/// order.
 #[derive(Clone, Copy)]
 pub(crate) struct Claims<'a> {
     pub(crate) pairs: &'a [Pair],
@@ -68,7 +69,9 @@ fn put_implication(
 ) -> Result<TermId, NoMemory>
     requires old { IsSiteWithin bank.old old.now }
     requires new { IsSiteWithin bank.old new.now }
-    ensures term { IfOk result (λ id. Denotes bank.new id (implication (record { pair = pair.now; candidate = candidate.now }) (site_at bank.old old.now) (site_at bank.old new.now))) }
+    ensures term { IfOk result (λ id. Denotes bank.new id
+        (implication (record { pair = pair.now; candidate = candidate.now }) (site_at bank.old old.now)
+        (site_at bank.old new.now))) }
     ensures kept { OnOk result (Extends bank.old bank.new) }
 {
     let claim = put_claim(
@@ -106,7 +109,9 @@ fn put_if_live(
     requires facts { All (λ id. id < length bank.old) facts.old }
     requires old { IsSiteWithin bank.old old.now }
     requires new { IsSiteWithin bank.old new.now }
-    ensures { OnOk result (Adds bank.old facts.old bank.new facts.new (if is_live table.now number then implication (record { pair = pair.now; candidate = candidate.now }) (site_at bank.old old.now) (site_at bank.old new.now) ∷ [] else [])) }
+    ensures { OnOk result (Adds bank.old facts.old bank.new facts.new
+        (if is_live table.now number then implication (record { pair = pair.now; candidate = candidate.now })
+        (site_at bank.old old.now) (site_at bank.old new.now) ∷ [] else [])) }
 {
     if table.get(number) {
         let id = put_implication(bank, pair, candidate, old, new)?;
@@ -134,7 +139,9 @@ fn put_live(
     requires facts { All (λ id. id < length bank.old) facts.old }
     requires old { IsSiteWithin bank.old old.now }
     requires new { IsSiteWithin bank.old new.now }
-    ensures { OnOk result (Adds bank.old facts.old bank.new facts.new (calls_related table.now first (claimed pair.now candidates.now) (site_at bank.old old.now) (site_at bank.old new.now))) }
+    ensures { OnOk result (Adds bank.old facts.old bank.new facts.new
+        (calls_related table.now first (claimed pair.now candidates.now) (site_at bank.old old.now)
+        (site_at bank.old new.now))) }
 {
     let end = table.count();
     let mut number = first;
@@ -195,7 +202,8 @@ fn put_related(
     requires facts { All (λ id. id < length bank.old) facts.old }
     requires old { IsSiteWithin bank.old old.now }
     requires new { IsSiteWithin bank.old new.now }
-    ensures { OnOk result (Adds bank.old facts.old bank.new facts.new (calls_related table.now 0 (claims_of claims.now) (site_at bank.old old.now) (site_at bank.old new.now))) }
+    ensures { OnOk result (Adds bank.old facts.old bank.new facts.new
+        (calls_related table.now 0 (claims_of claims.now) (site_at bank.old old.now) (site_at bank.old new.now))) }
 {
     match pair_of(claims, old.callee, new.callee) {
         Some(place) => put_live(
@@ -227,7 +235,8 @@ fn put_with_each(
     requires facts { All (λ id. id < length bank.old) facts.old }
     requires old { IsSiteWithin bank.old old.now }
     requires news { All (IsSiteWithin bank.old) news.now }
-    ensures { OnOk result (Adds bank.old facts.old bank.new facts.new (with_each table.now (claims_of claims.now) (site_at bank.old old.now) (map (site_at bank.old) news.now))) }
+    ensures { OnOk result (Adds bank.old facts.old bank.new facts.new
+        (with_each table.now (claims_of claims.now) (site_at bank.old old.now) (map (site_at bank.old) news.now))) }
 {
     for new in news {
         put_related(bank, facts, claims, table, old, new)?;
@@ -249,7 +258,9 @@ pub(crate) fn put_all_related(
     requires facts { All (λ id. id < length bank.old) facts.old }
     requires olds { All (IsSiteWithin bank.old) olds.now }
     requires news { All (IsSiteWithin bank.old) news.now }
-    ensures { OnOk result (Adds bank.old facts.old bank.new facts.new (all_related table.now (claims_of claims.now) (map (site_at bank.old) olds.now) (map (site_at bank.old) news.now))) }
+    ensures { OnOk result (Adds bank.old facts.old bank.new facts.new
+        (all_related table.now (claims_of claims.now) (map (site_at bank.old) olds.now)
+        (map (site_at bank.old) news.now))) }
 {
     for old in olds {
         put_with_each(bank, facts, claims, table, old, news)?;

@@ -58,7 +58,8 @@ fn put_conditions(
     requires facts { All (λ id. id < length bank.old) facts.old }
     requires old { IsSideWithin bank.old old.now }
     requires new { IsSideWithin bank.old new.now }
-    ensures { OnOk result (Adds bank.old facts.old bank.new facts.new (conditions_of (candidate_in obligation.now) (side_at bank.old old.now) (side_at bank.old new.now))) }
+    ensures { OnOk result (Adds bank.old facts.old bank.new facts.new
+        (conditions_of (candidate_in obligation.now) (side_at bank.old old.now) (side_at bank.old new.now))) }
 {
     put_relations(
         bank,
@@ -93,7 +94,9 @@ fn put_calls(
     requires facts { All (λ id. id < length bank.old) facts.old }
     requires old { IsSideWithin bank.old old.now }
     requires new { IsSideWithin bank.old new.now }
-    ensures { OnOk result (Adds bank.old facts.old bank.new facts.new (all_related obligation.now.table.now (work_in obligation.now).claims (side_at bank.old old.now).body.sites (side_at bank.old new.now).body.sites)) }
+    ensures { OnOk result (Adds bank.old facts.old bank.new facts.new
+        (all_related obligation.now.table.now (work_in obligation.now).claims (side_at bank.old old.now).body.sites
+        (side_at bank.old new.now).body.sites)) }
 {
     put_all_related(
         bank,
@@ -118,7 +121,9 @@ fn put_premises(
     requires facts { All (λ id. id < length bank.old) facts.old }
     requires old { IsSideWithin bank.old old.now }
     requires new { IsSideWithin bank.old new.now }
-    ensures { OnOk result (Adds bank.old facts.old bank.new facts.new (premises_of (work_in obligation.now) obligation.now.table.now (candidate_in obligation.now) (side_at bank.old old.now) (side_at bank.old new.now))) }
+    ensures { OnOk result (Adds bank.old facts.old bank.new facts.new
+        (premises_of (work_in obligation.now) obligation.now.table.now (candidate_in obligation.now)
+        (side_at bank.old old.now) (side_at bank.old new.now))) }
 {
     put_program_axioms(bank, facts, obligation.old.program)?;
     put_program_axioms(bank, facts, obligation.new.program)?;
@@ -140,7 +145,8 @@ fn put_candidate_claim(
 ) -> Result<TermId, NoMemory>
     requires old { IsSideWithin bank.old old.now }
     requires new { IsSideWithin bank.old new.now }
-    ensures term { IfOk result (λ id. Denotes bank.new id (claim_of (candidate_in obligation.now) (side_at bank.old old.now) (side_at bank.old new.now))) }
+    ensures term { IfOk result (λ id. Denotes bank.new id
+        (claim_of (candidate_in obligation.now) (side_at bank.old old.now) (side_at bank.old new.now))) }
     ensures kept { OnOk result (Extends bank.old bank.new) }
 {
     let claim = put_claim(
@@ -169,7 +175,9 @@ fn put_facts(
     requires tables { HasTables obligation.now }
     requires old { IsSideWithin bank.old old.now }
     requires new { IsSideWithin bank.old new.now }
-    ensures { IfOk result (λ ids. DenoteAll bank.new ids (facts_of (work_in obligation.now) obligation.now.table.now (candidate_in obligation.now) (side_at bank.old old.now) (side_at bank.old new.now))) }
+    ensures { IfOk result (λ ids. DenoteAll bank.new ids
+        (facts_of (work_in obligation.now) obligation.now.table.now (candidate_in obligation.now)
+        (side_at bank.old old.now) (side_at bank.old new.now))) }
 {
     let mut facts = Items::new(bank.allocator());
     put_premises(bank, &mut facts, obligation, old, new)?;
@@ -197,7 +205,9 @@ fn put_obligation(
 ) -> Result<Items<TermId>, NoMemory>
     requires tables { HasTables obligation.now }
     requires sides { AreSidesFor obligation.now bank.old sides.now }
-    ensures { IfOk result (λ ids. DenoteAll bank.new ids (query_of (work_in obligation.now) (infallibles_in obligation.now) obligation.now.table.now (candidate_in obligation.now))) }
+    ensures { IfOk result (λ ids. DenoteAll bank.new ids
+        (query_of (work_in obligation.now) (infallibles_in obligation.now) obligation.now.table.now
+        (candidate_in obligation.now))) }
 {
     match sides {
         Some(sides) => put_facts(bank, obligation, &sides.old, &sides.new),
@@ -215,7 +225,8 @@ pub(crate) fn put_query(
     requires tables { HasTables obligation.now }
     requires sorts { IsSorted obligation.now }
     requires sides { AreSidesFor obligation.now bodies.now sides.now }
-    ensures { IfOk result (λ q. q ≡ query_of (work_in obligation.now) (infallibles_in obligation.now) obligation.now.table.now (candidate_in obligation.now)) }
+    ensures { IfOk result (λ q. q ≡ query_of (work_in obligation.now) (infallibles_in obligation.now)
+        obligation.now.table.now (candidate_in obligation.now)) }
 {
     let mut bank = bodies.clone_of(alloc)?;
     let facts = put_obligation(alloc, &mut bank, obligation, sides)?;

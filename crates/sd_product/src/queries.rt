@@ -9,8 +9,9 @@ use sd_cand::LiveTable;
 use sd_term::Query;
 use std::alloc::Global;
 
-/// The query of a candidate under a table of live candidates: facts that no valuation makes true where the candidate holds, if
-/// the live candidates hold at calls (Hawblitzel and others 2013). More than 2^32 - 1 symbols are answered as out of memory.
+/// The query of a candidate under a table of live candidates: facts that no valuation makes true where the candidate
+/// holds, if the live candidates hold at calls (Hawblitzel and others 2013). More than 2^32 - 1 symbols are answered
+/// as out of memory.
 pub fn query(
     alloc: Global,
     work: &Work,

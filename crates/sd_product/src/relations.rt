@@ -82,7 +82,9 @@ fn put_related(
 ) -> Result<TermId, NoMemory>
     requires old { AreWithin bank.old old.now }
     requires new { AreWithin bank.old new.now }
-    ensures term { IfOk result (λ id. Denotes bank.new id (relation_of kind (read nothing (store_at bank.old old.now) spots.now.old) (read nothing (store_at bank.old new.now) spots.now.new))) }
+    ensures term { IfOk result (λ id. Denotes bank.new id
+        (relation_of kind (read nothing (store_at bank.old old.now) spots.now.old)
+        (read nothing (store_at bank.old new.now) spots.now.new))) }
     ensures kept { OnOk result (Extends bank.old bank.new) }
 {
     let left = put_spot(bank, old, spots.old)?;
@@ -101,7 +103,8 @@ pub(crate) fn put_relation(
 ) -> Result<TermId, NoMemory>
     requires old { AreWithin bank.old old.now }
     requires new { AreWithin bank.old new.now }
-    ensures term { IfOk result (λ id. Denotes bank.new id (term_of places.now (store_at bank.old old.now) (store_at bank.old new.now) relation)) }
+    ensures term { IfOk result (λ id. Denotes bank.new id
+        (term_of places.now (store_at bank.old old.now) (store_at bank.old new.now) relation)) }
     ensures kept { OnOk result (Extends bank.old bank.new) }
 {
     match places.get(relation.place as usize) {
@@ -122,7 +125,8 @@ pub(crate) fn put_relations(
     requires facts { All (λ id. id < length bank.old) facts.old }
     requires old { AreWithin bank.old old.now }
     requires new { AreWithin bank.old new.now }
-    ensures { OnOk result (Adds bank.old facts.old bank.new facts.new (map (term_of places.now (store_at bank.old old.now) (store_at bank.old new.now)) relations.now)) }
+    ensures { OnOk result (Adds bank.old facts.old bank.new facts.new
+        (map (term_of places.now (store_at bank.old old.now) (store_at bank.old new.now)) relations.now)) }
 {
     for relation in relations {
         let term = put_relation(bank, places, old, new, *relation)?;
@@ -143,7 +147,9 @@ pub(crate) fn put_under(
     requires old { AreWithin bank.old old.now }
     requires new { AreWithin bank.old new.now }
     requires claim { claim < length bank.old }
-    ensures term { IfOk result (λ id. Denotes bank.new id (under (map (term_of places.now (store_at bank.old old.now) (store_at bank.old new.now)) when.now) (tree_at bank.old claim))) }
+    ensures term { IfOk result (λ id. Denotes bank.new id
+        (under (map (term_of places.now (store_at bank.old old.now) (store_at bank.old new.now)) when.now)
+        (tree_at bank.old claim))) }
     ensures kept { OnOk result (Extends bank.old bank.new) }
 {
     let mut term = claim;
@@ -168,7 +174,9 @@ fn put_output_claim(
 ) -> Result<TermId, NoMemory>
     requires old { IsEndWithin bank.old old.now }
     requires new { IsEndWithin bank.old new.now }
-    ensures term { IfOk result (λ id. Denotes bank.new id (or_of (or_of (tree_at bank.old old.now.flag) (tree_at bank.old new.now.flag)) (term_of places.now (store_at bank.old old.now.state) (store_at bank.old new.now.state) relation))) }
+    ensures term { IfOk result (λ id. Denotes bank.new id
+        (or_of (or_of (tree_at bank.old old.now.flag) (tree_at bank.old new.now.flag))
+        (term_of places.now (store_at bank.old old.now.state) (store_at bank.old new.now.state) relation))) }
     ensures kept { OnOk result (Extends bank.old bank.new) }
 {
     let related = put_relation(bank, places, &old.state, &new.state, relation)?;
@@ -187,7 +195,9 @@ pub(crate) fn put_claim(
 ) -> Result<TermId, NoMemory>
     requires old { IsEndWithin bank.old old.now }
     requires new { IsEndWithin bank.old new.now }
-    ensures term { IfOk result (λ id. Denotes bank.new id (claim_term places.now claim (store_at bank.old old.now.state) (tree_at bank.old old.now.flag) (store_at bank.old new.now.state) (tree_at bank.old new.now.flag))) }
+    ensures term { IfOk result (λ id. Denotes bank.new id
+        (claim_term places.now claim (store_at bank.old old.now.state) (tree_at bank.old old.now.flag)
+        (store_at bank.old new.now.state) (tree_at bank.old new.now.flag))) }
     ensures kept { OnOk result (Extends bank.old bank.new) }
 {
     match claim {

@@ -68,7 +68,8 @@ fn put_side(
     first: u32,
     calls: u32,
 ) -> Result<Side, NoMemory>
-    ensures side { IfOk result (λ s. DenotesSide bank.new s (side_from (context_of context.now) procedure.now first calls)) }
+    ensures side { IfOk result (λ s. DenotesSide bank.new s
+        (side_from (context_of context.now) procedure.now first calls)) }
     ensures next { IfOk result (λ s. s.body.next ≡ calls + count_all (context_of context.now) procedure.now.body) }
     ensures kept { OnOk result (Extends bank.old bank.new) }
 {
@@ -103,8 +104,10 @@ fn put_both(
     old: &CoreProc,
     new: &CoreProc,
 ) -> Result<Sides, NoMemory>
-    ensures old { IfOk result (λ s. DenotesSide bank.new s.old (old_side (context_of old_context.now) (context_of new_context.now) old.now new.now)) }
-    ensures new { IfOk result (λ s. DenotesSide bank.new s.new (new_side (context_of old_context.now) (context_of new_context.now) old.now new.now)) }
+    ensures old { IfOk result (λ s. DenotesSide bank.new s.old
+        (old_side (context_of old_context.now) (context_of new_context.now) old.now new.now)) }
+    ensures new { IfOk result (λ s. DenotesSide bank.new s.new
+        (new_side (context_of old_context.now) (context_of new_context.now) old.now new.now)) }
 {
     let old_count = input_count(old_context, old)?;
     let new_count = input_count(new_context, new)?;
@@ -130,7 +133,8 @@ pub(crate) fn put_sides(
     old: Option<&CoreProc>,
     new: Option<&CoreProc>,
 ) -> Result<Option<Sides>, NoMemory>
-    ensures { IfOk result (AreSides (context_of old_context.now) (context_of new_context.now) bank.new (option_copied old.entry) (option_copied new.entry)) }
+    ensures { IfOk result (AreSides (context_of old_context.now) (context_of new_context.now) bank.new
+        (option_copied old.entry) (option_copied new.entry)) }
 {
     match old {
         Some(old) => match new {

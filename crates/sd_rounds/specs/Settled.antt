@@ -1,4 +1,5 @@
--- What a settled table is: each candidate that isn't live died lawfully, and each live one is proved under this same table.
+-- What a settled table is: each candidate that isn't live died lawfully, and each live one is proved under this same
+-- table.
 use Rattle.std.specs.Prelude.{◌≡◌, ℕ, ◌+◌, ◌≤◌, Bool, true, List, [], ◌∷◌, ◌++◌, Some, map, length, replicate, slice_get, Contains}
 use Rattle.sd_term.specs.Tree.{Tree}
 use Rattle.sd_cand.specs.Words.{words_of}
@@ -22,7 +23,8 @@ abbrev pub IsCause : ℕ → List Tree → Cause → Type 0
 IsCause leaves facts (Open cube) = IsOpenCube facts cube
 IsCause leaves facts (Spent n) = (n ≡ leaves) × ((cubes : List Cube) × IsSpent facts cubes leaves)
 
--- The candidate did not die before, and under the table that was seen its query isn't refuted. That table held all that had not died.
+-- The candidate did not die before, and under the table that was seen its query isn't refuted. That table held all
+-- that had not died.
 pub record IsLegalDeath (leaves : ℕ) (h : Held) (before : List ℕ) (d : Death) : Type 0 where
   pub seen : List Bool
   pub words : d.seen.items ≡ words_of seen
@@ -37,9 +39,10 @@ abbrev pub AreLegal : ℕ → Held → List ℕ → List Death → Type 0
 AreLegal leaves h before [] = Unit {0}
 AreLegal leaves h before (d ∷ ds) = IsLegalDeath leaves h before d × AreLegal leaves h (before ++ d.candidate ∷ []) ds
 
--- The table is the full one less the candidates of the deaths, which are legal, and each live candidate has a proof of its query under
--- this table.
-pub record IsSettled (leaves : ℕ) (h : Held) (table : List Bool) (deaths : List Death) (proofs : List Proved) : Type 0 where
+-- The table is the full one less the candidates of the deaths, which are legal, and each live candidate has a proof
+-- of its query under this table.
+pub record IsSettled (leaves : ℕ) (h : Held) (table : List Bool) (deaths : List Death) (proofs : List Proved)
+    : Type 0 where
   pub size : length table ≡ length (claims_in h)
   pub table_is : table ≡ cleared (replicate (length (claims_in h)) true) (dead_of deaths)
   pub legal : AreLegal leaves h [] deaths

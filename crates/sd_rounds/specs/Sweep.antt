@@ -31,7 +31,8 @@ abbrev pub IsFinding : ℕ → List (List Tree) → ℕ → Finding → Type 0
 IsFinding leaves queries n (IsProof proof) = IsProved queries (record { candidate = n; how = Steps proof })
 IsFinding leaves queries n (Dropped cause) = IsCauseAt leaves queries n cause
 
--- The table is the full one less the candidates of the deaths, which are legal, and each candidate is live or died once.
+-- The table is the full one less the candidates of the deaths, which are legal, and each candidate is live or died
+-- once.
 pub record AreDead (leaves : ℕ) (h : Held) (table : List Bool) (deaths : List Death) : Type 0 where
   pub size : length table ≡ length (claims_in h)
   pub table_is : table ≡ cleared (replicate (length (claims_in h)) true) (dead_of deaths)
@@ -43,7 +44,8 @@ abbrev pub AreProvedBelow : Held → ℕ → List Bool → List Proved → Type 
 AreProvedBelow h n table proofs = IsInductive (queries_under h table) (take n table) proofs
 
 -- No candidate from n on and before m died, and the proofs of those below n are now those of those below m.
-pub record GoesOn (h : Held) (n m : ℕ) (table table' : List Bool) (deaths deaths' : List Death) (proofs proofs' : List Proved) : Type 0 where
+pub record GoesOn (h : Held) (n m : ℕ) (table table' : List Bool) (deaths deaths' : List Death)
+    (proofs proofs' : List Proved) : Type 0 where
   pub table_stays : table' ≡ table
   pub deaths_stay : deaths' ≡ deaths
   pub proved : AreProvedBelow h n table proofs → AreProvedBelow h m table proofs'

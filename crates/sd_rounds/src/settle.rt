@@ -82,7 +82,8 @@ fn judge(
     Ok(finding_of(outcome, leaves))
 }
 
-/// Judges one of a pair's candidates, if it is live, and drops it, if its query isn't refuted. True where it was dropped.
+/// Judges one of a pair's candidates, if it is live, and drops it, if its query isn't refuted. True where it was
+/// dropped.
 fn visit(
     alloc: Global,
     work: &Work,
@@ -100,7 +101,8 @@ fn visit(
     ensures sweeps { settled.new.sweeps ≡ settled.old.sweeps }
     ensures dropped { IfOk result (λ dropped. MatchBool dropped
         (length settled.new.deaths.items ≡ length settled.old.deaths.items + 1)
-        (GoesOn work.now candidate (candidate + 1) settled.old.table settled.new.table settled.old.deaths.items settled.new.deaths.items settled.old.proofs.items settled.new.proofs.items)) }
+        (GoesOn work.now candidate (candidate + 1) settled.old.table settled.new.table settled.old.deaths.items
+        settled.new.deaths.items settled.old.proofs.items settled.new.proofs.items)) }
 {
     if !settled.table.get(candidate) {
         return Ok(false);
@@ -142,9 +144,9 @@ fn any_live(table: &LiveTable, first: u32, end: u32) -> bool
     false
 }
 
-/// Judges the live candidates of a pair in ascending order, each under the table as it stands then. The bodies of the pair are turned
-/// into terms once, and where no candidate is live they aren't. True where one was dropped; else the proofs of the live ones follow
-/// those of the pairs before.
+/// Judges the live candidates of a pair in ascending order, each under the table as it stands then. The bodies of the
+/// pair are turned into terms once, and where no candidate is live they aren't. True where one was dropped; else the
+/// proofs of the live ones follow those of the pairs before.
 fn sweep_pair(
     alloc: Global,
     work: &Work,
@@ -159,7 +161,9 @@ fn sweep_pair(
     ensures sweeps { settled.new.sweeps ≡ settled.old.sweeps }
     ensures dropped { IfOk result (λ dropped. MatchBool dropped
         (length settled.old.deaths.items < length settled.new.deaths.items)
-        (GoesOn work.now (count_before work.now pair) (count_before work.now (pair + 1)) settled.old.table settled.new.table settled.old.deaths.items settled.new.deaths.items settled.old.proofs.items settled.new.proofs.items)) }
+        (GoesOn work.now (count_before work.now pair) (count_before work.now (pair + 1)) settled.old.table
+        settled.new.table settled.old.deaths.items settled.new.deaths.items settled.old.proofs.items
+        settled.new.proofs.items)) }
     ensures grown { OnOk result (length settled.old.deaths.items ≤ length settled.new.deaths.items) }
 {
     let (first, end) = work.numbers_of(pair);
@@ -176,8 +180,8 @@ fn sweep_pair(
 
 // ---- all pairs
 
-/// Judges the live candidates in ascending order, pair by pair, each under the table as it stands then. True where one was dropped; else
-/// the proofs are those of the live candidates.
+/// Judges the live candidates in ascending order, pair by pair, each under the table as it stands then. True where
+/// one was dropped; else the proofs are those of the live candidates.
 fn sweep(alloc: Global, work: &Work, settled: &mut Settled, leaves: u32) -> Result<bool, NoMemory>
     requires leaves { 1 ≤ leaves }
     requires dead { AreDead leaves work.now settled.old.table settled.old.deaths.items }
@@ -186,7 +190,8 @@ fn sweep(alloc: Global, work: &Work, settled: &mut Settled, leaves: u32) -> Resu
     ensures dropped { IfOk result (λ dropped. MatchBool dropped
         (length settled.old.deaths.items < length settled.new.deaths.items)
         (IsInductive (queries_under work.now settled.new.table) settled.new.table settled.new.proofs.items)) }
-    ensures still { IfOk result (λ dropped. dropped ≡ false → length settled.new.deaths.items ≡ length settled.old.deaths.items) }
+    ensures still { IfOk result (λ dropped. dropped ≡ false →
+        length settled.new.deaths.items ≡ length settled.old.deaths.items) }
 {
     settled.proofs.clear();
     let mut dropped = false;

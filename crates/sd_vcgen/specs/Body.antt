@@ -99,13 +99,22 @@ with_store st s = record { store = st; flag = s.flag; gone = s.gone; assumes = s
 
 -- a failure where this holds, which ends the body
 abbrev pub fail : Tree → State → State
-fail up s = record { store = s.store; flag = or_of s.flag up; gone = or_of s.gone up; assumes = s.assumes; sites = s.sites }
+fail up s =
+    record { store = s.store; flag = or_of s.flag up; gone = or_of s.gone up; assumes = s.assumes; sites = s.sites }
 
 abbrev pub leave : Tree → State → State
-leave guard s = record { store = s.store; flag = s.flag; gone = or_of s.gone guard; assumes = s.assumes; sites = s.sites }
+leave guard s =
+    record { store = s.store; flag = s.flag; gone = or_of s.gone guard; assumes = s.assumes; sites = s.sites }
 
 abbrev pub assume : Tree → Tree → State → State
-assume guard c s = record { store = s.store; flag = s.flag; gone = s.gone; assumes = s.assumes ++ or_of (not_of guard) c ∷ []; sites = s.sites }
+assume guard c s =
+    record {
+      store = s.store;
+      flag = s.flag;
+      gone = s.gone;
+      assumes = s.assumes ++ or_of (not_of guard) c ∷ [];
+      sites = s.sites;
+    }
 
 -- ---- calls
 
@@ -184,7 +193,8 @@ count_all C (k ∷ ks) = count C k + count_all C ks
 -- a statement on a path, with symbols from k on
 abbrev mutual
   pub step : Context → CoreStmt → ℕ → Tree → State → State
-  step C (Assign ps es) k path s = with_store (assign (guard_of path s) s.store ps (map (term_in C.program.functions s.store) es)) s
+  step C (Assign ps es) k path s = with_store
+      (assign (guard_of path s) s.store ps (map (term_in C.program.functions s.store) es)) s
   step C (If' c n a m b) k path s =
       steps C b (k + row_count C a) (and_of path (not_of (term_in C.program.functions s.store c)))
       (steps C a k (and_of path (term_in C.program.functions s.store c)) s)
@@ -205,7 +215,14 @@ all_steps C (t ∷ ts) k path s = all_steps C ts (k + count C t) path (step C t 
 
 -- where a body begins, from these terms of its in-parameters and of the globals
 abbrev pub begun : CoreProc → (ins globals : List Tree) → State
-begun p ins globals = record { store = enter (λ s. leaf (head.Start s)) p ins globals; flag = constant false; gone = constant false; assumes = []; sites = [] }
+begun p ins globals =
+    record {
+      store = enter (λ s. leaf (head.Start s)) p ins globals;
+      flag = constant false;
+      gone = constant false;
+      assumes = [];
+      sites = [];
+    }
 
 -- where it ends, with symbols from k on
 abbrev pub body_of : Context → CoreProc → ℕ → (ins globals : List Tree) → State

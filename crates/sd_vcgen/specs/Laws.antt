@@ -20,8 +20,10 @@ use Rattle.sd_vcgen.specs.Body.{Site, State, Context, count_all, body_of, outs_o
 -- types, constants and functions stand for the same under the valuation
 pub record Reads (F : List Function) (v : Valuation) (I : Interpretation) : Type 0 where
   pub starts : (s : Sort) → cast s (v.by.start s) ≡ I.start s
-  pub constants : (c : Text) (g : Function) → declared_as true F c ≡ Some g → cast g.result (v.by.constant c) ≡ I.constant c
-  pub functions : (f : Text) (g : Function) (xs : List Value) → declared_as false F f ≡ Some g → HaveSorts g.args xs → cast g.result (v.by.apply f xs) ≡ I.apply f xs
+  pub constants : (c : Text) (g : Function) → declared_as true F c ≡ Some g →
+      cast g.result (v.by.constant c) ≡ I.constant c
+  pub functions : (f : Text) (g : Function) (xs : List Value) → declared_as false F f ≡ Some g → HaveSorts g.args xs →
+      cast g.result (v.by.apply f xs) ≡ I.apply f xs
 
 abbrev pub truth : Valuation → Tree → Bool
 truth v t = truth_of (value v t)
@@ -45,7 +47,8 @@ pub record InputsFit (P : CoreProgram) (q : ℕ) (ins globals : List Value) : Ty
 -- the call ends as its terms say
 pub record CallIs (P : CoreProgram) (calls : Calls) (v : Valuation) (site : Site) : Type 0 where
   pub fits : InputsFit P site.callee (map (value v) site.args) (map (value v) site.before)
-  pub ends : calls site.callee (map (value v) site.args) (map (value v) site.before) ≡ Ended (map (value v) site.outs) (map (value v) site.after) (truth v site.flag)
+  pub ends : calls site.callee (map (value v) site.args) (map (value v) site.before) ≡ Ended (map (value v) site.outs)
+      (map (value v) site.after) (truth v site.flag)
 
 -- where it counts
 abbrev pub SiteHolds : CoreProgram → Calls → Valuation → Site → Type 0
@@ -61,7 +64,8 @@ pub record Tells (v : Valuation) (p : CoreProc) (s : State) (outs after : List V
   pub flag_is : truth v s.flag ≡ flag
 
 -- the valuation is an ended run of the body
-pub record IsRun (P : CoreProgram) (calls : Calls) (v : Valuation) (p : CoreProc) (s : State) (outs after : List Value) (flag : Bool) : Type 0 where
+pub record IsRun (P : CoreProgram) (calls : Calls) (v : Valuation) (p : CoreProc) (s : State)
+    (outs after : List Value) (flag : Bool) : Type 0 where
   pub tells : Tells v p s outs after flag
   pub assumes : all_true v s.assumes ≡ true
   pub sites : SitesHold P calls v s.sites
@@ -71,30 +75,40 @@ pub record AreInputTerms (P : CoreProgram) (p : CoreProc) (in_terms global_terms
   pub ins_sorted : map sort_of in_terms ≡ sorts_of p.ins
   pub globals_sorted : map sort_of global_terms ≡ sorts_of P.globals
 
--- Values for the symbols of the calls, with which every valuation is this run, wherever the numbers of the symbols begin, and whichever
--- terms the body begins with.
-pub record HasLog (C : Context) (I : Interpretation) (calls : Calls) (p : CoreProc) (ins globals outs after : List Value) (flag : Bool) : Type 0 where
+-- Values for the symbols of the calls, with which every valuation is this run, wherever the numbers of the symbols
+-- begin, and whichever terms the body begins with.
+pub record HasLog (C : Context) (I : Interpretation) (calls : Calls) (p : CoreProc)
+    (ins globals outs after : List Value) (flag : Bool) : Type 0 where
   pub log : List Value
   pub size : length log ≡ count_all C p.body
-  pub by : (v : Valuation) (k : ℕ) (in_terms global_terms : List Tree) → Reads C.program.functions v I → Carries v k log → AreInputTerms C.program p in_terms global_terms → map (value v) in_terms ≡ ins → map (value v) global_terms ≡ globals → IsRun C.program calls v p (body_of C p k in_terms global_terms) outs after flag
+  pub by : (v : Valuation) (k : ℕ) (in_terms global_terms : List Tree) → Reads C.program.functions v I →
+      Carries v k log → AreInputTerms C.program p in_terms global_terms → map (value v) in_terms ≡ ins →
+      map (value v) global_terms ≡ globals →
+      IsRun C.program calls v p (body_of C p k in_terms global_terms) outs after flag
 
 -- Every ended run of a body is a valuation of its terms.
 abbrev pub RunsAreValuations : Type 0
 RunsAreValuations =
-    (C : Context) (M : Meaning) → WellFormed C.program → IsMeaningOf C.program M → IsInfallibleSet C.program.procs C.infallible →
-    (n q : ℕ) (p : CoreProc) → slice_get C.program.procs q ≡ Some p → (ins globals outs after : List Value) (flag : Bool) → InputsFit C.program q ins globals →
-    run_proc (interpretation M) (calls_within (interpretation M) C.program.procs n) p ins globals ≡ Ended outs after flag →
+    (C : Context) (M : Meaning) → WellFormed C.program → IsMeaningOf C.program M →
+    IsInfallibleSet C.program.procs C.infallible →
+    (n q : ℕ) (p : CoreProc) → slice_get C.program.procs q ≡ Some p →
+    (ins globals outs after : List Value) (flag : Bool) → InputsFit C.program q ins globals →
+    run_proc (interpretation M) (calls_within (interpretation M) C.program.procs n) p ins globals ≡ Ended outs after
+    flag →
     HasLog C (interpretation M) (calls_within (interpretation M) C.program.procs n) p ins globals outs after flag
 
 -- A valuation with true assumptions, whose calls end as their terms say, is an ended run of the body.
 abbrev pub ValuationsAreRuns : Type 0
 ValuationsAreRuns =
     (C : Context) (M : Meaning) → WellFormed C.program → IsMeaningOf C.program M →
-    (n q : ℕ) (p : CoreProc) → slice_get C.program.procs q ≡ Some p → (v : Valuation) → Reads C.program.functions v (interpretation M) →
+    (n q : ℕ) (p : CoreProc) → slice_get C.program.procs q ≡ Some p → (v : Valuation) →
+    Reads C.program.functions v (interpretation M) →
     (k : ℕ) (in_terms global_terms : List Tree) → AreInputTerms C.program p in_terms global_terms →
     (outs after : List Value) (flag : Bool) →
-    IsRun C.program (calls_within (interpretation M) C.program.procs n) v p (body_of C p k in_terms global_terms) outs after flag →
-    run_proc (interpretation M) (calls_within (interpretation M) C.program.procs n) p (map (value v) in_terms) (map (value v) global_terms) ≡ Ended outs after flag
+    IsRun C.program (calls_within (interpretation M) C.program.procs n) v p (body_of C p k in_terms global_terms) outs
+    after flag →
+    run_proc (interpretation M) (calls_within (interpretation M) C.program.procs n) p (map (value v) in_terms)
+    (map (value v) global_terms) ≡ Ended outs after flag
 
 -- ---- types
 
@@ -136,5 +150,6 @@ body_terms p s = s.flag ∷ (outs_of p s ++ (s.store.globals ++ (s.assumes ++ fl
 abbrev pub BodiesAreWellSorted : Type 0
 BodiesAreWellSorted =
     (C : Context) (q : ℕ) (p : CoreProc) → WellFormed C.program → slice_get C.program.procs q ≡ Some p →
-    (k : ℕ) (in_terms global_terms : List Tree) → AreInputTerms C.program p in_terms global_terms → AllWellSorted in_terms → AllWellSorted global_terms →
+    (k : ℕ) (in_terms global_terms : List Tree) → AreInputTerms C.program p in_terms global_terms →
+    AllWellSorted in_terms → AllWellSorted global_terms →
     AllWellSorted (body_terms p (body_of C p k in_terms global_terms))

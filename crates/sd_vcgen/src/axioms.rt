@@ -13,7 +13,8 @@ use sqlite_items::Items;
 
 /// The terms of a program's axioms, in their order. An axiom speaks of no spots.
 pub fn put_axioms(bank: &mut Bank, program: &CoreProgram) -> Result<Items<TermId>, NoMemory>
-    ensures terms { IfOk result (λ ids. DenoteAll bank.new ids (map (term_in program.now.functions (record { slots = []; globals = [] })) program.now.axioms)) }
+    ensures terms { IfOk result (λ ids. DenoteAll bank.new ids
+        (map (term_in program.now.functions (record { slots = []; globals = [] })) program.now.axioms)) }
     ensures kept { OnOk result (Extends bank.old bank.new) }
 {
     let slots = Items::new(bank.allocator());

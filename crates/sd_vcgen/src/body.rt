@@ -20,7 +20,8 @@ use sd_term::{Bank, Head, TermId};
 use sqlite_items::Items;
 use std::alloc::Global;
 
-/// The terms of a body: what its out-parameters and the globals hold at its end, where it fails an assertion, what it assumes, and its calls.
+/// The terms of a body: what its out-parameters and the globals hold at its end, where it fails an assertion, what it
+/// assumes, and its calls.
 #[derive(Drop)]
 pub struct BodyTerms {
     pub outs: Items<TermId>,
@@ -32,8 +33,8 @@ pub struct BodyTerms {
     pub next: u32,
 }
 
-/// What the spots hold, whether an assertion has failed, whether the body has ended, what it assumes, its calls, and the number of
-/// its next symbol.
+/// What the spots hold, whether an assertion has failed, whether the body has ended, what it assumes, its calls, and
+/// the number of its next symbol.
 #[derive(Drop)]
 pub(crate) struct BodyState {
     pub(crate) spots: Spots,
@@ -44,13 +45,13 @@ pub(crate) struct BodyState {
     pub(crate) next: u32,
 }
 
-/// The terms of a procedure's body, from these terms of its in-parameters and of the globals, with symbols by ascending number from
-/// `first` on. Where no `u32` holds the next number, it is answered as out of memory.
+/// The terms of a procedure's body, from these terms of its in-parameters and of the globals, with symbols by
+/// ascending number from `first` on. Where no `u32` holds the next number, it is answered as out of memory.
 ///
-/// A statement counts where its path is taken, which joins the conditions of the choices around it, and where the body
-/// hasn't ended before it. An assignment keeps the old term elsewhere (Lahiri and others 2012). What a call leaves in the outs of its
-/// callee and in the globals that the callee modifies are symbols, and so is its flag where the callee isn't infallible (Hawblitzel and
-/// others 2013).
+/// A statement counts where its path is taken, which joins the conditions of the choices around it, and where the
+/// body hasn't ended before it. An assignment keeps the old term elsewhere (Lahiri and others 2012). What a call
+/// leaves in the outs of its callee and in the globals that the callee modifies are symbols, and so is its flag where
+/// the callee isn't infallible (Hawblitzel and others 2013).
 pub fn body_of(
     alloc: Global,
     bank: &mut Bank,
@@ -62,7 +63,9 @@ pub fn body_of(
 ) -> Result<BodyTerms, NoMemory>
     requires ins { All (λ id. id < length bank.old) ins.now }
     requires globals { All (λ id. id < length bank.old) globals.now }
-    ensures terms { IfOk result (λ terms. AreTermsOf bank.new terms procedure.now (spec.body_of (context_of context.now) procedure.now first (map (tree_at bank.old) ins.now) (map (tree_at bank.old) globals.now))) }
+    ensures terms { IfOk result (λ terms. AreTermsOf bank.new terms procedure.now
+        (spec.body_of (context_of context.now) procedure.now first (map (tree_at bank.old) ins.now)
+        (map (tree_at bank.old) globals.now))) }
     ensures next { IfOk result (λ terms. terms.next ≡ first + count_all (context_of context.now) procedure.now.body) }
     ensures kept { OnOk result (Extends bank.old bank.new) }
 {
@@ -99,7 +102,8 @@ fn begin(
 ) -> Result<BodyState, NoMemory>
     requires ins { All (λ id. id < length bank.old) ins.now }
     requires globals { All (λ id. id < length bank.old) globals.now }
-    ensures state { IfOk result (λ s. Stands bank.new s (begun procedure.now (map (tree_at bank.old) ins.now) (map (tree_at bank.old) globals.now))) }
+    ensures state { IfOk result (λ s. Stands bank.new s
+        (begun procedure.now (map (tree_at bank.old) ins.now) (map (tree_at bank.old) globals.now))) }
     ensures next { IfOk result (λ s. s.next ≡ first) }
     ensures kept { OnOk result (Extends bank.old bank.new) }
 {
@@ -127,7 +131,8 @@ fn put_starts(
     variables: &[Var],
 ) -> Result<(), NoMemory>
     requires { All (λ id. id < length bank.old) slots.old }
-    ensures slots { OnOk result (DenoteAll bank.new slots.new (map (tree_at bank.old) slots.old ++ map (λ v. leaf (head.Start v.sort)) variables.now)) }
+    ensures slots { OnOk result (DenoteAll bank.new slots.new
+        (map (tree_at bank.old) slots.old ++ map (λ v. leaf (head.Start v.sort)) variables.now)) }
     ensures kept { OnOk result (Extends bank.old bank.new) }
 {
     for variable in variables {
@@ -145,7 +150,8 @@ fn put_outs(
     procedure: &CoreProc,
 ) -> Result<Items<TermId>, NoMemory>
     requires { AreWithin bank.old spots.now }
-    ensures terms { IfOk result (λ ids. DenoteAll bank.new ids (map (read nothing (store_of bank.old spots.now)) (out_spots procedure.now))) }
+    ensures terms { IfOk result (λ ids. DenoteAll bank.new ids
+        (map (read nothing (store_of bank.old spots.now)) (out_spots procedure.now))) }
     ensures spots { OnOk result (AreWithin bank.new spots.now) }
     ensures kept { OnOk result (Extends bank.old bank.new) }
 {
@@ -165,7 +171,8 @@ fn put_outs(
 pub(crate) fn put_guard(bank: &mut Bank, gone: TermId, path: TermId) -> Result<TermId, NoMemory>
     requires gone { gone < length bank.old }
     requires path { path < length bank.old }
-    ensures term { IfOk result (λ id. Denotes bank.new id (and_of (tree_at bank.old path) (not_of (tree_at bank.old gone)))) }
+    ensures term { IfOk result (λ id. Denotes bank.new id
+        (and_of (tree_at bank.old path) (not_of (tree_at bank.old gone)))) }
     ensures kept { OnOk result (Extends bank.old bank.new) }
 {
     let going = bank.not(gone)?;
@@ -184,7 +191,8 @@ pub(crate) fn assign(
     requires spots { AreWithin bank.old spots.old }
     requires guard { guard < length bank.old }
     requires news { All (λ id. id < length bank.old) news.now }
-    ensures spots { OnOk result (store_of bank.new spots.new ≡ spec.assign (tree_at bank.old guard) (store_of bank.old spots.old) targets.now (map (tree_at bank.old) news.now)) }
+    ensures spots { OnOk result (store_of bank.new spots.new ≡ spec.assign (tree_at bank.old guard)
+        (store_of bank.old spots.old) targets.now (map (tree_at bank.old) news.now)) }
     ensures within { OnOk result (AreWithin bank.new spots.new) }
     ensures kept { OnOk result (Extends bank.old bank.new) }
 {
@@ -204,7 +212,8 @@ fn assign_one(
     requires spots { AreWithin bank.old spots.old }
     requires guard { guard < length bank.old }
     requires new { new < length bank.old }
-    ensures spots { OnOk result (store_of bank.new spots.new ≡ spec.assign (tree_at bank.old guard) (store_of bank.old spots.old) (target ∷ []) (tree_at bank.old new ∷ [])) }
+    ensures spots { OnOk result (store_of bank.new spots.new ≡ spec.assign (tree_at bank.old guard)
+        (store_of bank.old spots.old) (target ∷ []) (tree_at bank.old new ∷ [])) }
     ensures within { OnOk result (AreWithin bank.new spots.new) }
     ensures kept { OnOk result (Extends bank.old bank.new) }
 {
@@ -224,7 +233,9 @@ fn run_assignment(
 ) -> Result<(), NoMemory>
     requires state { IsWithin bank.old state.old }
     requires path { path < length bank.old }
-    ensures state { OnOk result (Stands bank.new state.new (step (context_of context.now) (Assign targets.now rights.now) state.old.next (tree_at bank.old path) (state_of bank.old state.old))) }
+    ensures state { OnOk result (Stands bank.new state.new
+        (step (context_of context.now) (Assign targets.now rights.now) state.old.next (tree_at bank.old path)
+        (state_of bank.old state.old))) }
     ensures next { OnOk result (state.new.next ≡ state.old.next) }
     ensures kept { OnOk result (Extends bank.old bank.new) }
 {
@@ -244,7 +255,9 @@ fn run_assumption(
 ) -> Result<(), NoMemory>
     requires state { IsWithin bank.old state.old }
     requires path { path < length bank.old }
-    ensures state { OnOk result (Stands bank.new state.new (step (context_of context.now) (Assume condition.now) state.old.next (tree_at bank.old path) (state_of bank.old state.old))) }
+    ensures state { OnOk result (Stands bank.new state.new
+        (step (context_of context.now) (Assume condition.now) state.old.next (tree_at bank.old path)
+        (state_of bank.old state.old))) }
     ensures next { OnOk result (state.new.next ≡ state.old.next) }
     ensures kept { OnOk result (Extends bank.old bank.new) }
 {
@@ -261,7 +274,8 @@ fn run_assumption(
 pub(crate) fn fail(bank: &mut Bank, state: &mut BodyState, guard: TermId) -> Result<(), NoMemory>
     requires state { IsWithin bank.old state.old }
     requires guard { guard < length bank.old }
-    ensures state { OnOk result (Stands bank.new state.new (spec.fail (tree_at bank.old guard) (state_of bank.old state.old))) }
+    ensures state { OnOk result (Stands bank.new state.new
+        (spec.fail (tree_at bank.old guard) (state_of bank.old state.old))) }
     ensures next { OnOk result (state.new.next ≡ state.old.next) }
     ensures kept { OnOk result (Extends bank.old bank.new) }
 {
@@ -276,7 +290,8 @@ pub(crate) fn fail(bank: &mut Bank, state: &mut BodyState, guard: TermId) -> Res
 fn leave(bank: &mut Bank, state: &mut BodyState, guard: TermId) -> Result<(), NoMemory>
     requires state { IsWithin bank.old state.old }
     requires guard { guard < length bank.old }
-    ensures state { OnOk result (Stands bank.new state.new (spec.leave (tree_at bank.old guard) (state_of bank.old state.old))) }
+    ensures state { OnOk result (Stands bank.new state.new
+        (spec.leave (tree_at bank.old guard) (state_of bank.old state.old))) }
     ensures next { OnOk result (state.new.next ≡ state.old.next) }
     ensures kept { OnOk result (Extends bank.old bank.new) }
 {
@@ -287,7 +302,8 @@ fn leave(bank: &mut Bank, state: &mut BodyState, guard: TermId) -> Result<(), No
 fn run_failure(bank: &mut Bank, state: &mut BodyState, path: TermId) -> Result<(), NoMemory>
     requires state { IsWithin bank.old state.old }
     requires path { path < length bank.old }
-    ensures state { OnOk result (Stands bank.new state.new (spec.fail (guard_of (tree_at bank.old path) (state_of bank.old state.old)) (state_of bank.old state.old))) }
+    ensures state { OnOk result (Stands bank.new state.new
+        (spec.fail (guard_of (tree_at bank.old path) (state_of bank.old state.old)) (state_of bank.old state.old))) }
     ensures next { OnOk result (state.new.next ≡ state.old.next) }
     ensures kept { OnOk result (Extends bank.old bank.new) }
 {
@@ -298,7 +314,8 @@ fn run_failure(bank: &mut Bank, state: &mut BodyState, path: TermId) -> Result<(
 fn run_return(bank: &mut Bank, state: &mut BodyState, path: TermId) -> Result<(), NoMemory>
     requires state { IsWithin bank.old state.old }
     requires path { path < length bank.old }
-    ensures state { OnOk result (Stands bank.new state.new (spec.leave (guard_of (tree_at bank.old path) (state_of bank.old state.old)) (state_of bank.old state.old))) }
+    ensures state { OnOk result (Stands bank.new state.new
+        (spec.leave (guard_of (tree_at bank.old path) (state_of bank.old state.old)) (state_of bank.old state.old))) }
     ensures next { OnOk result (state.new.next ≡ state.old.next) }
     ensures kept { OnOk result (Extends bank.old bank.new) }
 {
@@ -322,8 +339,12 @@ fn put_branches(
 ) -> Result<Branches, NoMemory>
     requires state { IsWithin bank.old state.now }
     requires path { path < length bank.old }
-    ensures then_path { IfOk result (λ b. Denotes bank.new b.then_path (and_of (tree_at bank.old path) (term_in context.now.program.now.functions (state_of bank.old state.now).store condition.now))) }
-    ensures else_path { IfOk result (λ b. Denotes bank.new b.else_path (and_of (tree_at bank.old path) (not_of (term_in context.now.program.now.functions (state_of bank.old state.now).store condition.now)))) }
+    ensures then_path { IfOk result (λ b. Denotes bank.new b.then_path
+        (and_of (tree_at bank.old path) (term_in context.now.program.now.functions (state_of bank.old state.now).store
+        condition.now))) }
+    ensures else_path { IfOk result (λ b. Denotes bank.new b.else_path
+        (and_of (tree_at bank.old path) (not_of
+        (term_in context.now.program.now.functions (state_of bank.old state.now).store condition.now)))) }
     ensures state { OnOk result (IsWithin bank.new state.now) }
     ensures kept { OnOk result (Extends bank.old bank.new) }
 {
@@ -348,7 +369,9 @@ fn run_statement(
 ) -> Result<(), NoMemory>
     requires state { IsWithin bank.old state.old }
     requires path { path < length bank.old }
-    ensures state { OnOk result (Stands bank.new state.new (step (context_of context.now) statement.now state.old.next (tree_at bank.old path) (state_of bank.old state.old))) }
+    ensures state { OnOk result (Stands bank.new state.new
+        (step (context_of context.now) statement.now state.old.next (tree_at bank.old path)
+        (state_of bank.old state.old))) }
     ensures next { OnOk result (state.new.next ≡ state.old.next + count (context_of context.now) statement.now) }
     ensures within { OnOk result (IsWithin bank.new state.new) }
     ensures kept { OnOk result (Extends bank.old bank.new) }
@@ -392,7 +415,9 @@ fn run_statements(
 ) -> Result<(), NoMemory>
     requires state { IsWithin bank.old state.old }
     requires path { path < length bank.old }
-    ensures state { OnOk result (Stands bank.new state.new (all_steps (context_of context.now) statements.now state.old.next (tree_at bank.old path) (state_of bank.old state.old))) }
+    ensures state { OnOk result (Stands bank.new state.new
+        (all_steps (context_of context.now) statements.now state.old.next (tree_at bank.old path)
+        (state_of bank.old state.old))) }
     ensures next { OnOk result (state.new.next ≡ state.old.next + count_all (context_of context.now) statements.now) }
     ensures within { OnOk result (IsWithin bank.new state.new) }
     ensures kept { OnOk result (Extends bank.old bank.new) }

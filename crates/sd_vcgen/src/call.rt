@@ -28,8 +28,8 @@ pub struct Context<'a> {
     pub infallible: &'a [bool],
 }
 
-/// A call that a body makes: where it counts, its arguments and the globals before it, and the outs, the globals after it and the
-/// flag that it ends with.
+/// A call that a body makes: where it counts, its arguments and the globals before it, and the outs, the globals
+/// after it and the flag that it ends with.
 #[derive(Drop)]
 pub struct Site {
     /// The place of the called procedure in its program.
@@ -55,8 +55,11 @@ pub(crate) fn run_call(
 ) -> Result<(), NoMemory>
     requires state { IsWithin bank.old state.old }
     requires path { path < length bank.old }
-    ensures state { OnOk result (Stands bank.new state.new (spec.call (context_of context.now) state.old.next (tree_at bank.old path) (slice_get context.now.program.now.procs callee) receivers.now callee args.now (state_of bank.old state.old))) }
-    ensures next { OnOk result (state.new.next ≡ state.old.next + call_symbols ((context_of context.now).infallible callee) (slice_get context.now.program.now.procs callee)) }
+    ensures state { OnOk result (Stands bank.new state.new
+        (spec.call (context_of context.now) state.old.next (tree_at bank.old path)
+        (slice_get context.now.program.now.procs callee) receivers.now callee args.now (state_of bank.old state.old))) }
+    ensures next { OnOk result (state.new.next ≡ state.old.next + call_symbols
+        ((context_of context.now).infallible callee) (slice_get context.now.program.now.procs callee)) }
     ensures kept { OnOk result (Extends bank.old bank.new) }
 {
     match context.program.procs.get(callee as usize) {
@@ -81,8 +84,11 @@ fn call_procedure(
 ) -> Result<(), NoMemory>
     requires state { IsWithin bank.old state.old }
     requires path { path < length bank.old }
-    ensures state { OnOk result (Stands bank.new state.new (spec.call (context_of context.now) state.old.next (tree_at bank.old path) (Some procedure.now) receivers.now callee args.now (state_of bank.old state.old))) }
-    ensures next { OnOk result (state.new.next ≡ state.old.next + call_symbols ((context_of context.now).infallible callee) (Some procedure.now)) }
+    ensures state { OnOk result (Stands bank.new state.new
+        (spec.call (context_of context.now) state.old.next (tree_at bank.old path) (Some procedure.now) receivers.now
+        callee args.now (state_of bank.old state.old))) }
+    ensures next { OnOk result (state.new.next ≡ state.old.next + call_symbols
+        ((context_of context.now).infallible callee) (Some procedure.now)) }
     ensures kept { OnOk result (Extends bank.old bank.new) }
 {
     let made = put_site(bank, context, state, path, procedure, callee, args)?;
@@ -110,10 +116,14 @@ fn put_site(
 ) -> Result<Made, NoMemory>
     requires state { IsWithin bank.old state.old }
     requires path { path < length bank.old }
-    ensures site { IfOk result (λ made. DenotesSite bank.new made.site (site_of (context_of context.now) state.old.next (tree_at bank.old path) procedure.now callee args.now (state_of bank.old state.old))) }
-    ensures changed { IfOk result (λ made. DenoteAll bank.new made.changed (changed context.now.program.now state.old.next procedure.now)) }
+    ensures site { IfOk result (λ made. DenotesSite bank.new made.site
+        (site_of (context_of context.now) state.old.next (tree_at bank.old path) procedure.now callee args.now
+        (state_of bank.old state.old))) }
+    ensures changed { IfOk result (λ made. DenoteAll bank.new made.changed
+        (changed context.now.program.now state.old.next procedure.now)) }
     ensures state { OnOk result (Stands bank.new state.new (state_of bank.old state.old)) }
-    ensures next { OnOk result (state.new.next ≡ state.old.next + call_symbols ((context_of context.now).infallible callee) (Some procedure.now)) }
+    ensures next { OnOk result (state.new.next ≡ state.old.next + call_symbols
+        ((context_of context.now).infallible callee) (Some procedure.now)) }
     ensures kept { OnOk result (Extends bank.old bank.new) }
 {
     let alloc = bank.allocator();
@@ -181,9 +191,13 @@ fn put_results(
     callee: u32,
 ) -> Result<Results, NoMemory>
     ensures outs { IfOk result (λ r. DenoteAll bank.new r.outs (symbols next.old (sorts_of procedure.now.outs))) }
-    ensures changed { IfOk result (λ r. DenoteAll bank.new r.changed (changed context.now.program.now next.old procedure.now)) }
-    ensures flag { IfOk result (λ r. Denotes bank.new r.flag (site_flag ((context_of context.now).infallible callee) (next.old + (length procedure.now.outs + length procedure.now.modifies)))) }
-    ensures next { OnOk result (next.new ≡ next.old + call_symbols ((context_of context.now).infallible callee) (Some procedure.now)) }
+    ensures changed { IfOk result (λ r. DenoteAll bank.new r.changed
+        (changed context.now.program.now next.old procedure.now)) }
+    ensures flag { IfOk result (λ r. Denotes bank.new r.flag
+        (site_flag ((context_of context.now).infallible callee)
+        (next.old + (length procedure.now.outs + length procedure.now.modifies)))) }
+    ensures next { OnOk result (next.new ≡ next.old + call_symbols ((context_of context.now).infallible callee)
+        (Some procedure.now)) }
     ensures kept { OnOk result (Extends bank.old bank.new) }
 {
     let alloc = bank.allocator();
@@ -306,7 +320,9 @@ fn receive(
     requires state { IsWithin bank.old state.old }
     requires changed { All (λ id. id < length bank.old) changed.now }
     requires site { IsSiteWithin bank.old site }
-    ensures state { OnOk result (Stands bank.new state.new (spec.receive (map (tree_at bank.old) changed.now) procedure.now receivers.now (site_at bank.old site) (state_of bank.old state.old))) }
+    ensures state { OnOk result (Stands bank.new state.new
+        (spec.receive (map (tree_at bank.old) changed.now) procedure.now receivers.now (site_at bank.old site)
+        (state_of bank.old state.old))) }
     ensures next { OnOk result (state.new.next ≡ state.old.next) }
     ensures kept { OnOk result (Extends bank.old bank.new) }
 {
@@ -329,7 +345,10 @@ fn store_results(
     requires spots { AreWithin bank.old spots.old }
     requires changed { All (λ id. id < length bank.old) changed.now }
     requires site { IsSiteWithin bank.old site.now }
-    ensures spots { OnOk result (store_of bank.new spots.new ≡ spec.assign (tree_at bank.old site.now.guard) (spec.assign (tree_at bank.old site.now.guard) (store_of bank.old spots.old) (map GlobalSpot procedure.now.modifies) (map (tree_at bank.old) changed.now)) receivers.now (map (tree_at bank.old) site.now.outs)) }
+    ensures spots { OnOk result (store_of bank.new spots.new ≡ spec.assign (tree_at bank.old site.now.guard)
+        (spec.assign (tree_at bank.old site.now.guard) (store_of bank.old spots.old)
+        (map GlobalSpot procedure.now.modifies) (map (tree_at bank.old) changed.now)) receivers.now
+        (map (tree_at bank.old) site.now.outs)) }
     ensures within { OnOk result (AreWithin bank.new spots.new) }
     ensures kept { OnOk result (Extends bank.old bank.new) }
 {

@@ -24,7 +24,8 @@ pub(crate) fn put_expression(
     expression: &CoreExpr,
 ) -> Result<TermId, NoMemory>
     requires { AreWithin bank.old spots.now }
-    ensures term { IfOk result (λ id. Denotes bank.new id (term_in functions.now (store_of bank.old spots.now) expression.now)) }
+    ensures term { IfOk result (λ id. Denotes bank.new id
+        (term_in functions.now (store_of bank.old spots.now) expression.now)) }
     ensures spots { OnOk result (AreWithin bank.new spots.now) }
     ensures kept { OnOk result (Extends bank.old bank.new) }
 {
@@ -53,7 +54,8 @@ pub(crate) fn put_expressions(
     expressions: &[CoreExpr],
 ) -> Result<Items<TermId>, NoMemory>
     requires { AreWithin bank.old spots.now }
-    ensures terms { IfOk result (λ ids. DenoteAll bank.new ids (map (term_in functions.now (store_of bank.old spots.now)) expressions.now)) }
+    ensures terms { IfOk result (λ ids. DenoteAll bank.new ids
+        (map (term_in functions.now (store_of bank.old spots.now)) expressions.now)) }
     ensures spots { OnOk result (AreWithin bank.new spots.now) }
     ensures kept { OnOk result (Extends bank.old bank.new) }
 {
@@ -96,7 +98,8 @@ fn result_sort(
 }
 
 fn put_constant(bank: &mut Bank, functions: &[Function], name: &Name) -> Result<TermId, NoMemory>
-    ensures term { IfOk result (λ id. Denotes bank.new id (leaf (head.Const name.now (result_of (declared_as true functions.now name.now))))) }
+    ensures term { IfOk result (λ id. Denotes bank.new id
+        (leaf (head.Const name.now (result_of (declared_as true functions.now name.now))))) }
     ensures kept { OnOk result (Extends bank.old bank.new) }
 {
     let sort = result_sort(bank, functions, true, name)?;
@@ -111,7 +114,9 @@ fn put_application(
     args: &[TermId],
 ) -> Result<TermId, NoMemory>
     requires { All (λ id. id < length bank.old) args.now }
-    ensures term { IfOk result (λ id. Denotes bank.new id (tree (head.App name.now (result_of (declared_as false functions.now name.now))) (map (tree_at bank.old) args.now))) }
+    ensures term { IfOk result (λ id. Denotes bank.new id
+        (tree (head.App name.now (result_of (declared_as false functions.now name.now)))
+        (map (tree_at bank.old) args.now))) }
     ensures kept { OnOk result (Extends bank.old bank.new) }
 {
     let sort = result_sort(bank, functions, false, name)?;
@@ -155,7 +160,8 @@ fn put_binary(
 ) -> Result<TermId, NoMemory>
     requires left { left < length bank.old }
     requires right { right < length bank.old }
-    ensures term { IfOk result (λ id. Denotes bank.new id (op_term operator (tree_at bank.old left ∷ tree_at bank.old right ∷ []))) }
+    ensures term { IfOk result (λ id. Denotes bank.new id
+        (op_term operator (tree_at bank.old left ∷ tree_at bank.old right ∷ []))) }
     ensures kept { OnOk result (Extends bank.old bank.new) }
 {
     match operator {
@@ -181,7 +187,8 @@ fn put_ternary(
     requires map { map < length bank.old }
     requires index { index < length bank.old }
     requires value { value < length bank.old }
-    ensures term { IfOk result (λ id. Denotes bank.new id (op_term operator (tree_at bank.old map ∷ tree_at bank.old index ∷ tree_at bank.old value ∷ []))) }
+    ensures term { IfOk result (λ id. Denotes bank.new id
+        (op_term operator (tree_at bank.old map ∷ tree_at bank.old index ∷ tree_at bank.old value ∷ []))) }
     ensures kept { OnOk result (Extends bank.old bank.new) }
 {
     match operator {

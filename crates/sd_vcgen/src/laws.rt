@@ -1,9 +1,10 @@
 //! What the terms of a body have to do with the runs of its procedure.
 ghost use Rattle.sd_vcgen.specs.Laws.{RunsAreValuations, ValuationsAreRuns, BodiesAreSorted, BodiesAreWellSorted};
 
-/// For each ended run there are values for the symbols of the calls with which every valuation is that run: its assumptions are
-/// true, its outs, globals and flag have the run's values, and each call that counts is the ended run of its callee.
-/// (Lahiri and others 2012: a body without loops as one formula; Hawblitzel and others 2013: calls as sites.)
+/// For each ended run there are values for the symbols of the calls with which every valuation is that run: its
+/// assumptions are true, its outs, globals and flag have the run's values, and each call that counts is the ended run
+/// of its callee. (Lahiri and others 2012: a body without loops as one formula; Hawblitzel and others 2013: calls as
+/// sites.)
 pub fn runs_are_valuations()
     ensures { RunsAreValuations }
 {
