@@ -128,7 +128,7 @@ module _ (w : Work) (table : List Bool) (old_formed : WellFormed w.old) (new_for
         facts-truth x (old_side C D p q) (new_side C D p q) (assumes-truth C old_formed x.pair.old p e 0 (first_call C D p q))
         (assumes-truth D new_formed x.pair.new q f (input_count C.program p) (first_call C D p q + count_all C p.body))
 
-    query-truth : (x : Claimed) → AreTruths (query_of w z table x)
+    pub query-truth : (x : Claimed) → AreTruths (query_of w z table x)
     unfolding query_of
     query-truth x = by-truth x (slice_get w.old.procs x.pair.old) (slice_get w.new.procs x.pair.new) refl refl
 

@@ -6,6 +6,7 @@ ghost use Rattle.sd_vcgen.specs.Numbers.{Denotes, DenoteAll};
 ghost use Rattle.sd_product.specs.Query.{axioms_of, conditions_of, all_related, premises_of, claim_of, facts_of, query_of};
 ghost use Rattle.sd_product.specs.Numbers.{Adds};
 ghost use Rattle.sd_product.specs.Sides.{side_at, IsSideWithin};
+ghost use Rattle.sd_product.specs.TruthQueries.{AreTruths};
 ghost use Rattle.sd_product.specs.Obligations.{work_in, infallibles_in, candidate_in, HasTables, IsSorted, AreSidesFor};
 
 use crate::apart::put_uniques;
@@ -225,8 +226,9 @@ pub(crate) fn put_query(
     requires tables { HasTables obligation.now }
     requires sorts { IsSorted obligation.now }
     requires sides { AreSidesFor obligation.now bodies.now sides.now }
-    ensures { IfOk result (λ q. q ≡ query_of (work_in obligation.now) (infallibles_in obligation.now)
+    ensures query { IfOk result (λ q. q ≡ query_of (work_in obligation.now) (infallibles_in obligation.now)
         obligation.now.table.now (candidate_in obligation.now)) }
+    ensures truths { IfOk result AreTruths }
 {
     let mut bank = bodies.clone_of(alloc)?;
     let facts = put_obligation(alloc, &mut bank, obligation, sides)?;

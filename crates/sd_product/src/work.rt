@@ -114,6 +114,7 @@ impl Work {
         requires old { WellFormed old }
         requires new { WellFormed new }
         ensures programs { IfOk result (λ work. (work.old ≡ old) × (work.new ≡ new)) }
+        ensures comparable { IfOk result IsHeld }
         ensures unrefused { OnOk result (refusal_of old new ≡ None) }
         ensures refused { IfErr result (λ e. Tells e (refusal_of old new)) }
     {
@@ -131,7 +132,8 @@ impl Work {
         requires old { WellFormed old }
         requires new { WellFormed new }
         requires pairs { pairs ≡ pairs_of old new }
-        ensures { IfOk result (λ work. (work.old ≡ old) × (work.new ≡ new)) }
+        ensures programs { IfOk result (λ work. (work.old ≡ old) × (work.new ≡ new)) }
+        ensures comparable { IfOk result IsHeld }
     {
         let old_infallible = infallible_procedures(alloc, old.procs.as_slice())?;
         let new_infallible = infallible_procedures(alloc, new.procs.as_slice())?;
@@ -179,14 +181,6 @@ impl Work {
         ensures { slice_get (all_candidates (pairs_in self.now)) pair ≡ Some result.now }
     {
         self.candidates[pair as usize].as_slice()
-    }
-
-    /// The programs can be compared, and the infallible procedures are theirs.
-    pub fn is_held(&self)
-        ensures { IsHeld self.now }
-    {
-        // What is held of the fields is known where one is read.
-        let _ = &self.old;
     }
 
     /// How many candidates all pairs have.

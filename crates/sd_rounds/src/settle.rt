@@ -7,7 +7,6 @@ ghost use Rattle.sd_rounds.specs.Sweep.{AreDead, GoesOn, IsFinding, finding_of};
 use sd_base::NoMemory;
 use sd_cand::LiveTable;
 use sd_kernel::{How, Proof, Proved};
-use sd_product::laws::queries_are_truths;
 use sd_product::{PairBodies, Work};
 use sd_search::{Outcome, refute};
 use sd_term::Cube;
@@ -76,8 +75,6 @@ fn judge(
     ensures { IfOk result (IsFinding leaves (queries_under work.now table.now) candidate) }
 {
     let query = bodies.query(alloc, table, candidate)?;
-    work.is_held();
-    queries_are_truths();
     let outcome = refute(alloc, &query, leaves)?;
     Ok(finding_of(outcome, leaves))
 }

@@ -38,7 +38,6 @@ pub fn match_texts(alloc: Global, old: Text, new: Text) -> Result<Matched, Match
         Err(WorkError::Match(refused)) => return Err(refused),
         Err(WorkError::NoMemory) => return Err(MatchError::NoMemory),
     };
-    work.is_held();
     Ok(Matched { old, new, work })
 }
 

@@ -1,16 +1,13 @@
 use Rattle.std.proofs.Common.{◌≡◌, subst}
 use Rattle.std.specs.Prelude.{Some, slice_get}
-use Rattle.sd_product.specs.TruthQueries.{AreTruths}
 use Rattle.sd_product.specs.Work.{Held, queries_under}
-use Rattle.sd_rounds.proofs.Settling.{all_at, found}
+use Rattle.sd_rounds.proofs.Settling.{found}
 use Rattle.sd_rounds.proofs.settle.judge.Goals as goal
 
 pub refute-requires-clause-truths : goal.refute-requires-clause-truths
-refute-requires-clause-truths c =
-    let query = subst (λ (h : Held). slice_get (queries_under h c.args.table.now) c.args.candidate ≡ Some c.in_ok-query.query) c.requires.bodies c.in_ok-query.ensures in
-    all_at AreTruths (queries_under c.args.work.now c.args.table.now) c.args.candidate c.in_ok-query.query (c.queries_are_truths.ensures c.args.work.now c.is_held.ensures c.args.table.now) query
+refute-requires-clause-truths c = c.in_ok-query.ensures.truths
 
 pub returns : goal.returns
 returns c =
-    let query = subst (λ (h : Held). slice_get (queries_under h c.args.table.now) c.args.candidate ≡ Some c.in_ok-query.query) c.requires.bodies c.in_ok-query.ensures in
+    let query = subst (λ (h : Held). slice_get (queries_under h c.args.table.now) c.args.candidate ≡ Some c.in_ok-query.query) c.requires.bodies c.in_ok-query.ensures.query in
     found c.args.leaves (queries_under c.args.work.now c.args.table.now) c.args.candidate c.in_ok-query.query _ _ query c.finding_of.ensures c.in_ok-outcome.ensures.refuted c.in_ok-outcome.ensures.cube c.in_ok-outcome.ensures.spent

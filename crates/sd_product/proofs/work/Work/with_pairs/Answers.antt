@@ -23,3 +23,11 @@ invariant_of-result c = record {
   are_places = c.in_ok-places.ensures.places ∙ ap (places_from 0) c.as_slice-4.ensures.value;
   few = c.in_ok-places.ensures.few;
 }
+
+pub returns-clause-comparable : goal.returns-clause-comparable
+returns-clause-comparable c = record {
+  old_formed = c.requires.old;
+  new_formed = c.requires.new;
+  old_infallible = subst (λ (ps : List CoreProc). AreTheInfallible ps (entry_at c.in_ok-old_infallible.old_infallible.items)) c.as_slice.ensures c.in_ok-old_infallible.ensures.infallible;
+  new_infallible = subst (λ (ps : List CoreProc). AreTheInfallible ps (entry_at c.in_ok-new_infallible.new_infallible.items)) c.as_slice-2.ensures c.in_ok-new_infallible.ensures.infallible;
+}
