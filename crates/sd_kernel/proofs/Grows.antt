@@ -16,8 +16,9 @@ use Rattle.sd_kernel.specs.declared.step.Step.TheVariants.{Split, Close, Term, O
 use Rattle.sd_kernel.specs.Known.{Trail}
 use Rattle.sd_kernel.specs.Steps.{leaves, outcome, is_read_by, is_map, fits, line_head}
 use Rattle.sd_kernel.proofs.Needs.{Adds, TermNeeds, SplitNeeds, term-needs, split-needs, order-needs, ite-needs, chain-needs, close-needs}
-use Rattle.sd_kernel.proofs.RowLines.{rows-terms, rows-branches}
-use Rattle.sd_kernel.proofs.Members.{has-left, has-get, sorted-in, sorted-append, AreAbout, AllAbout, about-snoc, about-more}
+use Rattle.sd_kernel.proofs.RowLines.{rows-closed}
+use Rattle.sd_term.proofs.Numbers.{has-more}
+use Rattle.sd_kernel.proofs.Members.{has-get, sorted-in, sorted-append, AreAbout, AllAbout, about-snoc, about-more}
 
 -- terms with their parts, well sorted
 pub record AreTerms (terms : List Tree) : Type 0 where
@@ -70,7 +71,7 @@ module _ (terms : List Tree) (trail : Trail) (w : AreTerms terms) (a : AreAbout 
       let p : has terms n.a ≡ true = has-get terms _ n.a n.a_at in
       let q : has terms n.b ≡ true = has-get terms _ n.b n.b_at in
       let t : Tree = tree (line_head line) (n.a ∷ n.b ∷ []) in
-      let keep : (u : Tree) → has terms u ≡ true → has (terms ++ t ∷ []) u ≡ true = λ u h. has-left terms (t ∷ []) u h in
+      let keep : (u : Tree) → has terms u ≡ true → has (terms ++ t ∷ []) u ≡ true = λ u h. has-more terms (t ∷ []) u h in
       subst (λ m. Grows terms m branches) n.grown (record {
         are_terms = record {
           sorted = sorted-append terms (t ∷ []) w.sorted (fits-well line n.a n.b (sorted-in terms n.a w.sorted p) (sorted-in terms n.b w.sorted q) n.sorts, tt);
@@ -93,7 +94,7 @@ module _ (terms : List Tree) (trail : Trail) (w : AreTerms terms) (a : AreAbout 
   step-grows (ChooseBranch t e) h = let n = ite-needs terms trail mid branches t e h in one-more n.u true (has-get terms e n.u n.u_at) n.more
   step-grows (Chain e fs) h = let n = chain-needs terms trail mid branches e fs h in one-more n.t true (has-get terms e n.t n.t_at) n.more
   step-grows (Close k) e = let n = close-needs terms trail mid branches k e in stays n.same (subst (AllAbout terms) n.nothing tt)
-  step-grows (Rows lines) e = stays (rows-terms terms trail mid branches 1 [] lines e) (subst (AllAbout terms) (rows-branches terms trail mid branches 1 [] lines e) tt)
+  step-grows (Rows lines) e = let n = rows-closed terms trail mid branches 1 [] lines e in stays n.0 (subst (AllAbout terms) n.1 tt)
 
 -- the terms of facts
 pub numbered-terms : (facts : List Tree) → AllWellSorted (numbered facts) → AreTerms (numbered facts)

@@ -16,8 +16,5 @@ pub mod Sound
 pub mod Walks
 pub mod Refuted
 pub mod Tables
-pub mod FirstFacts
 pub mod Opened
 pub mod Propositions
-pub mod GrownTerms
-pub mod Steps

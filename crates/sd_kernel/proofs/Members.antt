@@ -4,33 +4,24 @@ use Rattle.std.specs.Prelude.{option_and_then}
 use Rattle.sd_term.specs.Tree.{Tree, same_tree, same_tree-true, same_tree-self}
 use Rattle.sd_term.specs.Numbering.{has, numbered, AllIn}
 use Rattle.sd_term.specs.Sorts.{IsWellSorted, AllWellSorted}
-use Rattle.sd_term.proofs.Numbers.{has-append, numbered-facts}
+use Rattle.sd_term.proofs.Numbers.{numbered-facts}
 use Rattle.sd_kernel.specs.Known.{Fact, Trail}
 use Rattle.sd_kernel.specs.Steps.{all_at}
 use Rattle.sd_kernel.specs.Proof.{start}
 
 -- ---- members
 
-or-cases : (a b : Bool) → a || b ≡ true → (a ≡ true) ⊎ (b ≡ true)
+pub or-cases : (a b : Bool) → a || b ≡ true → (a ≡ true) ⊎ (b ≡ true)
 or-cases true b e = inl refl
 or-cases false b e = inr e
-
-or-left : (a b : Bool) → a ≡ true → a || b ≡ true
-or-left a b e = ap (λ x. x || b) e
 
 or-right : (a b : Bool) → b ≡ true → a || b ≡ true
 or-right true b e = refl
 or-right false b e = e
 
-pub has-left : (a b : List Tree) (t : Tree) → has a t ≡ true → has (a ++ b) t ≡ true
-has-left a b t e = has-append a b t ∙ or-left (has a t) (has b t) e
-
-pub has-right : (a b : List Tree) (t : Tree) → has b t ≡ true → has (a ++ b) t ≡ true
-has-right a b t e = has-append a b t ∙ or-right (has a t) (has b t) e
-
 pub has-get : (ts : List Tree) (n : ℕ) (t : Tree) → slice_get ts n ≡ Some t → has ts t ≡ true
 has-get [] n t e = cc
-has-get (u ∷ ts) zero t e = let f : u ≡ t = cc in or-left (same_tree u t) (has ts t) (ap (λ x. same_tree x t) f ∙ same_tree-self t)
+has-get (u ∷ ts) zero t e = let f : u ≡ t = cc in ap (λ x. x || has ts t) (ap (λ x. same_tree x t) f ∙ same_tree-self t)
 has-get (u ∷ ts) (suc n) t e = or-right (same_tree u t) (has ts t) (has-get ts n t e)
 
 -- ---- well-sorted terms

@@ -1,5 +1,5 @@
 -- the branches of a walk before and after a step
-use Rattle.std.proofs.Common.{◌≡◌, ℕ, zero, suc, ◌+◌, ◌<◌, ◌≤◌, List, [], ◌∷◌, ◌++◌, map, get_or, refl, sym, ap, ◌∙◌, subst, Bool, true, false, length, slice_get, Some, take, reverse, arith, All, length-append}
+use Rattle.std.proofs.Common.{◌≡◌, ℕ, zero, suc, ◌+◌, ◌<◌, ◌≤◌, List, [], ◌∷◌, ◌++◌, map, refl, sym, ap, ◌∙◌, subst, Bool, true, false, length, take, reverse, arith, All, length-append}
 use Rattle.std.proofs.lemmas.List.{reverse-append, take-append-le, take-take, length-take-le, take_all}
 use Rattle.std.proofs.lemmas.List.Elements.{All-map}
 use Rattle.std.proofs.Math.Seq.{take-append_seam}
@@ -10,23 +10,16 @@ use Rattle.sd_term.specs.Tree.{Tree, tree}
 use Rattle.sd_term.specs.Bank.{tree_at, tree_of}
 use Rattle.sd_term.specs.Sorts.{AllWellSorted}
 use Rattle.sd_term.proofs.Trees.{tree_at-append}
-use Rattle.sd_kernel.specs.declared.step.Step.{Step}
 use Rattle.sd_kernel.specs.declared.effect.Effect.{Effect}
 use Rattle.sd_kernel.specs.declared.effect.Effect.TheVariants.{Grows, Adds, Splits, Closes}
 use Rattle.sd_kernel.specs.declared.known.Fact.{Fact as NumberedFact}
 use Rattle.sd_kernel.specs.declared.walk.Waiting.{Waiting}
 use Rattle.sd_kernel.specs.Known.{known}
 use Rattle.sd_kernel.specs.Facts.{fact_of, trail_of}
-use Rattle.sd_kernel.specs.Steps.{outcome}
-use Rattle.sd_kernel.specs.Proof.{start, State, IsOpen, front, goes, after, next}
+use Rattle.sd_kernel.specs.Proof.{start, State, IsOpen, front, continues, after}
 use Rattle.sd_kernel.specs.Effects.{outcome_of, after_effect, IsEffectOn}
 use Rattle.sd_kernel.specs.Branches.{waiting_branches, open_branches, AreFronts, IsWalk}
 use Rattle.sd_kernel.proofs.Members.{sorted-append}
-
-pub slice_get-at : (ts : List Tree) (n : ℕ) → n < length ts → slice_get ts n ≡ Some (tree_at ts n)
-slice_get-at [] n h = absurd (omega arith)
-slice_get-at (t ∷ ts) zero h = refl
-slice_get-at (t ∷ ts) (suc n) h = slice_get-at ts n (omega (arith, h))
 
 pub trail_of-snoc : (terms : List Tree) (fs : List NumberedFact) (f : NumberedFact) → trail_of terms (fs ++ f ∷ []) ≡ trail_of terms fs ++ fact_of terms f ∷ []
 trail_of-snoc terms [] f = refl
@@ -71,12 +64,12 @@ module _ (terms : List Tree) (fs : List NumberedFact) (ws : List Waiting) (w : I
 
   -- ---- one more fact
 
-  pub add-goes : (n : ℕ) (b : Bool) (fs' : List NumberedFact) (f : NumberedFact) → fs' ≡ fs ++ f ∷ [] → fact_of terms f ≡ (tree_at terms n, b) → after_effect s (Adds n b) ≡ goes (terms, open_branches terms fs' ws o)
-  add-goes n b fs' f ef is2 =
+  pub add-continues : (n : ℕ) (b : Bool) (fs' : List NumberedFact) (f : NumberedFact) → fs' ≡ fs ++ f ∷ [] → fact_of terms f ≡ (tree_at terms n, b) → after_effect s (Adds n b) ≡ continues (terms, open_branches terms fs' ws o)
+  add-continues n b fs' f ef is2 =
       let keep : (k : ℕ) → k ≤ length fs → take k fs ≡ take k fs' = λ k le. sym (ap (λ l. take k l) ef ∙ take-append-le k fs (f ∷ []) le) in
       let others : waiting_branches terms fs (reverse ws) ≡ waiting_branches terms fs' (reverse ws) = waiting-same terms fs fs' (length terms) (length fs) (reverse ws) keep w.fronts in
       let first : trail_of terms fs ++ (tree_at terms n, b) ∷ [] ≡ trail_of terms fs' = ap (λ g. trail_of terms fs ++ g ∷ []) (sym is2) ∙ sym (ap (trail_of terms) ef ∙ trail_of-snoc terms fs f) in
-      at-front (Adds n b) ∙ (λ i. goes (terms, first i ∷ others i)) ∙ ap (λ c. goes (terms, open_branches terms fs' ws c)) (sym op)
+      at-front (Adds n b) ∙ (λ i. continues (terms, first i ∷ others i)) ∙ ap (λ c. continues (terms, open_branches terms fs' ws c)) (sym op)
 
   pub add-walk : (fs' : List NumberedFact) (f : NumberedFact) → fs' ≡ fs ++ f ∷ [] → f.term < length s.0 → IsWalk terms fs' ws
   add-walk fs' f ef lt =
@@ -91,10 +84,10 @@ module _ (terms : List Tree) (fs : List NumberedFact) (ws : List Waiting) (w : I
 
   -- ---- a split
 
-  pub split-goes : (n : ℕ) (fs' : List NumberedFact) (ws' : List Waiting) (f : NumberedFact) (u : Waiting)
+  pub split-continues : (n : ℕ) (fs' : List NumberedFact) (ws' : List Waiting) (f : NumberedFact) (u : Waiting)
       → fs' ≡ fs ++ f ∷ [] → ws' ≡ ws ++ u ∷ [] → fact_of terms f ≡ (tree_at terms n, true) → u.length ≡ length fs → u.term ≡ n
-      → after_effect s (Splits n) ≡ goes (terms, open_branches terms fs' ws' o)
-  split-goes n fs' ws' f u ef ew is2 long term =
+      → after_effect s (Splits n) ≡ continues (terms, open_branches terms fs' ws' o)
+  split-continues n fs' ws' f u ef ew is2 long term =
       let back : reverse ws' ≡ u ∷ reverse ws = ap reverse ew ∙ reverse-append ws (u ∷ []) in
       let keep : (k : ℕ) → k ≤ length fs → take k fs ≡ take k fs' = λ k le. sym (ap (λ l. take k l) ef ∙ take-append-le k fs (f ∷ []) le) in
       let others : waiting_branches terms fs (reverse ws) ≡ waiting_branches terms fs' (reverse ws) = waiting-same terms fs fs' (length terms) (length fs) (reverse ws) keep w.fronts in
@@ -103,21 +96,14 @@ module _ (terms : List Tree) (fs : List NumberedFact) (ws : List Waiting) (w : I
       let second : trail_of terms fs ++ (tree_at terms n, false) ∷ [] ≡ trail_of terms (take u.length fs') ++ (tree_at terms u.term, false) ∷ [] =
       λ i. trail_of terms (sym whole i) ++ (tree_at terms (sym term i), false) ∷ [] in
       at-front (Splits n)
-      ∙ (λ i. goes (terms, first i ∷ second i ∷ others i))
-      ∙ ap (λ l. goes (terms, trail_of terms fs' ∷ waiting_branches terms fs' l)) (sym back)
-      ∙ ap (λ b. goes (terms, open_branches terms fs' ws' b)) (sym op)
+      ∙ (λ i. continues (terms, first i ∷ second i ∷ others i))
+      ∙ ap (λ l. continues (terms, trail_of terms fs' ∷ waiting_branches terms fs' l)) (sym back)
+      ∙ ap (λ b. continues (terms, open_branches terms fs' ws' b)) (sym op)
 
   -- ---- a branch that is closed
 
-  pub close-last : (ws' : List Waiting) → ws ≡ ws' ++ [] → length ws ≡ 0 → after_effect s Closes ≡ goes (terms, [])
-  close-last ws' ew none = at-front Closes ∙ ap (λ l. goes (terms, waiting_branches terms fs (reverse l))) (empty ws none)
-    where
-      empty : (l : List Waiting) → length l ≡ 0 → l ≡ []
-      empty [] e = refl
-      empty (x ∷ l) e = absurd (omega (arith, e))
-
   pub close-more : (fs' fs'' : List NumberedFact) (ws' : List Waiting) (u : Waiting) (g : NumberedFact) → ws ≡ ws' ++ u ∷ [] → fs'' ≡ take u.length fs → fs' ≡ fs'' ++ g ∷ [] → fact_of terms g ≡ (tree_at terms u.term, false)
-      → after_effect s Closes ≡ goes (terms, open_branches terms fs' ws' o)
+      → after_effect s Closes ≡ continues (terms, open_branches terms fs' ws' o)
   close-more fs' fs'' ws' u g ew et ef is2 =
       let back : reverse ws ≡ u ∷ reverse ws' = ap reverse ew ∙ reverse-append ws' (u ∷ []) in
       let fronts : AreFronts (length terms) (length fs) (u ∷ reverse ws') = subst (AreFronts (length terms) (length fs)) back w.fronts in
@@ -127,9 +113,9 @@ module _ (terms : List Tree) (fs : List NumberedFact) (ws : List Waiting) (w : I
       let first : trail_of terms (take u.length fs) ++ (tree_at terms u.term, false) ∷ [] ≡ trail_of terms fs' =
       (λ i. trail_of terms (sym et i) ++ sym is2 i ∷ []) ∙ sym (ap (trail_of terms) ef ∙ trail_of-snoc terms fs'' g) in
       at-front Closes
-      ∙ ap (λ l. goes (terms, waiting_branches terms fs l)) back
-      ∙ (λ i. goes (terms, first i ∷ others i))
-      ∙ ap (λ b. goes (terms, open_branches terms fs' ws' b)) (sym op)
+      ∙ ap (λ l. continues (terms, waiting_branches terms fs l)) back
+      ∙ (λ i. continues (terms, first i ∷ others i))
+      ∙ ap (λ b. continues (terms, open_branches terms fs' ws' b)) (sym op)
 
 pub close-walk : (terms : List Tree) (fs : List NumberedFact) (ws : List Waiting) → IsWalk terms fs ws → (fs' fs'' : List NumberedFact) (ws' : List Waiting) (u : Waiting) (g : NumberedFact)
     → ws ≡ ws' ++ u ∷ [] → fs'' ≡ take u.length fs → fs' ≡ fs'' ++ g ∷ [] → g.term ≡ u.term → IsWalk terms fs' ws'
@@ -186,15 +172,15 @@ module _ (terms : List Tree) (fs : List NumberedFact) (ws : List Waiting) (w : I
         fronts = fronts-grown (length terms) (length (terms ++ t ∷ [])) (length fs) (reverse ws) (omega (arith, long)) w.fronts;
       })
 
-  pub grow-goes : IsOpen s → after_effect s (Grows c a b) ≡ goes (terms', open_branches terms' fs ws o)
-  grow-goes h =
+  pub grow-continues : IsOpen s → after_effect s (Grows c a b) ≡ continues (terms', open_branches terms' fs ws o)
+  grow-continues h =
       let t : Tree = tree (Plain c) (tree_at terms a ∷ tree_at terms b ∷ []) in
       let trail : trail_of (terms ++ t ∷ []) fs ≡ trail_of terms fs = trail-grown terms (t ∷ []) fs w.facts in
       let others : waiting_branches (terms ++ t ∷ []) fs (reverse ws) ≡ waiting_branches terms fs (reverse ws) = waiting-grown terms (t ∷ []) fs (length fs) (reverse ws) w.facts w.fronts in
       at-front terms fs ws w o s is h (Grows c a b)
-      ∙ (λ i. goes (terms ++ t ∷ [], sym trail i ∷ sym others i))
-      ∙ ap (λ c. goes (terms ++ t ∷ [], open_branches (terms ++ t ∷ []) fs ws c)) (sym (open-true terms fs ws o s is h))
-      ∙ ap (λ ts. goes (ts, open_branches ts fs ws o)) (sym grown)
+      ∙ (λ i. continues (terms ++ t ∷ [], sym trail i ∷ sym others i))
+      ∙ ap (λ c. continues (terms ++ t ∷ [], open_branches (terms ++ t ∷ []) fs ws c)) (sym (open-true terms fs ws o s is h))
+      ∙ ap (λ ts. continues (ts, open_branches ts fs ws o)) (sym grown)
 
 -- the walk at its start
 abbrev pub true_fact : ℕ → NumberedFact

@@ -1,16 +1,11 @@
 -- building over propositions gives propositions
-use Rattle.std.proofs.Common.{ℕ, zero, suc, ◌<◌, List, [], ◌∷◌, ◌++◌, map, length, refl, sym, ◌∙◌, Bool, true, false, if◌then◌else◌, Option, Some, None, arith, All}
-use Rattle.sd_base.specs.declared.sort.Sort.{Bool as Truth}
+use Rattle.std.proofs.Common.{List, [], ◌∷◌, ◌++◌, Bool, true, false, if◌then◌else◌, Option, Some, None}
 use Rattle.sd_term.specs.declared.node.Head.{Head}
-use Rattle.sd_term.specs.declared.node.Head.TheVariants.{Sym, Start}
 use Rattle.sd_term.specs.Heads.{True, False, Not, And, Or, Ite}
 use Rattle.sd_term.specs.Tree.{Tree, leaf, call, head_of, parts_of, tree}
-use Rattle.sd_term.specs.Bank.{tree_at}
-use Rattle.sd_term.specs.Sorts.{sort_of, same_sort, is_truth_valued, AllWellSorted}
-use Rattle.sd_term.specs.Build.{part_or, not_by, not_of, constant_of, and_by, and_of, or_by, or_of, ite_by, ite_of, eq_of}
-use Rattle.sd_term.proofs.BuildSorts.{not-sort, not-well, and-sort, and-well, or-sort, or-well, ite-sort, ite-well, eq-well}
+use Rattle.sd_term.specs.Sorts.{sort_of, same_sort, is_truth_valued}
+use Rattle.sd_term.specs.Build.{part_or, not_by, not_of, constant_of, and_by, and_of, or_by, or_of, ite_by, ite_of}
 use Rattle.sd_kernel.specs.Boolean.{PartsBoolean, IsBoolean, AllBoolean}
-use Rattle.sd_kernel.specs.Propositions.{IsProposition, AllPropositions}
 
 boolean-last : (ts : List Tree) (t : Tree) → AllBoolean ts → IsBoolean t → AllBoolean (ts ++ t ∷ [])
 boolean-last [] t a b = (b, tt)

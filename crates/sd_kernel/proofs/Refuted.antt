@@ -1,6 +1,7 @@
 -- no valuation makes the facts of an accepted list of steps true
-use Rattle.std.proofs.Common.{◌≡◌, ℕ, ◌+◌, List, [], ◌∷◌, ◌++◌, map, flat_map, refl, sym, ◌∙◌, Bool, true, false, cond, ◌⊎◌, inl, inr, ◌↔◌}
+use Rattle.std.proofs.Common.{◌≡◌, ℕ, ◌+◌, List, [], ◌∷◌, ◌++◌, ◌≤◌, length, drop, map, flat_map, refl, sym, ap, ◌∙◌, Bool, true, false, cond, ◌⊎◌, inl, inr, ◌↔◌}
 use Rattle.std.specs.List.{list_any}
+use Rattle.std.proofs.lemmas.List.{drop_all}
 use Rattle.sd_term.specs.Tree.{Tree, leaf, call, below, subterms, same_tree}
 use Rattle.sd_term.specs.Sorts.{PartsWellSorted, AllWellSorted as AllSorted}
 use Rattle.sd_term.specs.Truth.{Valuation, MakesTrue, IsUnsatisfiable}
@@ -13,7 +14,7 @@ use Rattle.sd_kernel.specs.Known.{Trail}
 use Rattle.sd_kernel.specs.Steps.{Outcome, bad, leaves, outcome}
 use Rattle.sd_term.specs.Numbering.{with_new, numbered}
 use Rattle.sd_term.specs.Bank.{tree_at}
-use Rattle.sd_kernel.specs.Proof.{start, fails, goes, after, lines_of, judged, verdict, Proves}
+use Rattle.sd_kernel.specs.Proof.{State, start, fails, continues, after, lines_of, at_end, judged, verdict, Proves}
 use Rattle.sd_kernel.proofs.Walks.{accepted-proves, proves-accepted}
 use Rattle.sd_kernel.proofs.Says.{AllTrue}
 use Rattle.sd_kernel.proofs.Members.{sorted-append, AllAbout, all-about-more, all-about-append, start-about}
@@ -35,7 +36,7 @@ judged-false v [] terms (t ∷ ts) line w b e a = not-accepted line Shape' e
 judged-false v (s ∷ ss) terms [] line w b e a = a
 judged-false v (s ∷ ss) terms (t ∷ ts) line w b e a = go (outcome terms t s) refl e (λ mid next_branches x k f y. judged-false v ss mid (next_branches ++ ts) (line + lines_of s) x k f y)
   where
-    go : (o : Outcome) → outcome terms t s ≡ o → elim (after ts o) as (λ _. Verdict) [ fails n c ↦ Rejected (line + n) c | goes s' ↦ judged s' (line + lines_of s) ss ] ≡ Accepted
+    go : (o : Outcome) → outcome terms t s ≡ o → elim (after ts o) as (λ _. Verdict) [ fails n c ↦ Rejected (line + n) c | continues s' ↦ judged s' (line + lines_of s) ss ] ≡ Accepted
         → ((mid : List Tree) (next_branches : List Trail) → AreTerms mid → AllAbout mid (next_branches ++ ts) → judged (mid, next_branches ++ ts) (line + lines_of s) ss ≡ Accepted → AnyTrue v (next_branches ++ ts) → ⊥) → ⊥
     go (bad n c) is e ih = not-accepted (line + n) c e
     go (leaves mid branches) is e ih =
@@ -85,3 +86,11 @@ verdict-sound facts steps r e a w = accepted-unsatisfiable facts steps w (sym e 
 pub judged-numbered : (terms facts : List Tree) (own : List ℕ) (steps : List Step) → terms ≡ numbered facts → map (λ f. tree_at terms f) own ≡ facts
     → judged (terms, start (map (λ f. tree_at terms f) own) ∷ []) 0 steps ≡ verdict facts steps
 judged-numbered terms facts own steps e f = λ i. judged (e i, start (f i) ∷ []) 0 steps
+
+-- a walk without an open branch has read all steps
+pub end-accepted : (s : State) (line i : ℕ) (steps : List Step) → ((s.1 ≡ [] → ⊥) → ⊥) → length steps ≤ i → Accepted ≡ judged s line (drop i steps)
+end-accepted s line i steps n h = sym (ap (λ l. judged s line l) (drop_all i steps h) ∙ closed s.1 n)
+  where
+    closed : (bs : List Trail) → ((bs ≡ [] → ⊥) → ⊥) → at_end bs line ≡ Accepted
+    closed [] n = refl
+    closed (b ∷ bs) n = absurd (n (λ e. cc))

@@ -14,7 +14,7 @@ use Rattle.sd_kernel.specs.declared.step.RowLine.{RowLine}
 use Rattle.sd_kernel.specs.declared.step.RowLine.TheVariants.{Fact as FactLine, Back, Add, Cut}
 use Rattle.sd_kernel.specs.declared.step.StepCause.TheVariants.{Shape, Value as Value', Row as RowCause, Wide}
 use Rattle.sd_kernel.specs.Known.{Fact, Trail}
-use Rattle.sd_kernel.specs.Steps.{Outcome, bad, leaves, Made, made, wrong, row_of_fact, row_back, named_row, is_multiplier, row_of_line, refuted_by}
+use Rattle.sd_kernel.specs.Steps.{bad, leaves, Made, made, wrong, row_of_fact, row_back, named_row, is_multiplier, row_of_line, if_within, gives_row, refuted_by}
 
 -- what a line needed, where it made a row
 pub named_row-made : {A : Type 0} (o : Option A) (f : A → Made) (r : Row) → named_row o f ≡ made r → (x : A) × (o ≡ Some x) × (f x ≡ made r)
@@ -24,13 +24,13 @@ named_row-made (Some x) f r e = (x, refl, e)
 -- ---- what a refutation leaves: the terms, and no branch
 
 module _ (terms : List Tree) (trail : Trail) (mid : List Tree) (branches : List Trail) where
-  abbrev Closed : Type 0
+  abbrev pub Closed : Type 0
   Closed = (terms ≡ mid) × ([] ≡ branches)
 
   closed-at : leaves terms [] ≡ leaves mid branches → Closed
   closed-at e = (cc, cc)
 
-  last-leaves : (i : ℕ) (m : Made) → elim m as (λ _. Outcome) [ wrong c ↦ bad i c | made r ↦ (if is_absurd r then (if is_within r then leaves terms [] else bad i Wide) else bad i RowCause) ] ≡ leaves mid branches → Closed
+  last-leaves : (i : ℕ) (m : Made) → gives_row i m (λ r. if is_absurd r then if_within i r (leaves terms []) else bad i RowCause) ≡ leaves mid branches → Closed
   last-leaves i (wrong c) e = cc
   last-leaves i (made r) e = go (is_absurd r) (is_within r) e
     where
@@ -39,7 +39,7 @@ module _ (terms : List Tree) (trail : Trail) (mid : List Tree) (branches : List 
       go true false e = cc
       go false w e = cc
 
-  line-leaves : (i : ℕ) (rows : List Row) (ls : List RowLine) (m : Made) → elim m as (λ _. Outcome) [ wrong c ↦ bad i c | made r ↦ (if is_within r then refuted_by terms trail (suc i) (rows ++ r ∷ []) ls else bad i Wide) ] ≡ leaves mid branches
+  line-leaves : (i : ℕ) (rows : List Row) (ls : List RowLine) (m : Made) → gives_row i m (λ r. if_within i r (refuted_by terms trail (suc i) (rows ++ r ∷ []) ls)) ≡ leaves mid branches
       → (r : Row) × (m ≡ made r) × (refuted_by terms trail (suc i) (rows ++ r ∷ []) ls ≡ leaves mid branches)
   line-leaves i rows ls (wrong c) e = cc
   line-leaves i rows ls (made r) e = go (is_within r) e
@@ -48,16 +48,10 @@ module _ (terms : List Tree) (trail : Trail) (mid : List Tree) (branches : List 
       go true e = (r, refl, e)
       go false e = cc
 
-  rows-closed : (i : ℕ) (rows : List Row) (lines : List RowLine) → refuted_by terms trail i rows lines ≡ leaves mid branches → Closed
+  pub rows-closed : (i : ℕ) (rows : List Row) (lines : List RowLine) → refuted_by terms trail i rows lines ≡ leaves mid branches → Closed
   rows-closed i rows [] e = cc
   rows-closed i rows (l ∷ []) e = last-leaves i (row_of_line terms trail rows l) e
   rows-closed i rows (l ∷ k ∷ ls) e = let n = line-leaves i rows (k ∷ ls) (row_of_line terms trail rows l) e in rows-closed (suc i) (rows ++ n.0 ∷ []) (k ∷ ls) n.2
-
-  pub rows-terms : (i : ℕ) (rows : List Row) (lines : List RowLine) → refuted_by terms trail i rows lines ≡ leaves mid branches → terms ≡ mid
-  rows-terms i rows lines e = (rows-closed i rows lines e).0
-
-  pub rows-branches : (i : ℕ) (rows : List Row) (lines : List RowLine) → refuted_by terms trail i rows lines ≡ leaves mid branches → [] ≡ branches
-  rows-branches i rows lines e = (rows-closed i rows lines e).1
 
 -- ---- rows hold
 
@@ -150,7 +144,7 @@ module _ (x : ℕ → ℤ) (terms : List Tree) where
         absurd-row r k false w f g = cc
 
         go : (m : Made) → row_of_line terms trail rows l ≡ m
-            → elim m as (λ _. Outcome) [ wrong c ↦ bad i c | made r ↦ (if is_absurd r then (if is_within r then leaves terms [] else bad i Wide) else bad i RowCause) ] ≡ leaves mid branches → ⊥
+            → gives_row i m (λ r. if is_absurd r then if_within i r (leaves terms []) else bad i RowCause) ≡ leaves mid branches → ⊥
         go (wrong c) f g = cc
         go (made r) f g = absurd-row r (line-holds rows l r h f) (is_absurd r) (is_within r) refl g
     refuted-unmet mid branches i rows (l ∷ k ∷ ls) h e =

@@ -14,13 +14,13 @@ use Rattle.sd_kernel.specs.declared.step.RowLine.TheVariants.{Fact as FactLine, 
 use Rattle.sd_kernel.specs.declared.step.StepCause.{StepCause}
 use Rattle.sd_kernel.specs.declared.step.StepCause.TheVariants.{Number, Row as RowCause, Wide}
 use Rattle.sd_kernel.specs.Known.{Trail}
-use Rattle.sd_kernel.specs.Steps.{Outcome, bad, leaves, made, wrong, named_row, is_multiplier, row_of_fact, row_back, row_of_line, refuted_by}
-use Rattle.sd_kernel.specs.MadeRows.{row_fault, row_of_sum, row_of_cut}
+use Rattle.sd_kernel.specs.Steps.{Outcome, bad, leaves, made, wrong, named_row, is_multiplier, row_of_fact, row_back, row_of_line, if_within, gives_row, refuted_by}
+use Rattle.sd_kernel.specs.MadeRows.{row_fault}
 use Rattle.sd_kernel.specs.declared.known.Fact.{Fact as NumberedFact}
 use Rattle.sd_kernel.specs.Facts.{fact_of, trail_of}
 use Rattle.sd_term.proofs.Numbers.{slice_get-map, slice_get-map_none}
 use Rattle.sd_kernel.proofs.NodeTests.{by-iff}
-use Rattle.sd_kernel.proofs.Tables.{drop-at}
+use Rattle.std.proofs.lemmas.List.{drop_more}
 
 -- ---- rows of a list
 
@@ -37,25 +37,7 @@ copy-computable rs i r s e f a = subst (λ (t : Row). IsProper t.parts × (is_wi
 at-least-one : (m : ℕ) → is_multiplier m ≡ true → 1 ≤ m
 at-least-one m e = leb-true 1 m (and-left (nat_le 1 m) (nat_le m (2 ^ 58)) e)
 
-pub at-most-limit : (m : ℕ) → is_multiplier m ≡ true → m ≤ 2 ^ 58
-at-most-limit m e = leb-true m (2 ^ 58) (and-right (nat_le 1 m) (nat_le m (2 ^ 58)) e)
-
 module _ (rows : List Row) (a i b j : ℕ) (p q : Row) (at_a : Some p ≡ slice_get rows a) (at_b : Some q ≡ slice_get rows b) (m : Bool) (test : m ≡ is_multiplier i && is_multiplier j) where
-  sum-is : row_of_sum rows a i b j ≡ (if m then made (added i p j q) else wrong RowCause)
-  sum-is = λ u. named_row (sym at_a u) (λ r. named_row (sym at_b u) (λ s. if (sym test u) then made (added i r j s) else wrong RowCause))
-
-  pub sum-wrong : m ≡ false → row_of_sum rows a i b j ≡ wrong RowCause
-  sum-wrong f = sum-is ∙ ap (λ (c : Bool). if c then made (added i p j q) else wrong RowCause) f
-
-  pub sum-made : m ≡ true → (t : Row) → t ≡ added i p j q → row_of_sum rows a i b j ≡ made t
-  sum-made y t e = sum-is ∙ ap (λ (c : Bool). if c then made (added i p j q) else wrong RowCause) y ∙ ap made (sym e)
-
-  pub first-multiplier : m ≡ true → i ≤ 2 ^ 58
-  first-multiplier y = at-most-limit i (and-left (is_multiplier i) (is_multiplier j) (sym test ∙ y))
-
-  pub second-multiplier : m ≡ true → j ≤ 2 ^ 58
-  second-multiplier y = at-most-limit j (and-right (is_multiplier i) (is_multiplier j) (sym test ∙ y))
-
   pub sum-proper : m ≡ true → AllComputable rows → (t : Row) → t ≡ added i p j q → IsProper t.parts
   sum-proper y c t e =
       subst (λ (r : Row). IsProper r.parts) (sym e)
@@ -64,9 +46,6 @@ module _ (rows : List Row) (a i b j : ℕ) (p q : Row) (at_a : Some p ≡ slice_
       (IsProper-times j q.parts (at-least-one j (and-right (is_multiplier i) (is_multiplier j) (sym test ∙ y))) (row-computable rows b q at_b c).0))
 
 module _ (rows : List Row) (a : ℕ) (p s t : Row) (at_a : Some p ≡ slice_get rows a) (copy : s ≡ p) (cut : t ≡ reduced s) where
-  pub cut-made : row_of_cut rows a ≡ made t
-  cut-made = ap (λ o. named_row o (λ r. made (reduced r))) (sym at_a) ∙ ap made (sym (cut ∙ ap reduced copy))
-
   pub cut-proper : AllComputable rows → IsProper t.parts
   cut-proper c =
       subst (λ (r : Row). IsProper r.parts) (sym (cut ∙ ap reduced copy))
@@ -88,13 +67,9 @@ after-row terms trail i rows ls r None = rest_of terms trail (suc i) (rows ++ r 
 after-row terms trail i rows ls r (Some c) = bad i c
 
 module _ (terms : List Tree) (trail : Trail) (i : ℕ) (rows : List Row) where
-  pub line-wrong : (l : RowLine) (ls : List RowLine) (c : StepCause) → row_of_line terms trail rows l ≡ wrong c → refuted_by terms trail i rows (l ∷ ls) ≡ bad i c
-  line-wrong l [] c e = ap (λ m. elim m as (λ _. Outcome) [ wrong c ↦ bad i c | made r ↦ (if is_absurd r then (if is_within r then leaves terms [] else bad i Wide) else bad i RowCause) ]) e
-  line-wrong l (k ∷ ls) c e = ap (λ m. elim m as (λ _. Outcome) [ wrong c ↦ bad i c | made r ↦ (if is_within r then refuted_by terms trail (suc i) (rows ++ r ∷ []) (k ∷ ls) else bad i Wide) ]) e
-
   pub line-made : (l : RowLine) (ls : List RowLine) (r : Row) → row_of_line terms trail rows l ≡ made r → refuted_by terms trail i rows (l ∷ ls) ≡ after-row terms trail i rows ls r (row_fault r (is-end ls))
   line-made l [] r e =
-      ap (λ m. elim m as (λ _. Outcome) [ wrong c ↦ bad i c | made r ↦ (if is_absurd r then (if is_within r then leaves terms [] else bad i Wide) else bad i RowCause) ]) e
+      ap (λ m. gives_row i m (λ r. if is_absurd r then if_within i r (leaves terms []) else bad i RowCause)) e
       ∙ go (is_absurd r) (is_within r)
     where
       go : (a w : Bool) → (if a then (if w then leaves terms [] else bad i Wide) else bad i RowCause) ≡ after-row terms trail i rows [] r (if not a then Some RowCause else (if w then None else Some Wide))
@@ -102,7 +77,7 @@ module _ (terms : List Tree) (trail : Trail) (i : ℕ) (rows : List Row) where
       go true false = refl
       go false w = refl
   line-made l (k ∷ ls) r e =
-      ap (λ m. elim m as (λ _. Outcome) [ wrong c ↦ bad i c | made r ↦ (if is_within r then refuted_by terms trail (suc i) (rows ++ r ∷ []) (k ∷ ls) else bad i Wide) ]) e
+      ap (λ m. gives_row i m (λ r. if_within i r (refuted_by terms trail (suc i) (rows ++ r ∷ []) (k ∷ ls)))) e
       ∙ go (is_within r)
     where
       go : (w : Bool) → (if w then refuted_by terms trail (suc i) (rows ++ r ∷ []) (k ∷ ls) else bad i Wide) ≡ after-row terms trail i rows (k ∷ ls) r (if w then None else Some Wide)
@@ -125,10 +100,7 @@ last-line ls n h =
 
 module _ (terms : List Tree) (trail : Trail) (lines : List RowLine) (n : ℕ) (d : RowLine) (rows : List Row) (lt : n < length lines) where
   here : rest_of terms trail (suc n) rows (drop n lines) ≡ refuted_by terms trail (suc n) rows (get_or lines n d ∷ drop (n + 1) lines)
-  here = ap (rest_of terms trail (suc n) rows) (drop-at lines n d lt)
-
-  pub rest-wrong : (c : StepCause) → row_of_line terms trail rows (get_or lines n d) ≡ wrong c → rest_of terms trail (suc n) rows (drop n lines) ≡ bad (n + 1) c
-  rest-wrong c e = here ∙ line-wrong terms trail (suc n) rows (get_or lines n d) (drop (n + 1) lines) c e ∙ ap (λ k. bad k c) (sym (add-one n))
+  here = ap (rest_of terms trail (suc n) rows) (drop_more lines n d lt)
 
   module _ (r : Row) (made_here : row_of_line terms trail rows (get_or lines n d) ≡ made r) where
     rest-made : (o : Option StepCause) → o ≡ row_fault r (n + 1 == length lines) → rest_of terms trail (suc n) rows (drop n lines) ≡ after-row terms trail (suc n) rows (drop (n + 1) lines) r o

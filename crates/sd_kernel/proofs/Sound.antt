@@ -20,7 +20,7 @@ use Rattle.sd_kernel.specs.declared.step.Step.TheVariants.{Split, Close, Term, O
 use Rattle.sd_kernel.specs.Known.{Fact, Trail, known, has_fact, known_by_parts, is_known}
 use Rattle.sd_kernel.specs.Steps.{leaves, outcome, is_eq, is_eq_of, is_le_of, other_side, leads, is_nil, are_orders_of, is_ite_head, chosen_part, is_choice_of, is_chosen}
 use Rattle.sd_kernel.proofs.Needs.{Adds, SplitNeeds, OrderNeeds, IteNeeds, ChainNeeds, CloseNeeds, term-needs, split-needs, order-needs, ite-needs, chain-needs, close-needs}
-use Rattle.sd_kernel.proofs.Members.{has-get, sorted-in, all-at-in, AreAbout}
+use Rattle.sd_kernel.proofs.Members.{or-cases, has-get, sorted-in, all-at-in, AreAbout}
 use Rattle.sd_kernel.proofs.Grows.{AreTerms, is-int}
 use Rattle.sd_kernel.proofs.RowLines.{refuted-unmet}
 use Rattle.sd_kernel.proofs.FactRows.{facts-hold, eq-no-order}
@@ -45,10 +45,6 @@ true-take v (f ∷ fs) (suc n) a = (a.0, true-take v fs n a.1)
 pub true-snoc : (v : Valuation) (fs : Trail) (f : Fact) → AllTrue v fs → IsTrueFact v f → AllTrue v (fs ++ f ∷ [])
 true-snoc v [] f a b = (b, tt)
 true-snoc v (g ∷ fs) f a b = (a.0, true-snoc v fs f a.1 b)
-
-or-cases : (a b : Bool) → a || b ≡ true → (a ≡ true) ⊎ (b ≡ true)
-or-cases true b e = inl refl
-or-cases false b e = inr e
 
 pub has_fact-true : (v : Valuation) (fs : Trail) (t : Tree) (b : Bool) → AllTrue v fs → has_fact fs t b ≡ true → value v t ≡ truth b
 has_fact-true v [] t b a e = let f : false ≡ true = e in cc

@@ -32,19 +32,9 @@ pub record TwoParts (t : Tree) : Type 0 where
   pub parts : parts_of t ≡ part_at t 0 ∷ part_at t 1 ∷ []
   pub sorts : sort_of (part_at t 0) ≡ sort_of (part_at t 1)
 
-pub two-parts : (t : Tree) (s r : Sort) → map sort_of (parts_of t) ≡ s ∷ r ∷ [] → parts_of t ≡ part_at t 0 ∷ part_at t 1 ∷ []
-two-parts t s r e = go (parts_of t) e
-  where
-    go : (ps : List Tree) → map sort_of ps ≡ s ∷ r ∷ [] → ps ≡ at ps 0 ∷ at ps 1 ∷ []
-    go [] e = cc
-    go (a ∷ []) e = cc
-    go (a ∷ b ∷ []) e = refl
-    go (a ∷ b ∷ c ∷ ps) e = cc
-
 -- the three parts of a choice
 pub record ThreeParts (t : Tree) : Type 0 where
   pub parts : parts_of t ≡ part_at t 0 ∷ part_at t 1 ∷ part_at t 2 ∷ []
-  pub condition : sort_of (part_at t 0) ≡ BoolSort
   pub sorts : sort_of (part_at t 1) ≡ sort_of (part_at t 2)
 
 pub is-eq-head : (h : Head) → is_eq_head h ≡ true → h ≡ Eq
@@ -82,12 +72,10 @@ ite-parts t w e =
     go (a ∷ []) f s g = cc
     go (a ∷ b ∷ []) f s g = cc
     go (a ∷ b ∷ c ∷ []) f s g =
-        let first : sort_of a ≡ BoolSort = cc in
         let second : sort_of b ≡ s = cc in
         let third : sort_of c ≡ s = cc in
         record {
           parts = f ∙ (λ i. at (sym f i) 0 ∷ at (sym f i) 1 ∷ at (sym f i) 2 ∷ []);
-          condition = ap (λ l. sort_of (at l 0)) f ∙ first;
           sorts = ap (λ l. sort_of (at l 1)) f ∙ second ∙ sym third ∙ sym (ap (λ l. sort_of (at l 2)) f);
         }
     go (a ∷ b ∷ c ∷ d ∷ ps) f s g = cc

@@ -9,7 +9,7 @@ use Rattle.sd_kernel.specs.declared.step.Verdict.TheVariants.{Accepted, Rejected
 use Rattle.sd_kernel.specs.Known.{Trail}
 use Rattle.sd_kernel.specs.Steps.{Outcome, bad, leaves, outcome}
 use Rattle.sd_term.specs.Numbering.{numbered}
-use Rattle.sd_kernel.specs.Proof.{start, ProofTree, step, ProofTrees, none, more, steps_of, steps_of_all, Closes, CloseAll, Proves, fails, goes, after, lines_of, judged, verdict}
+use Rattle.sd_kernel.specs.Proof.{start, ProofTree, step, ProofTrees, none, more, steps_of, steps_of_all, Closes, CloseAll, Proves, fails, continues, after, lines_of, judged, verdict}
 
 -- after the steps of trees that close some branches the others are opened, whatever the line
 abbrev pub AcceptedAfter : List Tree → List Trail → List Step → Type 0
@@ -19,7 +19,7 @@ mutual
   pub closes-judged : (p : ProofTree) (terms : List Tree) (trail : Trail) (end : List Tree) (others : List Trail) (rest : List Step) → Closes terms trail p end
       → AcceptedAfter end others rest → AcceptedAfter terms (trail ∷ others) (steps_of p ++ rest)
   closes-judged (step s ps) terms trail end others rest c k = λ line.
-      subst (λ o. (elim (after others o) as (λ _. Verdict) [ fails n d ↦ Rejected (line + n) d | goes s' ↦ judged s' (line + lines_of s) (steps_of_all ps ++ rest) ]) ≡ Accepted) (sym c.2)
+      subst (λ o. (elim (after others o) as (λ _. Verdict) [ fails n d ↦ Rejected (line + n) d | continues s' ↦ judged s' (line + lines_of s) (steps_of_all ps ++ rest) ]) ≡ Accepted) (sym c.2)
       (all-judged ps c.0 c.1 end others rest c.3 k (line + lines_of s))
 
   pub all-judged : (ps : ProofTrees) (terms : List Tree) (opened : List Trail) (end : List Tree) (others : List Trail) (rest : List Step) → CloseAll terms opened ps end
@@ -50,7 +50,7 @@ judged-closes [] terms (b ∷ bs) line e = absurd (not-accepted line Shape e)
 judged-closes (s ∷ ss) terms [] line e = absurd (not-accepted (line + 0) Shape e)
 judged-closes (s ∷ ss) terms (b ∷ bs) line e = go (outcome terms b s) refl e (λ mid branches k. judged-closes ss mid (branches ++ bs) (line + lines_of s) k)
   where
-    go : (o : Outcome) → outcome terms b s ≡ o → elim (after bs o) as (λ _. Verdict) [ fails n c ↦ Rejected (line + n) c | goes s' ↦ judged s' (line + lines_of s) ss ] ≡ Accepted
+    go : (o : Outcome) → outcome terms b s ≡ o → elim (after bs o) as (λ _. Verdict) [ fails n c ↦ Rejected (line + n) c | continues s' ↦ judged s' (line + lines_of s) ss ] ≡ Accepted
         → ((mid : List Tree) (branches : List Trail) → judged (mid, branches ++ bs) (line + lines_of s) ss ≡ Accepted → (ps : ProofTrees) × (end : List Tree) × (steps_of_all ps ≡ ss) × CloseAll mid (branches ++ bs) ps end)
         → (ps : ProofTrees) × (end : List Tree) × (steps_of_all ps ≡ s ∷ ss) × CloseAll terms (b ∷ bs) ps end
     go (bad n c) is e ih = absurd (not-accepted (line + n) c e)

@@ -13,7 +13,8 @@ use Rattle.sd_kernel.specs.Proof.{State}
 -- the second branches that wait, the latest first
 abbrev pub waiting_branches : List Tree → List NumberedFact → List Waiting → List Trail
 waiting_branches terms trail [] = []
-waiting_branches terms trail (w ∷ ws) = (trail_of terms (take w.length trail) ++ (tree_at terms w.term, false) ∷ []) ∷ waiting_branches terms trail ws
+waiting_branches terms trail (w ∷ ws) =
+    (trail_of terms (take w.length trail) ++ (tree_at terms w.term, false) ∷ []) ∷ waiting_branches terms trail ws
 
 abbrev pub open_branches : List Tree → List NumberedFact → List Waiting → Bool → List Trail
 open_branches terms trail ws true = trail_of terms trail ∷ waiting_branches terms trail (reverse ws)

@@ -4,7 +4,7 @@ pub mod Facts
 pub mod Steps
 pub mod Proof
 pub mod Branches
-pub mod Told
+pub mod Refusal
 pub mod Boolean
 pub mod MadeRows
 pub mod Effects

@@ -37,7 +37,8 @@ abbrev mutual
 abbrev mutual
   pub Closes : List Tree → Trail → ProofTree → List Tree → Type 0
   Closes terms trail (step s ps) end =
-      (mid : List Tree) × (branches : List Trail) × (outcome terms trail s ≡ leaves mid branches) × CloseAll mid branches ps end
+      (mid : List Tree) × (branches : List Trail) × (outcome terms trail s ≡ leaves mid branches)
+      × CloseAll mid branches ps end
 
   pub CloseAll : List Tree → List Trail → ProofTrees → List Tree → Type 0
   CloseAll terms [] none end = terms ≡ end
@@ -47,7 +48,8 @@ abbrev mutual
 
 -- the steps are a tree that closes the branch of the facts
 abbrev pub Proves : List Tree → List Step → Type 0
-Proves facts steps = (p : ProofTree) × (end : List Tree) × (steps_of p ≡ steps) × Closes (numbered facts) (start facts) p end
+Proves facts steps =
+    (p : ProofTree) × (end : List Tree) × (steps_of p ≡ steps) × Closes (numbered facts) (start facts) p end
 
 -- the terms, and the open branches, of which the first is to be closed first
 abbrev pub State : Type 0
@@ -60,14 +62,15 @@ IsOpen s = s.1 ≡ [] → ⊥
 abbrev pub front : State → Trail
 front s = elim s.1 [ [] ↦ [] | b ∷ others ↦ b ]
 
+-- a step is refused at one of its lines, or the walk continues
 pub data Next : Type 0 where
   fails : ℕ → StepCause → Next
-  goes : State → Next
+  continues : State → Next
 
 -- what a step makes of the first open branch
 abbrev pub after : List Trail → Outcome → Next
 after others (bad n c) = fails n c
-after others (leaves terms branches) = goes (terms, branches ++ others)
+after others (leaves terms branches) = continues (terms, branches ++ others)
 
 abbrev pub next : State → Step → Next
 next s x = elim s.1 [ [] ↦ fails 0 Shape | b ∷ others ↦ after others (outcome s.0 b x) ]
@@ -77,10 +80,6 @@ abbrev pub lines_of : Step → ℕ
 lines_of (Rows lines) = 1 + length lines
 lines_of _ = 1
 
-abbrev pub lines_in : List Step → ℕ
-lines_in [] = 0
-lines_in (x ∷ xs) = lines_of x + lines_in xs
-
 abbrev pub at_end : List Trail → ℕ → Verdict
 at_end [] line = Accepted
 at_end (b ∷ bs) line = Rejected line Shape
@@ -88,7 +87,8 @@ at_end (b ∷ bs) line = Rejected line Shape
 -- the verdict from a line on, by the first bad line
 abbrev pub judged : State → ℕ → List Step → Verdict
 judged s line [] = at_end s.1 line
-judged s line (x ∷ xs) = elim (next s x) [ fails n c ↦ Rejected (line + n) c | goes s' ↦ judged s' (line + lines_of x) xs ]
+judged s line (x ∷ xs) =
+    elim (next s x) [ fails n c ↦ Rejected (line + n) c | continues s' ↦ judged s' (line + lines_of x) xs ]
 
 abbrev pub verdict : List Tree → List Step → Verdict
 verdict facts steps = judged (numbered facts, start facts ∷ []) 0 steps

@@ -42,6 +42,10 @@ needs false c o = bad 0 c
 abbrev pub adds : List Tree → Trail → Tree → Bool → Outcome
 adds terms trail t b = leaves terms ((trail ++ (t, b) ∷ []) ∷ [])
 
+-- the branch where the term is true, and the one where it is false
+abbrev pub splits : List Tree → Trail → Tree → Outcome
+splits terms trail t = leaves terms ((trail ++ (t, true) ∷ []) ∷ (trail ++ (t, false) ∷ []) ∷ [])
+
 -- ---- new terms
 
 -- whether maps with these indices are read by them
@@ -112,12 +116,14 @@ is_nil (t ∷ ts) = false
 
 -- they lead from one side of e to the other, and none of them does so where the two are one
 abbrev pub is_chain : Tree → List Tree → Bool
-is_chain e es = is_eq e && leads (part_at e 0) es (part_at e 1) && (is_nil es || not (same_tree (part_at e 0) (part_at e 1)))
+is_chain e es =
+    is_eq e && leads (part_at e 0) es (part_at e 1) && (is_nil es || not (same_tree (part_at e 0) (part_at e 1)))
 
 -- the terms with these numbers, where each of them is there
 abbrev pub all_at : List Tree → List ℕ → Option (List Tree)
 all_at terms [] = Some []
-all_at terms (n ∷ ns) = option_and_then (λ t. option_and_then (λ ts. Some (t ∷ ts)) (all_at terms ns)) (slice_get terms n)
+all_at terms (n ∷ ns) =
+    option_and_then (λ t. option_and_then (λ ts. Some (t ∷ ts)) (all_at terms ns)) (slice_get terms n)
 
 -- ---- orders
 
@@ -156,7 +162,8 @@ pub data Made : Type 0 where
 -- the first side of a true order or equality is at most the second, and that of a false order is above it
 abbrev pub row_of_fact : List Tree → Fact → Made
 row_of_fact terms (t, true) = if is_le t || is_int_eq t then made (below_row terms t) else wrong Shape
-row_of_fact terms (t, false) = if is_le t then made (above_row terms t) else (if is_int_eq t then wrong Value else wrong Shape)
+row_of_fact terms (t, false) =
+    if is_le t then made (above_row terms t) else (if is_int_eq t then wrong Value else wrong Shape)
 
 -- the second side of a true equality is at most the first
 abbrev pub row_back : List Tree → Fact → Made
@@ -174,16 +181,33 @@ is_multiplier m = nat_le 1 m && nat_le m (2 ^ 58)
 abbrev pub row_of_line : List Tree → Trail → List Row → RowLine → Made
 row_of_line terms trail rows (FactLine k) = named_row (slice_get trail k) (row_of_fact terms)
 row_of_line terms trail rows (Back k) = named_row (slice_get trail k) (row_back terms)
-row_of_line terms trail rows (Add a m b n) = named_row (slice_get rows a) (λ r. named_row (slice_get rows b) (λ s. if is_multiplier m && is_multiplier n then made (added m r n s) else wrong RowCause))
+row_of_line terms trail rows (Add a m b n) =
+    named_row (slice_get rows a) (λ r. named_row (slice_get rows b) (λ s.
+    if is_multiplier m && is_multiplier n then made (added m r n s) else wrong RowCause))
 row_of_line terms trail rows (Cut a) = named_row (slice_get rows a) (λ r. made (reduced r))
+
+-- the row is within the bounds, and then the rest is done
+abbrev pub if_within : ℕ → Row → Outcome → Outcome
+if_within i r rest = if is_within r then rest else bad i Wide
+
+-- a line has to give a row
+abbrev pub gives_row : ℕ → Made → (Row → Outcome) → Outcome
+gives_row i (wrong c) f = bad i c
+gives_row i (made r) f = f r
 
 -- each line gives a row within the bounds, and the last one is absurd; i is the line's place in the step
 abbrev pub refuted_by : List Tree → Trail → ℕ → List Row → List RowLine → Outcome
 refuted_by terms trail i rows [] = bad 0 RowCause
 refuted_by terms trail i rows (l ∷ []) =
-    elim (row_of_line terms trail rows l) [ wrong c ↦ bad i c | made r ↦ (if is_absurd r then (if is_within r then leaves terms [] else bad i Wide) else bad i RowCause) ]
+    gives_row i (row_of_line terms trail rows l) (λ r. if is_absurd r then if_within i r (leaves terms []) else bad i RowCause)
 refuted_by terms trail i rows (l ∷ ls) =
-    elim (row_of_line terms trail rows l) [ wrong c ↦ bad i c | made r ↦ (if is_within r then refuted_by terms trail (suc i) (rows ++ r ∷ []) ls else bad i Wide) ]
+    gives_row i (row_of_line terms trail rows l) (λ r. if_within i r (refuted_by terms trail (suc i) (rows ++ r ∷ []) ls))
+
+-- ---- closed branches
+
+-- the term of a fact has the opposite value by its parts, or by one of the first k facts
+abbrev pub is_contradicted : Trail → ℕ → Fact → Bool
+is_contradicted trail k f = is_known (known_by_parts trail f.0) (not f.1) || has_fact (take k trail) f.0 (not f.1)
 
 -- ---- the table of steps
 
@@ -192,16 +216,18 @@ outcome terms trail (Term line) =
     named (slice_get terms (first_part line)) (λ a. named (slice_get terms (second_part line)) (λ b.
     needs (fits line (sort_of a) (sort_of b)) Shape (numbers_next terms trail (tree (line_head line) (a ∷ b ∷ [])))))
 outcome terms trail (Split n) =
-    named (slice_get terms n) (λ t. needs (is_truth_sort (sort_of t)) Shape (leaves terms ((trail ++ (t, true) ∷ []) ∷ (trail ++ (t, false) ∷ []) ∷ [])))
+    named (slice_get terms n) (λ t. needs (is_truth_sort (sort_of t)) Shape (splits terms trail t))
 outcome terms trail (Order e l r) =
     named (slice_get terms e) (λ t. named (slice_get terms l) (λ p. named (slice_get terms r) (λ q.
-    needs (are_orders_of t p q) Shape (needs (is_known (known trail t) false && is_known (known trail p) true) Value (adds terms trail q false)))))
+    needs (are_orders_of t p q) Shape (
+    needs (is_known (known trail t) false && is_known (known trail p) true) Value (adds terms trail q false)))))
 outcome terms trail (ChooseBranch t e) =
     named (slice_get terms t) (λ a. named (slice_get terms e) (λ b.
     needs (is_choice_of a b) Shape (needs (is_chosen trail a b) Value (adds terms trail b true))))
 outcome terms trail (Chain e fs) =
     named (slice_get terms e) (λ t. named (all_at terms fs) (λ ts.
-    needs (is_chain t ts) Shape (needs (list_all (λ u. is_known (known trail u) true) ts) Value (adds terms trail t true))))
+    needs (is_chain t ts) Shape (
+    needs (list_all (λ u. is_known (known trail u) true) ts) Value (adds terms trail t true))))
 outcome terms trail (Close k) =
-    named (slice_get trail k) (λ (f : Fact). needs (is_known (known_by_parts trail f.0) (not f.1) || has_fact (take k trail) f.0 (not f.1)) Value (leaves terms []))
+    named (slice_get trail k) (λ (f : Fact). needs (is_contradicted trail k f) Value (leaves terms []))
 outcome terms trail (Rows lines) = refuted_by terms trail 1 [] lines

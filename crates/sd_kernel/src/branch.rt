@@ -1,10 +1,8 @@
-ghost use Rattle.std.specs.Prelude.{◌≡◌, ◌<◌, All, IfOk, length};
-ghost use Rattle.sd_term.specs.Bank.{tree_at};
+ghost use Rattle.std.specs.Prelude.{◌<◌, All, IfOk, length};
 ghost use Rattle.sd_kernel.specs.declared.step.Step.{Step};
 ghost use Rattle.sd_kernel.specs.Known.{Trail};
 ghost use Rattle.sd_kernel.specs.Facts.{trail_of};
-ghost use Rattle.sd_kernel.specs.Steps.{outcome};
-ghost use Rattle.sd_kernel.specs.Effects.{outcome_of, IsEffectOn};
+ghost use Rattle.sd_kernel.specs.Effects.{IsEffectOf, IsEffectOn};
 
 use crate::effect::Effect;
 use crate::known::{Fact, is_contradicted};
@@ -16,7 +14,7 @@ use std::alloc::Global;
 
 /// What the step does that splits a branch on a truth-valued term.
 pub fn split_effect(terms: &Bank, number: u32) -> Effect
-    ensures outcome { (trail : Trail) → outcome terms.now trail (Step.Split number) ≡ outcome_of terms.now trail result }
+    ensures effect { (trail : Trail) → IsEffectOf terms.now trail (Step.Split number) result }
     ensures fits { IsEffectOn terms.now result }
 {
     if !are_numbers(terms, &[number]) {
@@ -29,7 +27,8 @@ pub fn split_effect(terms: &Bank, number: u32) -> Effect
     Effect::Splits(term)
 }
 
-/// What the step does that closes a branch: a fact of it has a term with the opposite value by its parts, or by an earlier fact.
+/// What the step does that closes a branch: a fact of it has a term with the opposite value, by its parts or by an earlier
+/// fact.
 pub fn close_effect(
     alloc: Global,
     terms: &Bank,
@@ -37,8 +36,8 @@ pub fn close_effect(
     number: u32,
 ) -> Result<Effect, NoMemory>
     requires facts { All (λ f. f.term < length terms.now) trail.now }
-    ensures outcome { IfOk result (λ e. outcome terms.now (trail_of terms.now trail.now) (Step.Close number) ≡ outcome_of terms.now (trail_of terms.now trail.now) e) }
-    ensures fits { IfOk result (λ e. IsEffectOn terms.now e) }
+    ensures effect { IfOk result (IsEffectOf terms.now (trail_of terms.now trail.now) (Step.Close number)) }
+    ensures fits { IfOk result (IsEffectOn terms.now) }
 {
     let place = number as usize;
     if place >= trail.len() {

@@ -6,8 +6,8 @@ ghost use Rattle.sd_term.specs.Sorts.{AllWellSorted};
 ghost use Rattle.sd_kernel.specs.declared.step.Step.{Step};
 ghost use Rattle.sd_kernel.specs.Known.{is_known, known_at};
 ghost use Rattle.sd_kernel.specs.Facts.{trail_of};
-ghost use Rattle.sd_kernel.specs.Steps.{leads, is_chain, outcome};
-ghost use Rattle.sd_kernel.specs.Effects.{across, outcome_of, IsEffectOn};
+ghost use Rattle.sd_kernel.specs.Steps.{leads, is_chain};
+ghost use Rattle.sd_kernel.specs.Effects.{across, IsEffectOf, IsEffectOn};
 
 use crate::effect::Effect;
 use crate::known::{Fact, is_value, known_values};
@@ -22,7 +22,9 @@ fn across(terms: &Bank, link: TermId, side: TermId) -> Option<TermId>
     requires sorted { AllWellSorted terms.now }
     requires link { link < length terms.now }
     requires side { side < length terms.now }
-    ensures tree { option_map (λ n. tree_at terms.now n) result ≡ across (tree_at terms.now link) (tree_at terms.now side) }
+    ensures tree {
+        option_map (λ n. tree_at terms.now n) result ≡ across (tree_at terms.now link) (tree_at terms.now side)
+    }
     ensures number { IfSome result (λ n. n < length terms.now) }
 {
     if !is_eq(terms, link) {
@@ -45,7 +47,9 @@ fn leads(terms: &Bank, first: TermId, links: &[u32], last: TermId) -> bool
     requires first { first < length terms.now }
     requires links { All (λ n. n < length terms.now) links.now }
     requires last { last < length terms.now }
-    ensures { result ≡ leads (tree_at terms.now first) (map (λ n. tree_at terms.now n) links.now) (tree_at terms.now last) }
+    ensures {
+        result ≡ leads (tree_at terms.now first) (map (λ n. tree_at terms.now n) links.now) (tree_at terms.now last)
+    }
 {
     let mut side = first;
     for link in links {
@@ -57,7 +61,8 @@ fn leads(terms: &Bank, first: TermId, links: &[u32], last: TermId) -> bool
     terms.same_term(side, last)
 }
 
-/// Whether a term is an equality, and the others lead from one side of it to the other, or are none where the two are one.
+/// Whether a term is an equality, and the others lead from one side of it to the other, or are none where the two are
+/// one.
 fn is_chain(terms: &Bank, equality: TermId, links: &[u32]) -> bool
     requires sorted { AllWellSorted terms.now }
     requires equality { equality < length terms.now }
@@ -101,8 +106,8 @@ pub fn chain_effect(
 ) -> Result<Effect, NoMemory>
     requires facts { All (λ f. f.term < length terms.now) trail.now }
     requires sorted { AllWellSorted terms.now }
-    ensures outcome { IfOk result (λ e. outcome terms.now (trail_of terms.now trail.now) (Step.Chain equality links.now) ≡ outcome_of terms.now (trail_of terms.now trail.now) e) }
-    ensures fits { IfOk result (λ e. IsEffectOn terms.now e) }
+    ensures effect { IfOk result (IsEffectOf terms.now (trail_of terms.now trail.now) (Step.Chain equality links.now)) }
+    ensures fits { IfOk result (IsEffectOn terms.now) }
 {
     if !are_numbers(terms, &[equality]) {
         return Ok(Effect::bad(StepCause::Number));

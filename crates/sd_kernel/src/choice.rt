@@ -4,8 +4,8 @@ ghost use Rattle.sd_term.specs.Bank.{tree_at};
 ghost use Rattle.sd_term.specs.Sorts.{AllWellSorted};
 ghost use Rattle.sd_kernel.specs.declared.step.Step.{Step};
 ghost use Rattle.sd_kernel.specs.Facts.{trail_of};
-ghost use Rattle.sd_kernel.specs.Steps.{is_eq_of, is_ite_head, is_choice_of, outcome};
-ghost use Rattle.sd_kernel.specs.Effects.{chosen_by, outcome_of, IsEffectOn};
+ghost use Rattle.sd_kernel.specs.Steps.{is_eq_of, is_ite_head, is_choice_of};
+ghost use Rattle.sd_kernel.specs.Effects.{chosen_by, IsEffectOf, IsEffectOn};
 ghost use Rattle.sd_forms.specs.FactRows.{part_at};
 
 use crate::effect::Effect;
@@ -23,7 +23,10 @@ fn is_equal_part(terms: &Bank, choice: TermId, equality: TermId, place: usize) -
     requires equality { equality < length terms.now }
     requires is_ite { is_ite_head (head_of (tree_at terms.now choice)) ≡ true }
     requires place { place < 3 }
-    ensures { result ≡ is_eq_of (tree_at terms.now equality) (tree_at terms.now choice) (part_at (tree_at terms.now choice) place) }
+    ensures {
+        result ≡ is_eq_of (tree_at terms.now equality) (tree_at terms.now choice)
+            (part_at (tree_at terms.now choice) place)
+    }
 {
     let chosen = part(terms, choice, place);
     is_node_of(terms, equality, Op::Eq, choice, chosen)
@@ -45,7 +48,8 @@ fn is_choice_of(terms: &Bank, choice: TermId, equality: TermId) -> bool
     is_equal_part(terms, choice, equality, 2)
 }
 
-/// Whether the value of a choice's condition is known, and a term the equality of the choice and the part that it chooses.
+/// Whether the value of a choice's condition is known, and a term the equality of the choice and the part that it
+/// chooses.
 fn is_chosen(terms: &Bank, condition: Option<bool>, choice: TermId, equality: TermId) -> bool
     requires sorted { AllWellSorted terms.now }
     requires choice { choice < length terms.now }
@@ -70,8 +74,8 @@ pub fn ite_effect(
 ) -> Result<Effect, NoMemory>
     requires facts { All (λ f. f.term < length terms.now) trail.now }
     requires sorted { AllWellSorted terms.now }
-    ensures outcome { IfOk result (λ e. outcome terms.now (trail_of terms.now trail.now) (Step.Ite choice equality) ≡ outcome_of terms.now (trail_of terms.now trail.now) e) }
-    ensures fits { IfOk result (λ e. IsEffectOn terms.now e) }
+    ensures effect { IfOk result (IsEffectOf terms.now (trail_of terms.now trail.now) (Step.Ite choice equality)) }
+    ensures fits { IfOk result (IsEffectOn terms.now) }
 {
     if !are_numbers(terms, &[choice, equality]) {
         return Ok(Effect::bad(StepCause::Number));

@@ -1,11 +1,13 @@
-ghost use Rattle.std.specs.Prelude.{◌≡◌, ℕ, ◌<◌, ◌≤◌, ◌||◌, ◌&&◌, List, [], ◌∷◌, ◌++◌, length, map, take, not, IfOk, All, None, Bool, unwrap_or};
-ghost use Rattle.sd_term.specs.Tree.{head_of, same_tree};
+ghost use Rattle.std.specs.Prelude.{◌≡◌, ◌<◌, ◌≤◌, ◌&&◌, length, map, take, not, IfOk, All, None, unwrap_or};
+ghost use Rattle.sd_term.specs.Tree.{same_tree};
 ghost use Rattle.sd_term.specs.Bank.{tree_at, PartsBelow};
 ghost use Rattle.sd_term.specs.Sorts.{is_truth_sort, sort_at, sort_of};
 ghost use Rattle.sd_term.specs.Truth.{same_bool};
-ghost use Rattle.sd_kernel.specs.Known.{not3, and3, or3, iff3, ite3, known_at, known, by_parts, known_by_parts, is_known, has_fact, first_fact, Trail};
+ghost use Rattle.sd_kernel.specs.Known.{not3, and3, or3, iff3, ite3, known_at, known, by_parts, is_known, has_fact};
+ghost use Rattle.sd_kernel.specs.Known.{Trail};
 ghost use Rattle.sd_kernel.specs.FirstFacts.{HasFirstFacts};
-ghost use Rattle.sd_kernel.specs.Facts.{trail_of, fact_of};
+ghost use Rattle.sd_kernel.specs.Facts.{trail_of};
+ghost use Rattle.sd_kernel.specs.Steps.{is_contradicted};
 
 use sd_base::NoMemory;
 use sd_term::{Bank, Head, Op, TermId, TermNode};
@@ -80,8 +82,8 @@ fn part_known(node: &TermNode, place: usize, values: &[Option<bool>]) -> Option<
     }
 }
 
-/// Whether the part at a place is truth-valued.
-fn is_truth_part(terms: &Bank, node: &TermNode, place: usize) -> bool
+/// Whether the part at a place is truth-valued. One that isn't there counts as such.
+pub fn is_truth_part(terms: &Bank, node: &TermNode, place: usize) -> bool
     requires { PartsBelow (length terms.now) node.now }
     ensures { result ≡ is_truth_sort (sort_at (map (λ p. sort_of (tree_at terms.now p)) node.now.parts) place) }
 {
@@ -95,7 +97,10 @@ fn is_truth_part(terms: &Bank, node: &TermNode, place: usize) -> bool
 fn value_by_parts(terms: &Bank, node: &TermNode, values: &[Option<bool>]) -> Option<Option<bool>>
     requires terms { PartsBelow (length terms.now) node.now }
     requires values { PartsBelow (length values.now) node.now }
-    ensures { result ≡ by_parts node.now.head (map (λ p. sort_of (tree_at terms.now p)) node.now.parts) (map (λ p. known_at values.now p) node.now.parts) }
+    ensures {
+        result ≡ by_parts node.now.head (map (λ p. sort_of (tree_at terms.now p)) node.now.parts)
+            (map (λ p. known_at values.now p) node.now.parts)
+    }
 {
     let first = part_known(node, 0, values);
     let second = part_known(node, 1, values);
@@ -126,7 +131,7 @@ fn value_by_parts(terms: &Bank, node: &TermNode, values: &[Option<bool>]) -> Opt
     }
 }
 
-/// The value in the first fact on each term, at the least number of the term.
+/// The value in the first fact on each term.
 fn first_values(
     alloc: Global,
     terms: &Bank,
@@ -138,19 +143,9 @@ fn first_values(
     let mut firsts = Items::from_vec(vec![in alloc; None; terms.len()]?);
     for k in (0..trail.len()).rev() {
         let fact = trail[k];
-        let first = terms.first(fact.term);
-        firsts.set(first.number() as usize, Some(fact.value));
+        firsts.set(fact.term.number() as usize, Some(fact.value));
     }
     Ok(firsts)
-}
-
-/// The value in the first fact on a term.
-fn first_value(terms: &Bank, firsts: &[Option<bool>], id: TermId) -> Option<bool>
-    requires id { id < length terms.now }
-    requires long { length firsts.now ≡ length terms.now }
-    ensures { (trail : Trail) → HasFirstFacts terms.now trail firsts.now → result ≡ first_fact trail (tree_at terms.now id) }
-{
-    value_of(firsts, terms.first(id))
 }
 
 /// What is known of a term where that of each earlier one is at hand.
@@ -163,12 +158,15 @@ fn known_value(
     requires id { id < length terms.now }
     requires long { length firsts.now ≡ length terms.now }
     requires values { length values.now ≡ id }
-    ensures { (trail : Trail) → HasFirstFacts terms.now trail firsts.now → values.now ≡ map (λ t. known trail t) (take id terms.now) → result ≡ known trail (tree_at terms.now id) }
+    ensures {
+        (trail : Trail) → HasFirstFacts terms.now trail firsts.now
+        → values.now ≡ map (λ t. known trail t) (take id terms.now) → result ≡ known trail (tree_at terms.now id)
+    }
 {
     let node = terms.node(id);
     match value_by_parts(terms, node, values) {
         Some(value) => value,
-        None => first_value(terms, firsts, id),
+        None => value_of(firsts, id),
     }
 }
 
@@ -210,7 +208,7 @@ pub fn is_value(values: &[Option<bool>], id: TermId, value: bool) -> bool
     }
 }
 
-/// Whether a term has the opposite of a value, by its parts or by one of the first facts.
+/// Whether a term has the opposite of a value, by its parts or by one of the first `count` facts.
 pub fn is_contradicted(
     alloc: Global,
     terms: &Bank,
@@ -222,7 +220,9 @@ pub fn is_contradicted(
     requires facts { All (λ f. f.term < length terms.now) trail.now }
     requires count { count ≤ length trail.now }
     requires id { id < length terms.now }
-    ensures { IfOk result (λ r. r ≡ (is_known (known_by_parts (trail_of terms.now trail.now) (tree_at terms.now id)) (not value) || has_fact (take count (trail_of terms.now trail.now)) (tree_at terms.now id) (not value))) }
+    ensures {
+        IfOk result (λ r. r ≡ is_contradicted (trail_of terms.now trail.now) count (tree_at terms.now id, value))
+    }
 {
     let values = known_values(alloc, terms, trail)?;
     let node = terms.node(id);
@@ -260,7 +260,9 @@ fn has_value(terms: &Bank, trail: &[Fact], count: usize, id: TermId, value: bool
 fn is_fact_on(terms: &Bank, fact: &Fact, id: TermId, value: bool) -> bool
     requires fact { fact.now.term < length terms.now }
     requires id { id < length terms.now }
-    ensures { result ≡ (same_tree (tree_at terms.now fact.now.term) (tree_at terms.now id) && same_bool fact.now.value value) }
+    ensures {
+        result ≡ (same_tree (tree_at terms.now fact.now.term) (tree_at terms.now id) && same_bool fact.now.value value)
+    }
 {
     terms.same_term(fact.term, id) && fact.value == value
 }

@@ -14,7 +14,9 @@ mod step;
 mod term;
 mod walk;
 
-pub use known::{Fact, known_values};
+pub use known::{Fact, is_truth_part, known_values};
+pub use nodes::{find_pair, is_op};
 pub use proved::{How, Proved};
 pub use step::{BadLine, NodeLine, Proof, RowLine, Step, StepCause, Verdict};
+pub use term::is_int;
 pub use walk::{Walk, proves};

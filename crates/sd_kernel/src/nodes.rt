@@ -1,12 +1,17 @@
-ghost use Rattle.std.specs.Prelude.{◌≡◌, ℕ, ◌<◌, nat_lt, All, IsTrue, ◌↔◌, [], ◌∷◌, length, map, slice_index_or};
+ghost use Rattle.std.specs.Prelude.{◌≡◌, ◌<◌, nat_lt, All, IfOk, IfSome, IfNone, IsTrue, ◌↔◌, [], ◌∷◌, length, map};
+ghost use Rattle.std.specs.Prelude.{slice_index_or, false};
 ghost use Rattle.std.specs.List.{list_all};
-ghost use Rattle.sd_term.specs.Tree.{tree, same_tree, parts_of, head_of};
+ghost use Rattle.sd_term.specs.Tree.{same_tree, parts_of, head_of};
 ghost use Rattle.sd_term.specs.Bank.{tree_at};
 ghost use Rattle.sd_term.specs.Numbering.{has};
 ghost use Rattle.sd_forms.specs.FactRows.{part_at, is_eq_head};
 ghost use Rattle.sd_kernel.specs.Steps.{is_ite_head};
+ghost use Rattle.sd_kernel.specs.Effects.{pair_of};
 
-use sd_term::{Bank, Head, Op, TermId};
+use sd_base::NoMemory;
+use sd_term::{Bank, Head, Op, TermId, TermNode};
+use sqlite_items::Items;
+use std::alloc::Global;
 
 /// Whether all numbers are numbers of terms.
 pub fn are_numbers(terms: &Bank, numbers: &[u32]) -> bool
@@ -31,7 +36,10 @@ fn are_parts(terms: &Bank, parts: &[TermId], first: TermId, second: TermId) -> b
     requires parts { All (λ p. p < length terms.now) parts.now }
     requires first { first < length terms.now }
     requires second { second < length terms.now }
-    ensures { IsTrue result ↔ (map (λ p. tree_at terms.now p) parts.now ≡ tree_at terms.now first ∷ tree_at terms.now second ∷ []) }
+    ensures {
+        IsTrue result
+        ↔ (map (λ p. tree_at terms.now p) parts.now ≡ tree_at terms.now first ∷ tree_at terms.now second ∷ [])
+    }
 {
     if parts.len() != 2 {
         return false;
@@ -47,7 +55,7 @@ pub fn is_node_of(terms: &Bank, id: TermId, op: Op, first: TermId, second: TermI
     requires id { id < length terms.now }
     requires first { first < length terms.now }
     requires second { second < length terms.now }
-    ensures { result ≡ same_tree (tree_at terms.now id) (tree (Head.Op op) (tree_at terms.now first ∷ tree_at terms.now second ∷ [])) }
+    ensures { result ≡ same_tree (tree_at terms.now id) (pair_of terms.now op first second) }
 {
     let node = terms.node(id);
     if !is_op(&node.head, op) {
@@ -56,18 +64,33 @@ pub fn is_node_of(terms: &Bank, id: TermId, op: Op, first: TermId, second: TermI
     are_parts(terms, node.parts.as_slice(), first, second)
 }
 
-/// Whether there is a term that is the operation of two terms.
-pub fn has_term(terms: &Bank, op: Op, first: TermId, second: TermId) -> bool
+/// The node of an operation of two terms.
+pub fn pair_node(alloc: Global, op: Op, first: TermId, second: TermId) -> Result<TermNode, NoMemory>
+    ensures head { IfOk result (λ node. node.head ≡ Head.Op op) }
+    ensures parts { IfOk result (λ node. node.parts ≡ first ∷ second ∷ []) }
+{
+    let parts = Items::from_slice(alloc, &[first, second])?;
+    let head = Head::Op(op);
+    Ok(TermNode { head, parts })
+}
+
+/// The number of an operation of two terms, where it has one.
+pub fn find_pair(
+    alloc: Global,
+    terms: &Bank,
+    op: Op,
+    first: TermId,
+    second: TermId,
+) -> Result<Option<TermId>, NoMemory>
     requires first { first < length terms.now }
     requires second { second < length terms.now }
-    ensures { result ≡ has terms.now (tree (Head.Op op) (tree_at terms.now first ∷ tree_at terms.now second ∷ [])) }
+    ensures below { IfOk result (λ r. IfSome r (λ id. id < length terms.now)) }
+    ensures tree { IfOk result (λ r. IfSome r (λ id. tree_at terms.now id ≡ pair_of terms.now op first second)) }
+    ensures none { IfOk result (λ r. IfNone r (has terms.now (pair_of terms.now op first second) ≡ false)) }
 {
-    for number in 0..terms.len() {
-        if is_node_of(terms, TermId::new(number as u32), op, first, second) {
-            return true;
-        }
-    }
-    false
+    let node = pair_node(alloc, op, first, second)?;
+    let found = terms.find(&node);
+    Ok(found)
 }
 
 /// A part of a term.

@@ -4,8 +4,8 @@ ghost use Rattle.sd_term.specs.Sorts.{AllWellSorted};
 ghost use Rattle.sd_kernel.specs.declared.step.Step.{Step};
 ghost use Rattle.sd_kernel.specs.Known.{is_known, known_at};
 ghost use Rattle.sd_kernel.specs.Facts.{trail_of};
-ghost use Rattle.sd_kernel.specs.Steps.{is_le_of, are_orders_of, outcome};
-ghost use Rattle.sd_kernel.specs.Effects.{outcome_of, IsEffectOn};
+ghost use Rattle.sd_kernel.specs.Steps.{is_le_of, are_orders_of};
+ghost use Rattle.sd_kernel.specs.Effects.{IsEffectOf, IsEffectOn};
 
 use crate::effect::Effect;
 use crate::known::{Fact, is_value, known_values};
@@ -22,7 +22,10 @@ fn are_opposite(terms: &Bank, one: TermId, other: TermId, first: TermId, second:
     requires other { other < length terms.now }
     requires first { first < length terms.now }
     requires second { second < length terms.now }
-    ensures { result ≡ (is_le_of (tree_at terms.now one) (tree_at terms.now first) (tree_at terms.now second) && is_le_of (tree_at terms.now other) (tree_at terms.now second) (tree_at terms.now first)) }
+    ensures {
+        result ≡ (is_le_of (tree_at terms.now one) (tree_at terms.now first) (tree_at terms.now second)
+            && is_le_of (tree_at terms.now other) (tree_at terms.now second) (tree_at terms.now first))
+    }
 {
     if !is_node_of(terms, one, Op::Le, first, second) {
         return false;
@@ -72,8 +75,8 @@ pub fn order_effect(
 ) -> Result<Effect, NoMemory>
     requires facts { All (λ f. f.term < length terms.now) trail.now }
     requires sorted { AllWellSorted terms.now }
-    ensures outcome { IfOk result (λ e. outcome terms.now (trail_of terms.now trail.now) (Step.Order equality known other) ≡ outcome_of terms.now (trail_of terms.now trail.now) e) }
-    ensures fits { IfOk result (λ e. IsEffectOn terms.now e) }
+    ensures effect { IfOk result (IsEffectOf terms.now (trail_of terms.now trail.now) (Step.Order equality known other)) }
+    ensures fits { IfOk result (IsEffectOn terms.now) }
 {
     if !are_numbers(terms, &[equality, known, other]) {
         return Ok(Effect::bad(StepCause::Number));

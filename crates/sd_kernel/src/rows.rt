@@ -6,8 +6,8 @@ ghost use Rattle.sd_forms.specs.LinearForms.{form_of};
 ghost use Rattle.sd_kernel.specs.declared.step.Step.{Step};
 ghost use Rattle.sd_kernel.specs.declared.step.RowLine.{RowLine};
 ghost use Rattle.sd_kernel.specs.Facts.{trail_of, fact_of};
-ghost use Rattle.sd_kernel.specs.Steps.{row_of_fact, row_back, is_multiplier, row_of_line, outcome};
-ghost use Rattle.sd_kernel.specs.Effects.{outcome_of, IsEffectOn};
+ghost use Rattle.sd_kernel.specs.Steps.{row_of_fact, row_back, is_multiplier, row_of_line};
+ghost use Rattle.sd_kernel.specs.Effects.{IsEffectOf, IsEffectOn};
 ghost use Rattle.sd_kernel.specs.MadeRows.{made_of, IsProperRow, row_fault, row_of_sum, row_of_cut};
 
 use crate::effect::Effect;
@@ -60,7 +60,8 @@ fn row_fault(row: &Row, is_last: bool) -> Option<StepCause>
     None
 }
 
-/// The row of a fact: of a true one that its first side is at most the second, and of a false order that it is above it.
+/// The row of a fact: of a true one that its first side is at most the second, and of a false order that it is above
+/// it.
 fn fact_row(alloc: Global, terms: &Bank, forms: &[Form], fact: &Fact) -> Result<LineRow, NoMemory>
     requires fact { fact.now.term < length terms.now }
     requires sorted { IsWellSorted (tree_at terms.now fact.now.term) }
@@ -183,8 +184,8 @@ pub fn rows_effect(
 ) -> Result<Effect, NoMemory>
     requires facts { All (λ f. f.term < length terms.now) trail.now }
     requires sorted { AllWellSorted terms.now }
-    ensures outcome { IfOk result (λ e. outcome terms.now (trail_of terms.now trail.now) (Step.Rows lines.now) ≡ outcome_of terms.now (trail_of terms.now trail.now) e) }
-    ensures fits { IfOk result (λ e. IsEffectOn terms.now e) }
+    ensures effect { IfOk result (IsEffectOf terms.now (trail_of terms.now trail.now) (Step.Rows lines.now)) }
+    ensures fits { IfOk result (IsEffectOn terms.now) }
 {
     let count = lines.len();
     if count == 0 {

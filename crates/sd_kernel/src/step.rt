@@ -16,7 +16,8 @@ pub enum NodeLine {
 /// How a row is derived. Rows are numbered from 0 within their step.
 #[derive(Clone, Copy, Debug, PartialEq, Eq)]
 pub enum RowLine {
-    /// The row of a fact: of a true `le a b` or `eq a b` that `a` is at most `b`, of a false `le a b` that `b` is less than `a`.
+    /// The row of a fact: of a true `le a b` or `eq a b` that `a` is at most `b`, of a false `le a b` that `b` is less
+    /// than `a`.
     Fact(u32),
     /// The row of a true `eq a b` that `b` is at most `a`.
     Back(u32),

@@ -1,18 +1,18 @@
-ghost use Rattle.std.specs.Prelude.{◌≡◌, ◌&&◌, IfOk, length};
-ghost use Rattle.std.specs.Prelude.{IsTrue};
+ghost use Rattle.std.specs.Prelude.{◌≡◌, IfOk};
 ghost use Rattle.sd_term.specs.declared.node.Head.{Head};
 ghost use Rattle.sd_term.specs.Sorts.{AllWellSorted, sort_of, same_sort};
 ghost use Rattle.sd_forms.specs.FactRows.{is_int_sort};
 ghost use Rattle.sd_kernel.specs.declared.step.Step.{Step};
 ghost use Rattle.sd_kernel.specs.Known.{Trail};
-ghost use Rattle.sd_kernel.specs.Steps.{fits, first_part, second_part, is_map, is_read_by, line_head, outcome};
-ghost use Rattle.sd_kernel.specs.Effects.{outcome_of, IsEffectOn};
+ghost use Rattle.sd_kernel.specs.Steps.{fits, first_part, second_part, is_map, is_read_by, line_head};
+ghost use Rattle.sd_kernel.specs.Effects.{IsEffectOf, IsEffectOn};
 
 use crate::effect::Effect;
-use crate::nodes::{are_numbers, has_term};
+use crate::nodes::{are_numbers, find_pair};
 use crate::step::{NodeLine, StepCause};
-use sd_base::{Sort, is_same_sort};
+use sd_base::{NoMemory, Sort, is_same_sort};
 use sd_term::{Bank, Op, TermId};
+use std::alloc::Global;
 
 fn op_of(line: NodeLine) -> Op
     ensures { Head.Op result ≡ line_head line }
@@ -47,7 +47,8 @@ fn second_of(line: NodeLine) -> u32
     }
 }
 
-fn is_int(sort: &Sort) -> bool
+/// Whether a sort is that of integers.
+pub fn is_int(sort: &Sort) -> bool
     ensures { result ≡ is_int_sort sort.now }
 {
     match sort {
@@ -94,24 +95,24 @@ fn fits(line: NodeLine, first: &Sort, second: &Sort) -> bool
 }
 
 /// What the step does that numbers a new term.
-pub fn term_effect(terms: &Bank, line: NodeLine) -> Effect
+pub fn term_effect(alloc: Global, terms: &Bank, line: NodeLine) -> Result<Effect, NoMemory>
     requires sorted { AllWellSorted terms.now }
-    ensures outcome { (trail : Trail) → outcome terms.now trail (Step.Term line) ≡ outcome_of terms.now trail result }
-    ensures fits { IsEffectOn terms.now result }
+    ensures effect { IfOk result (λ e. (trail : Trail) → IsEffectOf terms.now trail (Step.Term line) e) }
+    ensures fits { IfOk result (IsEffectOn terms.now) }
 {
     let first = first_of(line);
     let second = second_of(line);
     if !are_numbers(terms, &[first, second]) {
-        return Effect::bad(StepCause::Number);
+        return Ok(Effect::bad(StepCause::Number));
     }
     let first = TermId::new(first);
     let second = TermId::new(second);
     if !fits(line, terms.sort(first), terms.sort(second)) {
-        return Effect::bad(StepCause::Shape);
+        return Ok(Effect::bad(StepCause::Shape));
     }
     let op = op_of(line);
-    if has_term(terms, op, first, second) {
-        return Effect::bad(StepCause::Known);
+    match find_pair(alloc, terms, op, first, second)? {
+        Some(_) => Ok(Effect::bad(StepCause::Known)),
+        None => Ok(Effect::Grows(op, first, second)),
     }
-    Effect::Grows(op, first, second)
 }

@@ -1,8 +1,8 @@
 ghost use Rattle.std.specs.Prelude.{◌≡◌, ℕ, ◌<◌, ◌≤◌, ◌^◌, ◌-◌, All, [], ◌∷◌, IfOk, OnOk, IfSome, IsTrue, ◌↔◌, List, length, map, true};
-ghost use Rattle.sd_kernel.specs.Proof.{next, goes, start, judged, Proves, verdict, IsOpen, front};
+ghost use Rattle.sd_kernel.specs.Proof.{next, continues, start, judged, Proves, verdict, IsOpen, front};
 ghost use Rattle.sd_kernel.specs.Known.{known};
 ghost use Rattle.sd_kernel.specs.Facts.{trail_of};
-ghost use Rattle.sd_kernel.specs.Told.{told};
+ghost use Rattle.sd_kernel.specs.Refusal.{refusal_or};
 ghost use Rattle.sd_kernel.specs.Effects.{after_effect, IsEffectOn};
 ghost use Rattle.sd_term.specs.Bank.{tree_at};
 ghost use Rattle.sd_term.specs.Sorts.{AllWellSorted};
@@ -13,6 +13,7 @@ use crate::chain::chain_effect;
 use crate::choice::ite_effect;
 use crate::effect::Effect;
 use crate::known::{Fact, known_values};
+use crate::nodes::pair_node;
 use crate::order::order_effect;
 use crate::rows::rows_effect;
 use crate::step::{
@@ -20,7 +21,7 @@ use crate::step::{
 };
 use crate::term::term_effect;
 use sd_base::NoMemory;
-use sd_term::{Bank, Head, Numbered, Op, Query, TermId, TermNode};
+use sd_term::{Bank, Numbered, Op, Query, TermId};
 use sqlite_items::Items;
 use std::alloc::Global;
 use std::marker::Model;
@@ -91,11 +92,10 @@ impl Walk {
     fn grow(&mut self, op: Op, first: TermId, second: TermId) -> Result<(), NoMemory>
         requires opened { IsOpen self.old }
         requires fits { IsEffectOn self.old.0 (Effect.Grows op first second) }
-        ensures { OnOk result (after_effect self.old (Effect.Grows op first second) ≡ goes self.new) }
+        ensures { OnOk result (after_effect self.old (Effect.Grows op first second) ≡ continues self.new) }
     {
-        let parts = Items::from_slice(self.alloc, &[first, second])?;
-        let head = Head::Op(op);
-        self.terms.put_new(TermNode { head, parts })?;
+        let node = pair_node(self.alloc, op, first, second)?;
+        self.terms.put_new(node)?;
         Ok(())
     }
 
@@ -103,7 +103,7 @@ impl Walk {
     fn add(&mut self, term: TermId, value: bool) -> Result<(), NoMemory>
         requires opened { IsOpen self.old }
         requires fits { IsEffectOn self.old.0 (Effect.Adds term value) }
-        ensures { OnOk result (after_effect self.old (Effect.Adds term value) ≡ goes self.new) }
+        ensures { OnOk result (after_effect self.old (Effect.Adds term value) ≡ continues self.new) }
     {
         self.trail.push(Fact { term, value })?;
         Ok(())
@@ -113,7 +113,7 @@ impl Walk {
     fn divide(&mut self, term: TermId) -> Result<(), NoMemory>
         requires opened { IsOpen self.old }
         requires fits { IsEffectOn self.old.0 (Effect.Splits term) }
-        ensures { OnOk result (after_effect self.old (Effect.Splits term) ≡ goes self.new) }
+        ensures { OnOk result (after_effect self.old (Effect.Splits term) ≡ continues self.new) }
     {
         let length = self.trail.len();
         self.waiting.push(Waiting { length, term })?;
@@ -124,7 +124,7 @@ impl Walk {
     /// Closes the first open branch. The latest one that waits is open then.
     fn finish(&mut self) -> Result<(), NoMemory>
         requires { IsOpen self.old }
-        ensures { OnOk result (after_effect self.old Effect.Closes ≡ goes self.new) }
+        ensures { OnOk result (after_effect self.old Effect.Closes ≡ continues self.new) }
     {
         let Some(second) = self.waiting.pop() else {
             self.has_open = false;
@@ -143,7 +143,7 @@ impl Walk {
     /// Does to the first open branch what a step does. With no open branch the step is bad.
     fn apply(&mut self, effect: Effect) -> Result<Option<BadLine>, NoMemory>
         requires { IsEffectOn self.old.0 effect }
-        ensures { IfOk result (λ r. after_effect self.old effect ≡ told r self.new) }
+        ensures { IfOk result (λ r. after_effect self.old effect ≡ refusal_or r self.new) }
     {
         if !self.is_open() {
             return Ok(Some(BadLine::first(StepCause::Shape)));
@@ -171,28 +171,29 @@ impl Walk {
 
     /// Adds a new term for the rest of the proof.
     pub fn term(&mut self, line: NodeLine) -> Result<Option<BadLine>, NoMemory>
-        ensures { IfOk result (λ r. next self.old (Step.Term line) ≡ told r self.new) }
+        ensures { IfOk result (λ r. next self.old (Step.Term line) ≡ refusal_or r self.new) }
     {
-        let effect = term_effect(&self.terms, line);
+        let effect = term_effect(self.alloc, &self.terms, line)?;
         self.apply(effect)
     }
 
     /// Splits the first open branch on a truth-valued term: true first, and false in the branch that waits.
     pub fn split(&mut self, number: u32) -> Result<Option<BadLine>, NoMemory>
-        ensures { IfOk result (λ r. next self.old (Step.Split number) ≡ told r self.new) }
+        ensures { IfOk result (λ r. next self.old (Step.Split number) ≡ refusal_or r self.new) }
     {
         let effect = split_effect(&self.terms, number);
         self.apply(effect)
     }
 
-    /// Adds to the first open branch that an order is false: the equality of its sides is false there, and their other order true.
+    /// Adds to the first open branch that an order is false: the equality of its sides is false there, and their other
+    /// order true.
     pub fn order(
         &mut self,
         equality: u32,
         known: u32,
         other: u32,
     ) -> Result<Option<BadLine>, NoMemory>
-        ensures { IfOk result (λ r. next self.old (Step.Order equality known other) ≡ told r self.new) }
+        ensures { IfOk result (λ r. next self.old (Step.Order equality known other) ≡ refusal_or r self.new) }
     {
         let effect = order_effect(self.alloc, &self.terms, &self.trail, equality, known, other)?;
         self.apply(effect)
@@ -200,23 +201,25 @@ impl Walk {
 
     /// Adds to the first open branch that a choice equals the part that its condition, which is known there, chooses.
     pub fn ite(&mut self, choice: u32, equality: u32) -> Result<Option<BadLine>, NoMemory>
-        ensures { IfOk result (λ r. next self.old (Step.Ite choice equality) ≡ told r self.new) }
+        ensures { IfOk result (λ r. next self.old (Step.Ite choice equality) ≡ refusal_or r self.new) }
     {
         let effect = ite_effect(self.alloc, &self.terms, &self.trail, choice, equality)?;
         self.apply(effect)
     }
 
-    /// Adds to the first open branch that two terms are equal: equalities that are true there lead from one to the other.
+    /// Adds to the first open branch that two terms are equal: equalities that are true there lead from one to the
+    /// other.
     pub fn chain(&mut self, equality: u32, links: &[u32]) -> Result<Option<BadLine>, NoMemory>
-        ensures { IfOk result (λ r. next self.old (Step.Chain equality links.now) ≡ told r self.new) }
+        ensures { IfOk result (λ r. next self.old (Step.Chain equality links.now) ≡ refusal_or r self.new) }
     {
         let effect = chain_effect(self.alloc, &self.terms, &self.trail, equality, links)?;
         self.apply(effect)
     }
 
-    /// Closes the first open branch by a fact of it whose term has the opposite value by its parts, or by an earlier fact.
+    /// Closes the first open branch by a fact of it whose term has the opposite value, by its parts or by an earlier
+    /// fact.
     pub fn close(&mut self, number: u32) -> Result<Option<BadLine>, NoMemory>
-        ensures { IfOk result (λ r. next self.old (Step.Close number) ≡ told r self.new) }
+        ensures { IfOk result (λ r. next self.old (Step.Close number) ≡ refusal_or r self.new) }
     {
         let effect = close_effect(self.alloc, &self.terms, &self.trail, number)?;
         self.apply(effect)
@@ -224,7 +227,7 @@ impl Walk {
 
     /// Closes the first open branch by rows that follow from its facts, the last of which no integers meet.
     pub fn rows(&mut self, lines: &[RowLine]) -> Result<Option<BadLine>, NoMemory>
-        ensures { IfOk result (λ r. next self.old (Step.Rows lines.now) ≡ told r self.new) }
+        ensures { IfOk result (λ r. next self.old (Step.Rows lines.now) ≡ refusal_or r self.new) }
     {
         let effect = rows_effect(self.alloc, &self.terms, &self.trail, lines)?;
         self.apply(effect)
@@ -232,7 +235,7 @@ impl Walk {
 
     /// Reads a step. It is bad at the line that is answered, or it is done.
     pub fn step(&mut self, step: &Step) -> Result<Option<BadLine>, NoMemory>
-        ensures { IfOk result (λ r. next self.old step.now ≡ told r self.new) }
+        ensures { IfOk result (λ r. next self.old step.now ≡ refusal_or r self.new) }
     {
         match step {
             Step::Term(line) => self.term(*line),
@@ -289,9 +292,9 @@ fn judge(alloc: Global, terms: Bank, facts: &[TermId], steps: &[Step]) -> Result
     }
 }
 
-/// Whether a proof shows that no valuation makes all facts of the query true. It trusts nothing about who made the proof.
-/// `Rejected` has the first bad line, counted from 0, with the first cause that applies; a list of steps that ends with a
-/// branch open is bad at the line after the last. A proof of 2^32 lines or more is out of memory.
+/// Whether a proof shows that no valuation makes all facts of the query true. It trusts nothing about who made the
+/// proof. `Rejected` has the first bad line, counted from 0, with the first cause that applies; a list of steps that
+/// ends with a branch open is bad at the line after the last. A proof of 2^32 lines or more is out of memory.
 pub fn proves(query: &Query, proof: &Proof) -> Result<Verdict, NoMemory>
     ensures verdict { IfOk result (λ r. r ≡ verdict query.now proof.now.steps) }
     ensures exact { IfOk result (λ r. (r ≡ Verdict.Accepted) ↔ Proves query.now proof.now.steps) }

@@ -14,6 +14,6 @@ part-last-requires-clause-place c = omega (arith, eq-long c.args.terms.now c.arg
 pub returns : goal.returns
 returns c =
     chain-ends (tree_at c.args.terms.now c.args.equality) (tree_at c.args.terms.now c.part-first.result) (tree_at c.args.terms.now c.part-last.result) (map (λ n. tree_at c.args.terms.now n) c.args.links.now)
-    (sym c.is_eq.ensures ∙ c.if-not-is_eq.false) c.part-first.ensures.tree c.part-last.ensures.tree c.leads.result c.leads.ensures c.if-not-leads.false
+    (sym c.is_eq.ensures ∙ c.if-not-is_eq.false) c.part-first.ensures.tree c.part-last.ensures.tree (sym c.if-not-leads.false ∙ c.leads.ensures)
     (more-map c.args.terms.now c.args.links.now (not-zero (length c.args.links.now) (sym c.is_empty.ensures ∙ c.if-is_empty.false))) c.same_term.result
     (same-test (tree_at c.args.terms.now c.part-first.result) (tree_at c.args.terms.now c.part-last.result) c.same_term.result c.same_term.ensures)

@@ -8,5 +8,5 @@ returns-in-Some c = λ trail h values.
 
 pub returns-in-None : goal.returns-in-None
 returns-in-None c = λ trail h values.
-    c.first_value.ensures trail h
+    c.value_of.ensures ∙ h.exact c.args.id c.requires.id
     ∙ value-known trail c.args.terms.now c.args.values.now c.args.id c.node-node.result.now values (omega (arith, c.requires.id)) c.node-node.ensures.parts c.node-node.ensures.tree None (sym c.in-None.is ∙ c.value_by_parts.ensures)

@@ -9,8 +9,8 @@ use Rattle.sd_rows.proofs.Computable.{computable-push}
 use Rattle.sd_kernel.proofs.RowSteps.{rest-fault, rest-next, within-row}
 use Rattle.sd_kernel.proofs.rows.rows_effect.Goals as goal
 
-pub returns-in-Some-clause-outcome : goal.returns-in-Some-clause-outcome
-returns-in-Some-clause-outcome c =
+pub returns-in-Some-clause-effect : goal.returns-in-Some-clause-effect
+returns-in-Some-clause-effect c =
     c.loop-place.invariant.rest
     ∙ rest-fault c.args.terms.now (trail_of c.args.terms.now c.args.trail.now) c.args.lines.now c.loop-place.place (FactLine 0) c.loop-place.rows.items c.loop-place-test.true c.in-Row.row
     (ap (λ (rs : List Row). row_of_line c.args.terms.now (trail_of c.args.terms.now c.args.trail.now) rs (get_or c.args.lines.now c.loop-place.place (FactLine 0))) (sym c.deref.ensures.value)
