@@ -1,4 +1,4 @@
--- what the truth values of a branch ask for: terms that have to be there, with which values
+-- what the truth values of a branch require: the equalities of choices and the orders of equalities
 use Rattle.std.specs.Prelude.{◌≡◌, Bool, true, false, List, [], ◌∷◌, ◌⊎◌, Some}
 use Rattle.std.specs.List.{AllByRecursion}
 use Rattle.sd_term.specs.Heads.{Eq, Le}
@@ -36,11 +36,15 @@ IsThere terms trail t b = (has terms t ≡ true) × (known trail t ≡ Some b)
 
 -- each choice with a known condition equals the part that it chooses
 abbrev pub ChoicesHold : List Tree → Trail → Type 0
-ChoicesHold terms trail = (t : Tree) → has terms t ≡ true → IsChoice t → (b : Bool) → known trail (part_at t 0) ≡ Some b → IsThere terms trail (choice_eq t b) true
+ChoicesHold terms trail =
+    (t : Tree) → has terms t ≡ true → IsChoice t → (b : Bool) → known trail (part_at t 0) ≡ Some b
+    → IsThere terms trail (choice_eq t b) true
 
 -- each false equality of integers has one false order
 abbrev pub OrdersHold : List Tree → Trail → Type 0
-OrdersHold terms trail = (e : Tree) → has terms e ≡ true → is_int_eq e ≡ true → known trail e ≡ Some false → IsThere terms trail (order_of e) false ⊎ IsThere terms trail (order_back e) false
+OrdersHold terms trail =
+    (e : Tree) → has terms e ≡ true → is_int_eq e ≡ true → known trail e ≡ Some false
+    → IsThere terms trail (order_of e) false ⊎ IsThere terms trail (order_back e) false
 
 -- an equality that is there and true
 abbrev pub IsTrueEq : List Tree → Trail → Tree → Type 0
@@ -52,11 +56,16 @@ AreJoined terms trail a c = (es : List Tree) × AllByRecursion (IsTrueEq terms t
 
 -- no false equality has its two sides joined
 abbrev pub NoneJoined : List Tree → Trail → Type 0
-NoneJoined terms trail = (e : Tree) → has terms e ≡ true → is_eq e ≡ true → known trail e ≡ Some false → AreJoined terms trail (part_at e 0) (part_at e 1) → ⊥
+NoneJoined terms trail =
+    (e : Tree) → has terms e ≡ true → is_eq e ≡ true → known trail e ≡ Some false
+    → AreJoined terms trail (part_at e 0) (part_at e 1) → ⊥
 
--- the terms that are asked for: the equality of a choice and the part that it chooses, and the two orders of a false
--- equality of integers, each unless the other one is false
+-- The terms whose values a search needs before it answers an open cube: the equality of a choice and the part that it
+-- chooses, where the condition is known, and each order of a false equality of integers, unless the other one is false.
 pub data IsRequired (terms : List Tree) (trail : Trail) : Tree → Type 0 where
-  choice : (t : Tree) (b : Bool) → has terms t ≡ true → IsChoice t → known trail (part_at t 0) ≡ Some b → IsRequired terms trail (choice_eq t b)
-  order : (e : Tree) → has terms e ≡ true → is_int_eq e ≡ true → known trail e ≡ Some false → (IsThere terms trail (order_back e) false → ⊥) → IsRequired terms trail (order_of e)
-  back : (e : Tree) → has terms e ≡ true → is_int_eq e ≡ true → known trail e ≡ Some false → (IsThere terms trail (order_of e) false → ⊥) → IsRequired terms trail (order_back e)
+  choice : (t : Tree) (b : Bool) → has terms t ≡ true → IsChoice t → known trail (part_at t 0) ≡ Some b
+      → IsRequired terms trail (choice_eq t b)
+  order : (e : Tree) → has terms e ≡ true → is_int_eq e ≡ true → known trail e ≡ Some false
+      → (IsThere terms trail (order_back e) false → ⊥) → IsRequired terms trail (order_of e)
+  back : (e : Tree) → has terms e ≡ true → is_int_eq e ≡ true → known trail e ≡ Some false
+      → (IsThere terms trail (order_of e) false → ⊥) → IsRequired terms trail (order_back e)
