@@ -14,9 +14,10 @@ use Rattle.sd_term.proofs.Numbers.{has-at}
 use Rattle.sd_euf.specs.declared.find.Pair.{Pair}
 use Rattle.sd_euf.specs.Judged.{HasValues, Breaks, IsPair}
 use Rattle.sd_euf.specs.Links.{IsEqAt, IsChain}
-use Rattle.sd_euf.proofs.Shapes.{IsEqForm, eq-form, Place, has-place, well-at, tree-got, value-at}
+use Rattle.sd_euf.proofs.Shapes.{IsEqForm, eq-form, Place, has-place, tree-got, value-at}
 use Rattle.sd_euf.proofs.Outcomes.{or-true, plain-eq, closes_branch, chain-outcome}
 use Rattle.sd_euf.proofs.Joined.{AreSides, sides-of, Begins, begins}
+use Rattle.sd_kernel.proofs.Lookups.{sorted-at}
 
 -- ---- equalities of truth values are known by their sides
 
@@ -43,7 +44,7 @@ module _ (terms : List Tree) (trail : Trail) (sorted : AllWellSorted terms) wher
   one-value : (e a b : Tree) → IsTrueEq terms trail e → AreSides e a b → is_truth_sort (sort_of a) ≡ true → (known trail a ≡ known trail b) × (is_truth_sort (sort_of b) ≡ true)
   one-value e a b t s h =
       let p : Place terms e = has-place terms e t.1.0 in
-      let form : IsEqForm e = eq-form e (subst (λ u. IsWellSorted u) p.is (well-at terms p.at sorted p.within)) t.0 in
+      let form : IsEqForm e = eq-form e (subst (λ u. IsWellSorted u) p.is (sorted-at terms p.at sorted p.within)) t.0 in
       go form s
     where
       both : (form : IsEqForm e) → is_truth_sort (sort_of (part_at e 0)) ≡ true → known trail (part_at e 0) ≡ known trail (part_at e 1)

@@ -16,8 +16,9 @@ use Rattle.sd_cube.specs.Required.{IsChoice, IsThere, IsRequired, choice as asks
 use Rattle.sd_term.proofs.Numbers.{has-at}
 use Rattle.sd_euf.specs.declared.choices.Choice.{Choice}
 use Rattle.sd_euf.specs.Judged.{HasValues, Breaks, Asks, IsChoiceOf, chosen_number, ChoiceHolds}
-use Rattle.sd_euf.proofs.Shapes.{well-at, tree-got, value-at}
+use Rattle.sd_euf.proofs.Shapes.{tree-got, value-at}
 use Rattle.sd_euf.proofs.Outcomes.{plain-eq, closes_branch, eq-outcome, choice-outcome}
+use Rattle.sd_kernel.proofs.Lookups.{sorted-at}
 
 -- a choice by its number, with the value of its condition and the number of the part that it chooses
 pub record AtChoice (terms : List Tree) (values : List (Option Bool)) (id : ℕ) (choice : Choice) (v : Bool) (part : ℕ) : Type 0 where
@@ -68,7 +69,7 @@ module _ (terms : List Tree) (values : List (Option Bool)) (id : ℕ) (choice : 
   choice-absent a trail e =
       let x : Tree = tree_at terms id in
       let y : Tree = tree_at terms part in
-      let sorts : sort_of x ≡ sort_of y = sort-chosen x (tree_at terms choice.condition) (tree_at terms choice.first) (tree_at terms choice.second) v h.parts.is (well-at terms id h.sorted h.below) ∙ ap sort_of (sym part-is) in
+      let sorts : sort_of x ≡ sort_of y = sort-chosen x (tree_at terms choice.condition) (tree_at terms choice.first) (tree_at terms choice.second) v h.parts.is (sorted-at terms id h.sorted h.below) ∙ ap sort_of (sym part-is) in
       let below : part < length terms = subst (λ n. n < length terms) (sym h.chosen) (chosen-below terms x choice v h.parts) in
       (eq_tree x y, subst (IsRequired terms trail) (sym eq-is) (required trail e), eq-outcome terms trail id part x y (tree-got terms id h.below) (tree-got terms part below) sorts a)
 

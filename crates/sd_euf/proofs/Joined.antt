@@ -11,13 +11,6 @@ use Rattle.sd_cube.specs.Required.{IsTrueEq, AreJoined, eq_tree}
 pub same-tree : (a b : Tree) → a ≡ b → same_tree a b ≡ true
 same-tree a b e = ap (same_tree a) (sym e) ∙ same_tree-self a
 
-pub not-same : (a b : Tree) → (a ≡ b → ⊥) → same_tree a b ≡ false
-not-same a b n = go (same_tree a b) refl
-  where
-    go : (r : Bool) → same_tree a b ≡ r → r ≡ false
-    go true e = absurd (n (same_tree-true a b e))
-    go false e = refl
-
 -- ---- the other side of an equality
 
 -- a and b are the sides of e, in this order or the other

@@ -8,5 +8,4 @@ pub mod LinkLemmas
 pub mod ClassLemmas
 pub mod ChainLemmas
 pub mod Settling
-pub mod Grown
 pub mod TableLemmas

@@ -16,8 +16,9 @@ use Rattle.sd_euf.specs.declared.find.Pair.{Pair}
 use Rattle.sd_euf.specs.declared.find.Standing.{Standing}
 use Rattle.sd_euf.specs.declared.find.Standing.TheVariants.{Absent, Unknown, Known}
 use Rattle.sd_euf.specs.Judged.{HasValues, Breaks, Asks, Stands, AtEquality, OrderHolds, is_false_standing}
-use Rattle.sd_euf.proofs.Shapes.{IsEqForm, eq-form, well-at, tree-got, value-at}
+use Rattle.sd_euf.proofs.Shapes.{IsEqForm, eq-form, tree-got, value-at}
 use Rattle.sd_euf.proofs.Outcomes.{plain-le, closes_branch, le-outcome, order-outcome}
+use Rattle.sd_kernel.proofs.Lookups.{sorted-at}
 
 -- no pair of sides, no equality
 pub no-int-eq : (t : Tree) → IsWellSorted t → ((x y : Tree) → t ≡ eq_tree x y → ⊥) → is_int_eq t ≡ false
@@ -46,7 +47,7 @@ module _ (terms : List Tree) (values : List (Option Bool)) (id : ℕ) (sides : P
 
   int-right : is_int_sort (sort_of right) ≡ true
   int-right =
-      let form : IsEqForm (eq_tree left right) = eq-form (eq_tree left right) (subst IsWellSorted h.pair.is (well-at terms id h.sorted h.below)) refl in
+      let form : IsEqForm (eq_tree left right) = eq-form (eq_tree left right) (subst IsWellSorted h.pair.is (sorted-at terms id h.sorted h.below)) refl in
       ap is_int_sort (sym form.sorts) ∙ h.int
 
   order-is : le_tree left right ≡ order_of whole

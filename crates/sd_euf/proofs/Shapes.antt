@@ -1,5 +1,5 @@
 -- the forms of terms, by their nodes and by their sorts
-use Rattle.std.proofs.Common.{◌≡◌, ℕ, zero, suc, ◌<◌, List, [], ◌∷◌, ◌++◌, length, refl, sym, ap, ◌∙◌, subst, Bool, true, false, arith, length-append, get_or, Some, Option, slice_get, ◌||◌}
+use Rattle.std.proofs.Common.{◌≡◌, ℕ, suc, ◌<◌, List, [], ◌∷◌, ◌++◌, length, refl, sym, ap, ◌∙◌, subst, Bool, true, false, arith, length-append, get_or, Some, Option, slice_get, ◌||◌}
 use Rattle.std.proofs.lemmas.List.{length-map, get_or-map}
 use Rattle.std.proofs.lemmas.Option.{slice_get-get_or}
 use Rattle.sd_base.specs.declared.sort.Sort.{Sort}
@@ -9,21 +9,17 @@ use Rattle.sd_term.specs.Heads.{True, Eq, Ite}
 use Rattle.sd_term.specs.Tree.{Tree, leaf, call, tree, head_of, parts_of, same_tree-true, same_tree}
 use Rattle.sd_term.specs.Bank.{tree_at, tree_of}
 use Rattle.sd_term.specs.Numbering.{has}
-use Rattle.sd_term.specs.Sorts.{sort_of, sorts_of, Takes, IsWellSorted, AllWellSorted}
-use Rattle.sd_forms.specs.FactRows.{part_at, is_eq_head}
+use Rattle.sd_term.specs.Sorts.{sort_of, sorts_of, Takes, IsWellSorted}
+use Rattle.sd_forms.specs.FactRows.{part_at}
 use Rattle.sd_kernel.specs.Known.{Trail, known}
 use Rattle.sd_kernel.specs.Steps.{is_ite_head, is_eq}
 use Rattle.sd_cube.specs.Required.{eq_tree}
 use Rattle.sd_term.proofs.Folds.{head_of-node}
 use Rattle.sd_term.proofs.Numbers.{node-parts}
+use Rattle.sd_kernel.proofs.Values.{is-eq-head, is-ite-head}
 use Rattle.sd_euf.specs.Judged.{HasValues}
 
 -- ---- places
-
-pub well-at : (terms : List Tree) (n : ℕ) → AllWellSorted terms → n < length terms → IsWellSorted (tree_at terms n)
-well-at [] n w h = absurd (omega arith)
-well-at (t ∷ ts) zero w h = w.0
-well-at (t ∷ ts) (suc n) w h = well-at ts n w.1 (omega (arith, h))
 
 pub tree-got : (terms : List Tree) (n : ℕ) → n < length terms → slice_get terms n ≡ Some (tree_at terms n)
 tree-got terms n h = slice_get-get_or terms n (leaf True) h
@@ -62,16 +58,8 @@ count-sorts : (t : Tree) → length (sorts_of t) ≡ length (parts_of t)
 count-sorts (leaf h) = refl
 count-sorts (call f x) = omega (arith, count-sorts f, length-append (sorts_of f) (sort_of x ∷ []), length-append (parts_of f) (x ∷ []))
 
-ite-head : (h : Head) → is_ite_head h ≡ true → h ≡ Ite
-ite-head Ite e = refl
-ite-head _ e = let f : false ≡ true = e in cc
-
-eq-head : (h : Head) → is_eq_head h ≡ true → h ≡ Eq
-eq-head Eq e = refl
-eq-head _ e = let f : false ≡ true = e in cc
-
 pub ite-is : (t : Tree) → is_ite_head (head_of t) ≡ true → head_of t ≡ Ite
-ite-is t e = ite-head (head_of t) e
+ite-is t e = is-ite-head (head_of t) e
 
 pub ite-count : (t : Tree) → IsWellSorted t → is_ite_head (head_of t) ≡ true → length (parts_of t) ≡ 3
 ite-count t w e =
@@ -93,7 +81,7 @@ pub record IsEqForm (t : Tree) : Type 0 where
 
 pub eq-form : (t : Tree) → IsWellSorted t → is_eq t ≡ true → IsEqForm t
 eq-form t w e =
-    let h : head_of t ≡ Eq = eq-head (head_of t) e in
+    let h : head_of t ≡ Eq = is-eq-head (head_of t) e in
     let k : Takes Eq (sorts_of t) = subst (λ g. Takes g (sorts_of t)) h w.1 in
     let form : t ≡ eq_tree (part_at t 0) (part_at t 1) = two-parts t k.0 k.0 k.1 ∙ ap (λ g. tree g (part_at t 0 ∷ part_at t 1 ∷ [])) h in
     let same : sort_of (part_at t 0) ∷ sort_of (part_at t 1) ∷ [] ≡ k.0 ∷ k.0 ∷ [] = sym (ap sorts_of form) ∙ k.1 in

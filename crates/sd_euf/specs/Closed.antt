@@ -24,14 +24,17 @@ IfClasses _ P = Unit {0}
 
 -- the step numbers a term that is asked for and isn't there, or splits one that is there without a value
 abbrev pub IsRequiredStep : List Tree → Trail → Step → Type 0
-IsRequiredStep terms trail (Term line) = (t : Tree) × IsRequired terms trail t × (outcome terms trail (Term line) ≡ leaves (terms ++ t ∷ []) (trail ∷ []))
-IsRequiredStep terms trail (Split n) = (n < length terms) × IsRequired terms trail (tree_at terms n) × (known trail (tree_at terms n) ≡ None)
+IsRequiredStep terms trail (Term line) =
+    (t : Tree) × IsRequired terms trail t × (outcome terms trail (Term line) ≡ leaves (terms ++ t ∷ []) (trail ∷ []))
+IsRequiredStep terms trail (Split n) =
+    (n < length terms) × IsRequired terms trail (tree_at terms n) × (known trail (tree_at terms n) ≡ None)
 IsRequiredStep terms trail _ = ⊥
 
 -- a number for each term, the same for two terms exactly where a chain of true equalities joins them
 pub record AreClasses (terms : List Tree) (trail : Trail) (classes : List ℕ) : Type 0 where
   pub long : length classes ≡ length terms
-  pub one : (i j : ℕ) → i < length terms → j < length terms → (slice_index_or classes i 0 ≡ slice_index_or classes j 0) ↔ AreJoined terms trail (tree_at terms i) (tree_at terms j)
+  pub one : (i j : ℕ) → i < length terms → j < length terms
+      → (slice_index_or classes i 0 ≡ slice_index_or classes j 0) ↔ AreJoined terms trail (tree_at terms i) (tree_at terms j)
 
 -- what is asked for is there, and no false equality has its sides joined
 pub record AreSettled (terms : List Tree) (trail : Trail) (classes : List ℕ) : Type 0 where

@@ -1,4 +1,4 @@
--- how the rules of a branch stand, told by the values of its terms
+-- how the rules of a branch stand, by the values of its terms
 use Rattle.std.specs.Prelude.{◌≡◌, ◌⊎◌, ℕ, ◌<◌, Bool, true, false, not, List, [], ◌∷◌, Option, Some, None, length, map, slice_index_or}
 use Rattle.sd_kernel.specs.declared.step.Step.{Step}
 use Rattle.sd_kernel.specs.declared.step.Step.TheVariants.{Close}
@@ -28,7 +28,8 @@ HasValues terms trail values = values ≡ map (λ t. known trail t) terms
 
 -- the new fact of the step contradicts an earlier one
 abbrev pub Breaks : List Tree → List (Option Bool) → Step → Type 0
-Breaks terms values step = (trail : Trail) → HasValues terms trail values → ClosesBranch terms trail (step ∷ Close (length trail) ∷ [])
+Breaks terms values step =
+    (trail : Trail) → HasValues terms trail values → ClosesBranch terms trail (step ∷ Close (length trail) ∷ [])
 
 -- the step is asked for
 abbrev pub Asks : List Tree → List (Option Bool) → Step → Type 0
@@ -73,13 +74,16 @@ Stands terms values t (Known n b) = (n < length terms) × (tree_at terms n ≡ t
 
 -- the choice equals the part that it chooses
 abbrev pub ChoiceHolds : List Tree → Tree → Trail → Type 0
-ChoiceHolds terms t trail = IsChoice t → (b : Bool) → known trail (part_at t 0) ≡ Some b → IsThere terms trail (choice_eq t b) true
+ChoiceHolds terms t trail =
+    IsChoice t → (b : Bool) → known trail (part_at t 0) ≡ Some b → IsThere terms trail (choice_eq t b) true
 
 -- ---- the rule of orders
 
 -- a false equality of integers has a false order
 abbrev pub OrderHolds : List Tree → Tree → Trail → Type 0
-OrderHolds terms e trail = is_int_eq e ≡ true → known trail e ≡ Some false → IsThere terms trail (order_of e) false ⊎ IsThere terms trail (order_back e) false
+OrderHolds terms e trail =
+    is_int_eq e ≡ true → known trail e ≡ Some false → IsThere terms trail (order_of e) false
+    ⊎ IsThere terms trail (order_back e) false
 
 -- a false equality of integers with these sides
 pub record AtEquality (terms : List Tree) (values : List (Option Bool)) (id : ℕ) (sides : Pair) : Type 0 where

@@ -1,4 +1,4 @@
--- terms that true equalities join, told by numbers
+-- terms that true equalities join, by number
 use Rattle.std.specs.Prelude.{◌≡◌, ℕ, ◌<◌, Bool, true, false, List, Option, Some, None, length, map, slice_index_or, ◌==◌, if◌then◌else◌}
 use Rattle.std.specs.List.{AllByRecursion}
 use Rattle.sd_term.specs.Tree.{Tree}
@@ -37,7 +37,8 @@ GoDown links = (k : ℕ) → 0 < k → k < length links → (link_at links k).fr
 -- by a true equality
 pub record IsLink (terms : List Tree) (values : List (Option Bool)) (links : List Link) (k : ℕ) : Type 0 where
   pub by : IsEqAt terms values (link_at links k).by true
-  pub other : other_side (tree_at terms (link_at links k).by) (reached_at terms links k) ≡ Some (reached_at terms links (link_at links k).from)
+  pub other : other_side (tree_at terms (link_at links k).by) (reached_at terms links k)
+      ≡ Some (reached_at terms links (link_at links k).from)
 
 pub record AreLinks (terms : List Tree) (values : List (Option Bool)) (links : List Link) : Type 0 where
   pub some : 0 < length links
@@ -53,7 +54,9 @@ pub record IsReached (terms : List Tree) (links : List Link) (t : Tree) : Type 0
 
 -- so are the other sides of the first equalities that have the term with this place as a side
 abbrev pub AreReached : List Tree → List (Option Bool) → List Link → ℕ → ℕ → Type 0
-AreReached terms values links k n = (m : ℕ) → m < n → IsEqAt terms values m true → (t : Tree) → other_side (tree_at terms m) (reached_at terms links k) ≡ Some t → IsReached terms links t
+AreReached terms values links k n =
+    (m : ℕ) → m < n → IsEqAt terms values m true
+    → (t : Tree) → other_side (tree_at terms m) (reached_at terms links k) ≡ Some t → IsReached terms links t
 
 -- the earlier links stay
 pub record AreMore (old new : List Link) : Type 0 where
@@ -88,12 +91,15 @@ pub record SidesMeet (terms : List Tree) (classes : List ℕ) (t : Tree) : Type 
 -- classes by the first equalities
 pub record AreMerged (terms : List Tree) (values : List (Option Bool)) (classes : List ℕ) (n : ℕ) : Type 0 where
   pub long : length classes ≡ length terms
-  pub equal : (i j : ℕ) → i < length terms → j < length terms → tree_at terms i ≡ tree_at terms j → class_at classes i ≡ class_at classes j
+  pub equal : (i j : ℕ) → i < length terms → j < length terms → tree_at terms i ≡ tree_at terms j
+      → class_at classes i ≡ class_at classes j
   pub sides : (k : ℕ) → k < n → IsEqAt terms values k true → SidesMeet terms classes (tree_at terms k)
-  pub joined : (i j : ℕ) → i < length terms → j < length terms → class_at classes i ≡ class_at classes j → (trail : Trail) → HasValues terms trail values → AreJoined terms trail (tree_at terms i) (tree_at terms j)
+  pub joined : (i j : ℕ) → i < length terms → j < length terms → class_at classes i ≡ class_at classes j
+      → (trail : Trail) → HasValues terms trail values → AreJoined terms trail (tree_at terms i) (tree_at terms j)
 
 -- ---- the rule of chains
 
 -- a false equality doesn't have its sides joined
 abbrev pub NotJoined : List Tree → Tree → Trail → Type 0
-NotJoined terms e trail = is_eq e ≡ true → known trail e ≡ Some false → AreJoined terms trail (part_at e 0) (part_at e 1) → ⊥
+NotJoined terms e trail =
+    is_eq e ≡ true → known trail e ≡ Some false → AreJoined terms trail (part_at e 0) (part_at e 1) → ⊥

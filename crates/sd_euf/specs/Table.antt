@@ -12,12 +12,15 @@ HasLeft t x = (y : Tree) × (parts_of t ≡ x ∷ y ∷ [])
 -- the last of the first n trees that has the left part
 abbrev pub IsLastLeft : List Tree → Tree → ℕ → Option ℕ → Type 0
 IsLastLeft terms x n None = (j : ℕ) → j < n → HasLeft (tree_at terms j) x → ⊥
-IsLastLeft terms x n (Some p) = (p < n) × HasLeft (tree_at terms p) x × ((j : ℕ) → p < j → j < n → HasLeft (tree_at terms j) x → ⊥)
+IsLastLeft terms x n (Some p) =
+    (p < n) × HasLeft (tree_at terms p) x × ((j : ℕ) → p < j → j < n → HasLeft (tree_at terms j) x → ⊥)
 
 -- for the first number of each tree the last term with this left part, and for each term the last one before it with the
 -- same left part, among the first n
 pub record IsLeftTable (terms : List Tree) (table : LeftTable) (n : ℕ) : Type 0 where
   pub as_long : length table.last ≡ length terms
   pub passed : length table.earlier ≡ n
-  pub last_is : (k : ℕ) → k < length terms → IsFirst terms k → IsLastLeft terms (tree_at terms k) n (slice_index_or table.last k None)
-  pub earlier_is : (j : ℕ) → j < n → (x : Tree) → HasLeft (tree_at terms j) x → IsLastLeft terms x j (slice_index_or table.earlier j None)
+  pub last_is : (k : ℕ) → k < length terms → IsFirst terms k
+      → IsLastLeft terms (tree_at terms k) n (slice_index_or table.last k None)
+  pub earlier_is : (j : ℕ) → j < n → (x : Tree) → HasLeft (tree_at terms j) x
+      → IsLastLeft terms x j (slice_index_or table.earlier j None)

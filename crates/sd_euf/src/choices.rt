@@ -5,10 +5,10 @@ ghost use Rattle.sd_cube.specs.Required.{IsChoice, ChoicesHold};
 ghost use Rattle.sd_euf.specs.Table.{IsLeftTable};
 ghost use Rattle.sd_euf.specs.Judged.{IsChoiceOf, chosen_number, Judges, ChoiceHolds};
 
-use crate::find::{Standing, is_op, standing_of};
+use crate::find::{Standing, standing_of};
 use crate::judged::Judged;
 use crate::table::LeftTable;
-use sd_kernel::{NodeLine, Step};
+use sd_kernel::{NodeLine, Step, is_op};
 use sd_term::{Bank, Op, TermId};
 
 /// The condition of a choice, with the part where it is true and the part where it is false.
@@ -92,7 +92,8 @@ fn judged_choice(terms: &Bank, table: &LeftTable, values: &[Option<bool>], id: T
     }
 }
 
-/// Whether each choice with a known condition equals the part that it chooses. One that doesn't is told before what is missing.
+/// Whether each choice with a known condition equals the part that it chooses. The first one that doesn't is answered before
+/// what is missing.
 pub fn judged_choices(terms: &Bank, table: &LeftTable, values: &[Option<bool>]) -> Judged
     requires table { IsLeftTable terms.now table.now (length terms.now) }
     requires sorted { AllWellSorted terms.now }

@@ -42,9 +42,15 @@ pub fn close(
     requires closed { IsClosed terms.now }
     requires values { values.now ≡ map (λ t. known (trail_of terms.now trail.now) t) terms.now }
     requires short { length trail.now < 2 ^ 32 }
-    ensures conflict { IfOk result (λ r. IfConflict r (λ steps. ClosesBranch terms.now (trail_of terms.now trail.now) steps)) }
-    ensures missing { IfOk result (λ r. IfMissing r (λ step. IsRequiredStep terms.now (trail_of terms.now trail.now) step)) }
-    ensures classes { IfOk result (λ r. IfClasses r (λ classes. AreSettled terms.now (trail_of terms.now trail.now) classes)) }
+    ensures conflict {
+        IfOk result (λ r. IfConflict r (λ steps. ClosesBranch terms.now (trail_of terms.now trail.now) steps))
+    }
+    ensures missing {
+        IfOk result (λ r. IfMissing r (λ step. IsRequiredStep terms.now (trail_of terms.now trail.now) step))
+    }
+    ensures classes {
+        IfOk result (λ r. IfClasses r (λ classes. AreSettled terms.now (trail_of terms.now trail.now) classes))
+    }
 {
     let table = left_table(alloc, terms)?;
     let missing_choice = match judged_choices(terms, &table, values) {

@@ -6,7 +6,8 @@ ghost use Rattle.sd_euf.specs.Judged.{pair_tree, IsPair, Stands};
 ghost use Rattle.sd_euf.specs.Table.{IsLeftTable};
 
 use crate::table::LeftTable;
-use sd_term::{Bank, Head, Op, TermId};
+use sd_kernel::is_op;
+use sd_term::{Bank, Op, TermId};
 
 /// The two parts of a term.
 #[derive(Clone, Copy, Debug)]
@@ -23,16 +24,6 @@ pub enum Standing {
     /// It has no value.
     Unknown(u32),
     Known(u32, bool),
-}
-
-/// Whether a head is this operator.
-pub fn is_op(head: &Head, op: Op) -> bool
-    ensures { IsTrue result ↔ (head.now ≡ Head.Op op) }
-{
-    match head {
-        Head::Op(found) => *found == op,
-        _ => false,
-    }
 }
 
 /// The parts of a term with this operator over two of them.
@@ -73,8 +64,13 @@ pub fn find(terms: &Bank, table: &LeftTable, op: Op, left: TermId, right: TermId
     requires table { IsLeftTable terms.now table.now (length terms.now) }
     requires left { left < length terms.now }
     requires right { right < length terms.now }
-    ensures some { IfSome result (λ n. (n < length terms.now) × (tree_at terms.now n ≡ pair_tree op (tree_at terms.now left) (tree_at terms.now right))) }
-    ensures none { IfNone result (has terms.now (pair_tree op (tree_at terms.now left) (tree_at terms.now right)) ≡ false) }
+    ensures some {
+        IfSome result (λ n. (n < length terms.now)
+            × (tree_at terms.now n ≡ pair_tree op (tree_at terms.now left) (tree_at terms.now right)))
+    }
+    ensures none {
+        IfNone result (has terms.now (pair_tree op (tree_at terms.now left) (tree_at terms.now right)) ≡ false)
+    }
 {
     let first = terms.first(left).number() as usize;
     let mut place = table.last.as_slice()[first];

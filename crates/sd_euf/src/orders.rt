@@ -9,7 +9,6 @@ ghost use Rattle.sd_euf.specs.Judged.{IsPair, AtEquality, is_false_standing, Jud
 use crate::find::{Pair, Standing, pair_of, standing_of};
 use crate::judged::Judged;
 use crate::table::LeftTable;
-use sd_base::Sort;
 use sd_kernel::{NodeLine, Step};
 use sd_term::{Bank, Op, TermId};
 
@@ -18,10 +17,7 @@ fn is_int(terms: &Bank, id: TermId) -> bool
     requires { id < length terms.now }
     ensures { result ≡ is_int_sort (sort_of (tree_at terms.now id)) }
 {
-    match terms.sort(id) {
-        Sort::Int => true,
-        _ => false,
-    }
+    sd_kernel::is_int(terms.sort(id))
 }
 
 /// The sides of an equality of integers.
@@ -121,7 +117,8 @@ fn judged_equality(terms: &Bank, table: &LeftTable, values: &[Option<bool>], id:
     judged_sides(terms, table, values, id, sides)
 }
 
-/// Whether each false equality of integers has a false order. One whose orders are both true is told before what is missing.
+/// Whether each false equality of integers has a false order. The first one whose orders are both true is answered before
+/// what is missing.
 pub fn judged_orders(terms: &Bank, table: &LeftTable, values: &[Option<bool>]) -> Judged
     requires table { IsLeftTable terms.now table.now (length terms.now) }
     requires sorted { AllWellSorted terms.now }
