@@ -1,10 +1,9 @@
 -- rows that are gathered with their lines
-use Rattle.std.proofs.Common.{◌≡◌, ℕ, zero, suc, ◌+◌, ◌<◌, List, [], ◌∷◌, ◌++◌, map, length, take, refl, sym, ap, ◌∙◌, subst, Bool, true, false, cond, ◌&&◌, ◌||◌, Option, Some, None, slice_get, get_or, arith, append_assoc, append-nil, add-one, filter}
+use Rattle.std.proofs.Common.{◌≡◌, ℕ, zero, suc, ◌+◌, ◌<◌, List, [], ◌∷◌, ◌++◌, length, take, refl, sym, ap, ◌∙◌, subst, Bool, true, false, cond, ◌&&◌, ◌||◌, Option, Some, None, slice_get, arith, append_assoc, append-nil, add-one, filter}
 use Rattle.std.specs.Prelude.{if◌then◌else◌}
 use Rattle.std.proofs.lemmas.List.Elements.{filter-append}
 use Rattle.sd_term.specs.Tree.{Tree}
 use Rattle.sd_term.specs.Bank.{tree_at}
-use Rattle.sd_term.specs.Sorts.{AllWellSorted, IsWellSorted}
 use Rattle.sd_rows.specs.declared.row.Row.{Row}
 use Rattle.sd_rows.specs.Rows.{IsProper, is_within, AllComputable}
 use Rattle.sd_forms.specs.FactRows.{is_le, is_int_eq, is_comparison, below_row, back_row, above_row, rows_of}
@@ -135,17 +134,3 @@ module _ (terms : List Tree) (trail : Trail) where
   pub gathered-same : (n : ℕ) (g : Gathered) → n < length terms → known trail (tree_at terms n) ≡ None
       → IsGathered terms trail (rows_of_terms terms trail (take n terms)) g → IsGathered terms trail (rows_of_terms terms trail (take (n + 1) terms)) g
   gathered-same n g h e a = subst (λ rs. IsGathered terms trail rs g) (sym (rows-more n None h e ∙ append-nil (rows_of_terms terms trail (take n terms)))) a
-
-  -- the value in the table of known values
-  pub value-at : (values : List (Option Bool)) (n : ℕ) → values ≡ map (λ t. known trail t) terms → n < length terms → known trail (tree_at terms n) ≡ get_or values n None
-  value-at values n e h = go terms n h ∙ ap (λ l. get_or l n None) (sym e)
-    where
-      go : (ts : List Tree) (m : ℕ) → m < length ts → known trail (tree_at ts m) ≡ get_or (map (λ t. known trail t) ts) m None
-      go [] m lt = absurd (omega arith)
-      go (t ∷ ts) zero lt = refl
-      go (t ∷ ts) (suc m) lt = go ts m (omega (arith, lt))
-
-pub sorted-at : (terms : List Tree) (n : ℕ) → n < length terms → AllWellSorted terms → IsWellSorted (tree_at terms n)
-sorted-at [] n h a = absurd (omega arith)
-sorted-at (t ∷ terms) zero h a = a.0
-sorted-at (t ∷ terms) (suc n) h a = sorted-at terms n (omega (arith, h)) a.1

@@ -8,7 +8,7 @@ use Rattle.sd_forms.specs.FactRows.{is_comparison}
 use Rattle.sd_kernel.specs.declared.known.Fact.{Fact as NumberedFact}
 use Rattle.sd_kernel.specs.Known.{Fact, Trail, first_fact, known}
 use Rattle.sd_kernel.specs.Facts.{trail_of, fact_of}
-use Rattle.sd_kernel.proofs.Tables.{drop-at}
+use Rattle.std.proofs.lemmas.List.{drop_more}
 use Rattle.sd_arith.specs.Places.{place_from, place_in, HasPlaces, IsPlace}
 use Rattle.sd_arith.proofs.Knowing.{known-fact}
 
@@ -64,7 +64,7 @@ pub places-next : (terms : List Tree) (trail : List NumberedFact) (k n : ℕ) (f
     → HasPlaces terms (k + 1) (trail_of terms (drop (k + 1) trail)) ps → n < length terms → IsFirst terms n → tree_at terms n ≡ tree_at terms f.term → new ≡ set ps n (Some k)
     → HasPlaces terms k (trail_of terms (drop k trail)) new
 places-next terms trail k n f ps new lt at h b first e is =
-    subst (λ (fs : List NumberedFact). HasPlaces terms k (trail_of terms fs) new) (sym (drop-at trail k f lt ∙ ap (λ g. g ∷ drop (k + 1) trail) (sym at)))
+    subst (λ (fs : List NumberedFact). HasPlaces terms k (trail_of terms fs) new) (sym (drop_more trail k f lt ∙ ap (λ g. g ∷ drop (k + 1) trail) (sym at)))
     (places-step terms k n (fact_of terms f) (trail_of terms (drop (k + 1) trail)) ps new
     (subst (λ (m : ℕ). HasPlaces terms m (trail_of terms (drop (k + 1) trail)) ps) (add-one k) h) b first e is)
 

@@ -19,7 +19,7 @@ use Rattle.sd_kernel.specs.declared.step.RowLine.{RowLine}
 use Rattle.sd_kernel.specs.declared.step.RowLine.TheVariants.{Fact as FactLine}
 use Rattle.sd_kernel.specs.declared.step.StepCause.TheVariants.{Row as RowCause, Wide}
 use Rattle.sd_kernel.specs.Known.{Trail}
-use Rattle.sd_kernel.specs.Steps.{Outcome, bad, leaves, Made, made, wrong, named_row, is_multiplier, row_of_line, refuted_by}
+use Rattle.sd_kernel.specs.Steps.{bad, leaves, Made, made, wrong, named_row, is_multiplier, row_of_line, if_within, gives_row, refuted_by}
 use Rattle.sd_arith.specs.Lines.{Gives, AllGive, line_of, HasInput}
 
 row-there : (rs : List Row) (i : ℕ) → i < length rs → slice_get rs i ≡ Some (slice_index_or rs i nothing)
@@ -65,16 +65,16 @@ module _ (terms : List Tree) (trail : Trail) where
 
     -- a row within the bounds, and then the lines that are left
     line-kept : (i : ℕ) (before : List Row) (s : RowStep) (ls : List RowLine) → IsStep inputs before s → is_within (row_made inputs before s) ≡ true
-        → elim (row_of_line terms trail before (line_of lines s)) as (λ _. Outcome) [ wrong c ↦ bad i c | made r ↦ (if is_within r then refuted_by terms trail (suc i) (before ++ r ∷ []) ls else bad i Wide) ]
+        → gives_row i (row_of_line terms trail before (line_of lines s)) (λ r. if_within i r (refuted_by terms trail (suc i) (before ++ r ∷ []) ls))
         ≡ refuted_by terms trail (suc i) (before ++ row_made inputs before s ∷ []) ls
     line-kept i before s ls h w =
-        ap (λ (m : Made). elim m as (λ _. Outcome) [ wrong c ↦ bad i c | made r ↦ (if is_within r then refuted_by terms trail (suc i) (before ++ r ∷ []) ls else bad i Wide) ]) (line-gives before s h)
+        ap (λ (m : Made). gives_row i m (λ r. if_within i r (refuted_by terms trail (suc i) (before ++ r ∷ []) ls))) (line-gives before s h)
         ∙ ap (λ (b : Bool). if b then refuted_by terms trail (suc i) (before ++ row_made inputs before s ∷ []) ls else bad i Wide) w
 
     line-last : (i : ℕ) (before : List Row) (s : RowStep) → IsStep inputs before s → is_within (row_made inputs before s) ≡ true → IsAbsurd (row_made inputs before s)
         → refuted_by terms trail i before (line_of lines s ∷ []) ≡ leaves terms []
     line-last i before s h w a =
-        ap (λ (m : Made). elim m as (λ _. Outcome) [ wrong c ↦ bad i c | made r ↦ (if is_absurd r then (if is_within r then leaves terms [] else bad i Wide) else bad i RowCause) ]) (line-gives before s h)
+        ap (λ (m : Made). gives_row i m (λ r. if is_absurd r then if_within i r (leaves terms []) else bad i RowCause)) (line-gives before s h)
         ∙ (λ j. if is_absurd-yes (row_made inputs before s) a j then (if w j then leaves terms [] else bad i Wide) else bad i RowCause)
 
     lines-refute : (i : ℕ) (before : List Row) (s : RowStep) (ss : List RowStep) → AreSteps inputs before (s ∷ ss) → AllWithin (made_from inputs before (s ∷ ss))

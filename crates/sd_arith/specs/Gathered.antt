@@ -24,8 +24,10 @@ rows_of_terms terms trail ts = flat_map (λ t. rows_if terms t (known trail t)) 
 -- one row more, which the line gives
 abbrev pub Adds : RowLine → Row → Gathered → Gathered → Type 0
 Adds line row old new =
-    (terms : List Tree) (trail : Trail) (rows : List Row) → Gives terms trail line row → IsProper row.parts → IsGathered terms trail rows old → IsGathered terms trail (rows ++ row ∷ []) new
+    (terms : List Tree) (trail : Trail) (rows : List Row) → Gives terms trail line row → IsProper row.parts
+    → IsGathered terms trail rows old → IsGathered terms trail (rows ++ row ∷ []) new
 
 -- the rows of one term more
 abbrev pub AddsRows : List Tree → Trail → Tree → Bool → Gathered → Gathered → Type 0
-AddsRows terms trail t value old new = (rows : List Row) → IsGathered terms trail rows old → IsGathered terms trail (rows ++ rows_of terms t value) new
+AddsRows terms trail t value old new =
+    (rows : List Row) → IsGathered terms trail rows old → IsGathered terms trail (rows ++ rows_of terms t value) new

@@ -51,7 +51,8 @@ fn order_row(
     requires sorted { IsWellSorted (tree_at terms.now id) }
     requires order { is_le (tree_at terms.now id) ≡ true }
     requires forms { forms.now ≡ map (form_of terms.now) terms.now }
-    ensures row { IfOk result (λ r. r ≡ (if value then below_row terms.now (tree_at terms.now id) else above_row terms.now (tree_at terms.now id))) }
+    ensures row { IfOk result (λ r. r
+        ≡ (if value then below_row terms.now (tree_at terms.now id) else above_row terms.now (tree_at terms.now id))) }
     ensures proper { IfOk result (λ r. IsProper r.parts) }
 {
     if value {
@@ -74,7 +75,8 @@ fn add_rows(
     requires id { id < length terms.now }
     requires sorted { IsWellSorted (tree_at terms.now id) }
     requires forms { forms.now ≡ map (form_of terms.now) terms.now }
-    ensures { OnOk result ((trail : Trail) → IsPlace trail (tree_at terms.now id) value place → AddsRows terms.now trail (tree_at terms.now id) value gathered.old gathered.new) }
+    ensures { OnOk result ((trail : Trail) → IsPlace trail (tree_at terms.now id) value place
+        → AddsRows terms.now trail (tree_at terms.now id) value gathered.old gathered.new) }
 {
     if is_le(terms, id) {
         let row = order_row(alloc, terms, forms, id, value)?;
@@ -104,7 +106,8 @@ fn add_term(
     requires sorted { IsWellSorted (tree_at terms.now id) }
     requires forms { forms.now ≡ map (form_of terms.now) terms.now }
     requires places { length places.now ≡ length terms.now }
-    ensures { OnOk result ((trail : Trail) → HasPlaces terms.now 0 trail places.now → known trail (tree_at terms.now id) ≡ Some value → AddsRows terms.now trail (tree_at terms.now id) value gathered.old gathered.new) }
+    ensures { OnOk result ((trail : Trail) → HasPlaces terms.now 0 trail places.now → known trail (tree_at terms.now id)
+        ≡ Some value → AddsRows terms.now trail (tree_at terms.now id) value gathered.old gathered.new) }
 {
     match places[terms.first(id).number() as usize] {
         Some(place) => add_rows(alloc, terms, forms, id, value, place, gathered),
@@ -123,7 +126,8 @@ pub(crate) fn gather(
     requires sorted { AllWellSorted terms.now }
     requires values { values.now ≡ map (λ t. known (trail_of terms.now trail.now) t) terms.now }
     requires short { length trail.now < 2 ^ 32 }
-    ensures { IfOk result (λ g. IsGathered terms.now (trail_of terms.now trail.now) (rows_of_terms terms.now (trail_of terms.now trail.now) terms.now) g) }
+    ensures { IfOk result (λ g. IsGathered terms.now (trail_of terms.now trail.now)
+        (rows_of_terms terms.now (trail_of terms.now trail.now) terms.now) g) }
 {
     let forms = forms_of(alloc, terms)?;
     let places = first_places(alloc, terms, trail)?;

@@ -29,7 +29,8 @@ pub fn refuting_rows(
     requires closed { IsClosed terms.now }
     requires values { values.now ≡ map (λ t. known (trail_of terms.now trail.now) t) terms.now }
     requires short { length trail.now < 2 ^ 32 }
-    ensures some { IfOk result (λ r. IfSome r (λ lines. ClosesBranch terms.now (trail_of terms.now trail.now) (Step.Rows lines ∷ []))) }
+    ensures some { IfOk result (λ r. IfSome r (λ lines. ClosesBranch terms.now (trail_of terms.now trail.now)
+        (Step.Rows lines ∷ []))) }
     ensures none { IfOk result (λ r. IfNone r (eliminated_branch terms.now (trail_of terms.now trail.now) ≢ refuted)) }
 {
     let gathered = gather(alloc, terms, trail, values)?;

@@ -7,7 +7,8 @@ use Rattle.sd_term.specs.Sorts.{IsWellSorted}
 use Rattle.sd_rows.specs.declared.row.Row.{Row}
 use Rattle.sd_arith.specs.Gathered.{IsGathered, AddsRows, rows_of_terms}
 use Rattle.sd_arith.specs.Places.{HasPlaces}
-use Rattle.sd_arith.proofs.Giving.{sorted-at, value-at, gathered-more, gathered-same}
+use Rattle.sd_kernel.proofs.Lookups.{sorted-at, known_at-is}
+use Rattle.sd_arith.proofs.Giving.{gathered-more, gathered-same}
 use Rattle.sd_arith.proofs.gather.gather.Goals as goal
 use Rattle.sd_arith.proofs.gather.gather.Goals.{in-Some+in_ok-add_term, in_default}
 
@@ -17,7 +18,7 @@ none (Some b) n = absurd (n b refl)
 
 pub add_term-requires-clause-sorted : goal.add_term-requires-clause-sorted
 add_term-requires-clause-sorted c =
-    subst (λ (n : ℕ). IsWellSorted (tree_at c.args.terms.now n)) (sym c.new-id.ensures) (sorted-at c.args.terms.now c.loop-n.n (omega arith) c.requires.sorted)
+    subst (λ (n : ℕ). IsWellSorted (tree_at c.args.terms.now n)) (sym c.new-id.ensures) (sorted-at c.args.terms.now c.loop-n.n c.requires.sorted (omega arith))
 
 pub loop-n-preserved : goal.loop-n-preserved
 loop-n-preserved c =
@@ -25,7 +26,7 @@ loop-n-preserved c =
     let trail : Trail = trail_of terms c.args.trail.now in
     let n : ℕ = c.loop-n.n in
     let rows : List Row = rows_of_terms terms trail (take n terms) in
-    let known_at = value-at terms trail c.args.values.now n c.requires.values (omega arith) in
+    let known_at = sym (known_at-is trail terms c.args.values.now n c.requires.values (omega arith)) in
     elim c.match-values-n.branch [
       | in-Some+in_ok-add_term w ↦
           let places = subst (HasPlaces terms 0 trail) (sym w.as_slice-in-Some.ensures) c.in_ok-places.ensures in
