@@ -33,7 +33,9 @@ abbrev mutual
   BecomesStmt r (Assign ps es) (Assign qs fs) =
       AllZip (BecomesSpot r.globals) ps qs × AllZip (BecomesExpr r.globals) es fs
   BecomesStmt r (If' c n a m b) (If' d k x l y) =
-      BecomesExpr r.globals c d × BecomeStmts r a (items-the_row-CoreStmt _ x) × BecomeStmts r b (items-the_row-CoreStmt _ y)
+      BecomesExpr r.globals c d
+      × BecomeStmts r a (items-the_row-CoreStmt _ x)
+      × BecomeStmts r b (items-the_row-CoreStmt _ y)
   BecomesStmt r (Call ps q es) (Call qs p fs) =
       AllZip (BecomesSpot r.globals) ps qs × (partner_in r.procs q ≡ Some p) × AllZip (BecomesExpr r.globals) es fs
   BecomesStmt r (Assume c) (Assume d) = BecomesExpr r.globals c d

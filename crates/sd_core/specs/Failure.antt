@@ -9,7 +9,8 @@ use Rattle.sd_core.specs.declared.tree.CoreProgram.{CoreProgram}
 use Rattle.sd_core.specs.declared.tree.Shared.{Shared}
 use Rattle.sd_core.specs.Run.{nothing, Ended, flag_run}
 use Rattle.sd_core.specs.Interpretation.{core_interpretation}
-use Rattle.sd_core.specs.Formed.{sorts_of, same_sort}
+use Rattle.sd_base.specs.Sorts.{same_sort}
+use Rattle.sd_core.specs.Formed.{sorts_of}
 use Rattle.sd_core.specs.Meanings.{HaveSorts, IsMeaningOf}
 
 -- ---- shared globals
@@ -41,9 +42,11 @@ pub record IsInputOf (P : CoreProgram) (p : CoreProc) (ins globals : List Value)
 -- The in-parameters are equal by position, and so are the shared globals.
 pub record AreEqualInputs (P Q : CoreProgram) (ins globals ins' globals' : List Value) : Type 0 where
   pub same_ins : ins ≡ ins'
-  pub same_globals : AllByRecursion (λ s. get_or globals s.old nothing ≡ get_or globals' s.new nothing) (shared_of P.globals Q.globals)
+  pub same_globals : AllByRecursion (λ s. get_or globals s.old nothing ≡ get_or globals' s.new nothing)
+      (shared_of P.globals Q.globals)
 
--- From equal inputs procedure i of the old program ends with its flag down, and procedure j of the new one with its flag up.
+-- From equal inputs procedure i of the old program ends with its flag down, and procedure j of the new one with its
+-- flag up.
 pub record NewFailureOf (P Q : CoreProgram) (i j : ℕ) : Type 0 where
   pub M : Meaning
   pub old_meaning : IsMeaningOf P M

@@ -7,6 +7,7 @@ use Rattle.sd_base.specs.declared.sort.Sort.{Sort, Int, Bool as BoolSort, Named}
 use Rattle.sd_base.specs.declared.sort.Var.{Var}
 use Rattle.sd_base.specs.Value.{Text, same_text}
 use Rattle.sd_base.specs.Sorts.{MapOf}
+pub use Rattle.sd_base.specs.Sorts.{IsIndexSort, IsSort, same_sort}
 use Rattle.sd_core.specs.declared.tree.Spot.{Spot}
 use Rattle.sd_core.specs.declared.tree.Spot.TheVariants.{Slot, Global}
 use Rattle.sd_core.specs.declared.tree.CoreOp.{CoreOp}
@@ -26,7 +27,10 @@ sorts_of = map (λ x. x.sort)
 
 -- the types of a procedure's slots and of the globals
 abbrev pub state_sorts : CoreProgram → CoreProc → Store Sort
-state_sorts P p = record { slots = sorts_of p.ins ++ (sorts_of p.outs ++ sorts_of p.locals); globals = sorts_of P.globals }
+state_sorts P p = record {
+  slots = sorts_of p.ins ++ (sorts_of p.outs ++ sorts_of p.locals);
+  globals = sorts_of P.globals;
+}
 
 abbrev pub no_state : Store Sort
 no_state = record { slots = []; globals = [] }
@@ -41,25 +45,6 @@ abbrev pub declared_as : (constant : Bool) → List Function → Text → Option
 declared_as constant [] f = None
 declared_as true (g ∷ gs) f = if g.constant && same_text f g.name then Some g else declared_as true gs f
 declared_as false (g ∷ gs) f = if not g.constant && same_text f g.name then Some g else declared_as false gs f
-
--- a type that maps may be indexed by
-abbrev pub IsIndexSort : Sort → Type 0
-IsIndexSort Int = Unit {0}
-IsIndexSort (Named t) = Unit {0}
-IsIndexSort _ = ⊥
-
--- each map type in it has such an index type
-abbrev pub IsSort : Sort → Type 0
-IsSort (MapOf i v) = IsIndexSort i × IsSort v
-IsSort _ = Unit {0}
-
--- whether two types are equal
-abbrev pub same_sort : Sort → Sort → Bool
-same_sort Int Int = true
-same_sort BoolSort BoolSort = true
-same_sort (Named t) (Named u) = same_text t u
-same_sort (MapOf i v) (MapOf j w) = same_sort i j && same_sort v w
-same_sort _ _ = false
 
 -- an operator takes parts of these types to a whole of that one
 abbrev pub Takes : CoreOp → List Sort → Sort → Type 0
@@ -82,7 +67,8 @@ abbrev mutual
   HasType F S (Literal b) s = s ≡ BoolSort
   HasType F S (At p) s = sort_at S p ≡ Some s
   HasType F S (Const c) s = (g : Function) × (declared_as true F c ≡ Some g) × (g.result ≡ s)
-  HasType F S (Apply' f n es) s = (g : Function) × (declared_as false F f ≡ Some g) × HaveTypes F S es g.args × (g.result ≡ s)
+  HasType F S (Apply' f n es) s =
+      (g : Function) × (declared_as false F f ≡ Some g) × HaveTypes F S es g.args × (g.result ≡ s)
   HasType F S (Op' o n es) s = (ss : List Sort) × HaveTypes F S es ss × Takes o ss s
 
   pub HaveTypes : List Function → Store Sort → {n : _} → Row_of-CoreExpr n → List Sort → Type 0
@@ -129,7 +115,9 @@ pub record IsCall (P : CoreProgram) (p : CoreProc) (spots : List Spot) (q : ℕ)
 
 abbrev mutual
   pub IsFormed : CoreProgram → CoreProc → CoreStmt → Type 0
-  IsFormed P p (Assign spots es) = (ss : List Sort) × AllHaveTypes P.functions (state_sorts P p) es ss × AreTargets (state_sorts P p) p.modifies spots ss
+  IsFormed P p (Assign spots es) =
+      (ss : List Sort) × AllHaveTypes P.functions (state_sorts P p) es ss
+      × AreTargets (state_sorts P p) p.modifies spots ss
   IsFormed P p (If' c n a m b) = HasType P.functions (state_sorts P p) c BoolSort × AreFormed P p a × AreFormed P p b
   IsFormed P p (Call spots q args) = IsCall P p spots q args
   IsFormed P p (Assume c) = HasType P.functions (state_sorts P p) c BoolSort
@@ -171,8 +159,8 @@ IsRoot p = IsDistinct same_text (filter is_plain (names_of (p.ins ++ (p.outs ++ 
 abbrev pub left : List Var
 left = record { name = codes "left"; sort = BoolSort } ∷ []
 
--- The procedure at place n is that of loop k of the procedure at place q. It gets the other's ins, outs, declared locals and copies,
--- and gives back the outs and declared locals, and maybe whether it left the other.
+-- The procedure at place n is that of loop k of the procedure at place q. It gets the other's ins, outs, declared locals
+-- and copies, and gives back the outs and declared locals, and maybe whether it left the other.
 pub record IsLoop (P : CoreProgram) (n q k : ℕ) (loop : CoreProc) : Type 0 where
   pub root : CoreProc
   pub found : slice_get P.procs q ≡ Some root

@@ -66,8 +66,10 @@ Calls = ℕ → (ins globals : List Value) → End
 
 -- after a call: the callee's globals are taken over, then its outs are stored, and a raised flag ends the caller too
 abbrev pub receive : Store Value → List Spot → End → Step
-receive st spots (Ended outs globals true) = Stops (write_all (record { slots = st.slots; globals = globals }) spots outs) true
-receive st spots (Ended outs globals false) = Goes (write_all (record { slots = st.slots; globals = globals }) spots outs)
+receive st spots (Ended outs globals true) =
+    Stops (write_all (record { slots = st.slots; globals = globals }) spots outs) true
+receive st spots (Ended outs globals false) =
+    Goes (write_all (record { slots = st.slots; globals = globals }) spots outs)
 receive st spots Blocked = Blocks
 receive st spots Unfinished = Lacks
 
@@ -96,7 +98,10 @@ run_all I calls (s ∷ ss) st = then_run (run I calls s st) (run_all I calls ss)
 
 -- the state at the entry of a procedure: outs and locals have the starting values of their types
 abbrev pub enter : {A : Type 0} → (Sort → A) → CoreProc → (ins globals : List A) → Store A
-enter start p ins globals = record { slots = ins ++ (map (λ v. start v.sort) p.outs ++ map (λ v. start v.sort) p.locals); globals = globals }
+enter start p ins globals = record {
+  slots = ins ++ (map (λ v. start v.sort) p.outs ++ map (λ v. start v.sort) p.locals);
+  globals = globals;
+}
 
 -- slots from one on, one for each of some things
 abbrev pub slots_from : {A : Type 0} → ℕ → List A → List Spot

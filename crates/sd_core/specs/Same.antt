@@ -89,7 +89,8 @@ abbrev mutual
 
 -- the procedures of loops have variables of the same names too
 abbrev pub SameNames : CoreProc → CoreProc → Type 0
-SameNames a b = (names_of a.ins ≡ names_of b.ins) × (names_of a.outs ≡ names_of b.outs) × (names_of a.locals ≡ names_of b.locals)
+SameNames a b =
+    (names_of a.ins ≡ names_of b.ins) × (names_of a.outs ≡ names_of b.outs) × (names_of a.locals ≡ names_of b.locals)
 
 -- `a` becomes `b` when its numbers are replaced. Names of procedures and their parents aren't compared.
 pub record IsSameBody (r : Partners) (a b : CoreProc) : Type 0 where

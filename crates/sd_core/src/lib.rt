@@ -1,5 +1,5 @@
-//! The core language: what the programs of both versions are turned into. It has procedures, calls and branches, and neither
-//! loops nor contracts. A failed assertion raises a flag (Lahiri and others 2012).
+//! The core language: what the programs of both versions are turned into. It has procedures, calls and branches, and
+//! neither loops nor contracts. A failed assertion raises a flag.
 #![tactic(auto)]
 
 mod same;

@@ -8,9 +8,9 @@ ghost use Rattle.sd_core.specs.Becomes.{BecomesSpot, BecomesExpr, BecomesStmt};
 use crate::tree::{CoreExpr, CoreProc, CoreStmt, Spot};
 use sd_base::{Var, is_same_sort};
 
-/// Whether the body of `a` is that of `b` once its numbers are replaced, where the lists have the partner of each procedure and
-/// of each global, in their order. A number beyond a list has no partner. The procedures of loops have variables of the same
-/// names too. Names of procedures aren't compared.
+/// Whether the body of `a` is that of `b` once its numbers are replaced, where the lists have the partner of each
+/// procedure and of each global, in their order. A number beyond a list has no partner. The procedures of loops have
+/// variables of the same names too. Names of procedures aren't compared.
 pub fn same_body(a: &CoreProc, b: &CoreProc, procs: &[Option<u32>], globals: &[Option<u32>]) -> bool
     ensures { IsTrue result ↔ IsSameBody (record { procs = procs.now; globals = globals.now }) a.now b.now }
 {
@@ -21,7 +21,12 @@ pub fn same_body(a: &CoreProc, b: &CoreProc, procs: &[Option<u32>], globals: &[O
 // ---- variables
 
 fn have_same_variables(a: &CoreProc, b: &CoreProc) -> bool
-    ensures { IsTrue result ↔ ((sorts_of a.now.ins ≡ sorts_of b.now.ins) × (sorts_of a.now.outs ≡ sorts_of b.now.outs) × (sorts_of a.now.locals ≡ sorts_of b.now.locals) × (((a.now.parent ≡ None) × (b.now.parent ≡ None)) ⊎ SameNames a.now b.now)) }
+    ensures {
+        IsTrue result ↔ ((sorts_of a.now.ins ≡ sorts_of b.now.ins)
+            × (sorts_of a.now.outs ≡ sorts_of b.now.outs)
+            × (sorts_of a.now.locals ≡ sorts_of b.now.locals)
+            × (((a.now.parent ≡ None) × (b.now.parent ≡ None)) ⊎ SameNames a.now b.now))
+    }
 {
     have_same_sorts(a.ins.as_slice(), b.ins.as_slice())
         && have_same_sorts(a.outs.as_slice(), b.outs.as_slice())
