@@ -1,7 +1,7 @@
 //! The program: `run` on the words of the command line, the file system and the standard output.
 #![tactic(auto)]
 
-ghost use Rattle.std.specs.Prelude.{◌≡◌, ◌×◌, [], ◌∷◌, Err, Contains};
+ghost use Rattle.std.specs.Prelude.{◌≡◌, Err};
 
 mod real;
 
@@ -55,7 +55,6 @@ fn status_of<R: Threads + Sync, F: Files, S: Sink>(
     files: &mut F,
     out: &mut S,
 ) -> u8
-    ensures known { Contains (0 ∷ 1 ∷ 2 ∷ 3 ∷ 4 ∷ 5 ∷ 6 ∷ 7 ∷ 8 ∷ 9 ∷ []) result }
     ensures memory { words ≡ Err NoWords.Memory → (result ≡ 8) × (S.written out.new ≡ S.written out.old) }
 {
     let words = match words {
