@@ -8,6 +8,7 @@ use Rattle.sd_base.specs.Value.{Text, same_text, Value, Number, Truth, Element, 
 use Rattle.sd_base.specs.Sorts.{MapOf, HasSort, IsIndexOf}
 use Rattle.sd_base.specs.Meaning.{Meaning, Interpretation, interpretation, same_values, result_at, index_of}
 use Rattle.sd_base.proofs.MapLemmas.{write_keeps, read_keeps}
+use Rattle.sd_base.proofs.SortLemmas.{index_of-sorted}
 use Rattle.sd_core.specs.declared.Spot.{Spot}
 use Rattle.sd_core.specs.declared.Spot.TheVariants.{Slot, Global}
 use Rattle.sd_core.specs.declared.CoreOp.{CoreOp}
@@ -123,17 +124,6 @@ by_three : (vs : List Value) (a b c : Sort) (Q : List Value → Type 0) → Have
 by_three [] a b c Q h f = absurd h
 by_three (x ∷ vs) a b c Q h f = by_two vs b c (λ ws. Q (x ∷ ws)) h.1 (λ y z k l. f x y z h.0 k l)
 
-pub index_fits : (i : Sort) (x : Value) → IsIndexSort i → HasSort i x → IsIndexOf i (index_of x)
-index_fits Int (Number a) k h = tt
-index_fits Int (Truth b) k h = absurd h
-index_fits Int (Element t n) k h = absurd h
-index_fits Int (Map d es) k h = absurd h
-index_fits (Named t) (Number a) k h = absurd h
-index_fits (Named t) (Truth b) k h = absurd h
-index_fits (Named t) (Element u n) k h = h
-index_fits (Named t) (Map d es) k h = absurd h
-index_fits _ x k h = absurd k
-
 as_truth : (s : Sort) (b : Bool) → s ≡ BoolSort → HasSort s (Truth b)
 as_truth s b e = subst (λ (t : Sort). HasSort t (Truth b)) (sym e) tt
 
@@ -141,11 +131,6 @@ as_number : (s : Sort) (n : _) → s ≡ Int → HasSort s (Number n)
 as_number s n e = subst (λ (t : Sort). HasSort t (Number n)) (sym e) tt
 
 pub operator_fits : (o : CoreOp) (vs : List Value) (ss : List Sort) (s : Sort) → HaveSorts ss vs → Takes o ss s → HasSort s (apply o vs)
-operator_fits op.Not vs ss s h t = as_truth s _ t.1
-operator_fits op.And vs ss s h t = as_truth s _ t.1
-operator_fits op.Or vs ss s h t = as_truth s _ t.1
-operator_fits op.Eq vs ss s h t = as_truth s _ t.1
-operator_fits op.Le vs ss s h t = as_truth s _ t.1
 operator_fits op.Add vs ss s h t = as_number s _ t.1
 operator_fits op.Sub vs ss s h t = as_number s _ t.1
 operator_fits op.Mul vs ss s h t = as_number s _ t.1
@@ -153,7 +138,8 @@ operator_fits op.Neg vs ss s h t = as_number s _ t.1
 operator_fits op.Read vs ss s h t =
     by_two vs (MapOf t.0 s) t.0 (λ ws. HasSort s (apply op.Read ws)) (subst (λ (rs : List Sort). HaveSorts rs vs) t.1 h) (λ x y p q. read_keeps t.0 s x (index_of y) p)
 operator_fits op.Write vs ss s h t =
-    by_three vs (MapOf t.0 t.1) t.0 t.1 (λ ws. HasSort s (apply op.Write ws)) (subst (λ (rs : List Sort). HaveSorts rs vs) t.3 h) (λ x y z p q r. subst (λ (u : Sort). HasSort u (apply op.Write (x ∷ y ∷ z ∷ []))) (sym t.4) (write_keeps t.0 t.1 x (index_of y) z p (index_fits t.0 y t.2 q) r))
+    by_three vs (MapOf t.0 t.1) t.0 t.1 (λ ws. HasSort s (apply op.Write ws)) (subst (λ (rs : List Sort). HaveSorts rs vs) t.3 h) (λ x y z p q r. subst (λ (u : Sort). HasSort u (apply op.Write (x ∷ y ∷ z ∷ []))) (sym t.4) (write_keeps t.0 t.1 x (index_of y) z p (index_of-sorted t.0 y t.2 q) r))
+operator_fits _ vs ss s h t = as_truth s _ t.1
 
 -- ---- expressions
 

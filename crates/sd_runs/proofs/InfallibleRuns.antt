@@ -2,8 +2,10 @@
 use Rattle.std.proofs.Common.{◌≡◌, ℕ, zero, suc, List, [], ◌∷◌, ◌++◌, Option, Some, None, refl, sym, ◌∙◌}
 use Rattle.std.specs.Prelude.{Bool, true, false, ◌||◌, map, slice_get, if◌then◌else◌}
 use Rattle.std.specs.List.{AllByRecursion}
+use Rattle.std.proofs.lemmas.Bool.{or_parts}
 use Rattle.sd_base.specs.Value.{Value}
 use Rattle.sd_base.specs.Meaning.{Interpretation, truth_of}
+use Rattle.sd_base.proofs.Lists.{all-front, all-back}
 use Rattle.sd_core.specs.declared.Spot.{Spot}
 use Rattle.sd_core.specs.declared.CoreStmt.{CoreStmt, Assign, If', Call, Assume, Fail, Return, Row_of-CoreStmt, end_of-CoreStmt, more_of-CoreStmt}
 use Rattle.sd_core.specs.declared.CoreProc.{CoreProc}
@@ -12,20 +14,6 @@ use Rattle.sd_core.specs.Run.{value_in, End, Ended, Blocked, Unfinished, Step, G
 use Rattle.sd_runs.specs.Calls.{callees, row_callees, callees_of, has_fail, row_has_fail, any_fail}
 use Rattle.sd_runs.specs.Infallible.{IsInfallibleBody}
 use Rattle.sd_runs.specs.Laws.{InfallibleRuns}
-
--- ---- lists
-
-pub all_front : {A : Type 0} (P : A → Type 0) (xs ys : List A) → AllByRecursion P (xs ++ ys) → AllByRecursion P xs
-all_front P [] ys a = tt
-all_front P (x ∷ xs) ys a = (a.0, all_front P xs ys a.1)
-
-pub all_back : {A : Type 0} (P : A → Type 0) (xs ys : List A) → AllByRecursion P (xs ++ ys) → AllByRecursion P ys
-all_back P [] ys a = a
-all_back P (x ∷ xs) ys a = all_back P xs ys a.1
-
-neither : (p q : Bool) → (p || q) ≡ false → (p ≡ false) × (q ≡ false)
-neither true q h = absurd (cc)
-neither false q h = (refl, h)
 
 -- ---- runs
 
@@ -60,10 +48,10 @@ module _ (I : Interpretation) (calls : Calls) (infallible : ℕ → Bool) (flags
     run_infallible : (s : CoreStmt) → has_fail s ≡ false → AllByRecursion (λ q. infallible q ≡ true) (callees s) → (st : Store Value) → StepInfallible (run I calls s st)
     run_infallible (Assign spots es) f h st = tt
     run_infallible (If' c n a m b) f h st =
-        let fs = neither (row_has_fail a) (row_has_fail b) f in
+        let fs = or_parts (row_has_fail a) (row_has_fail b) f in
         if_infallible (truth_of (value_in I st c)) _ _
-        (run_row_infallible a fs.0 (all_front (λ q. infallible q ≡ true) (row_callees a) (row_callees b) h) st)
-        (run_row_infallible b fs.1 (all_back (λ q. infallible q ≡ true) (row_callees a) (row_callees b) h) st)
+        (run_row_infallible a fs.0 (all-front (λ q. infallible q ≡ true) (row_callees a) (row_callees b) h) st)
+        (run_row_infallible b fs.1 (all-back (λ q. infallible q ≡ true) (row_callees a) (row_callees b) h) st)
     run_infallible (Call spots q args) f h st = received_infallible q (map (value_in I st) args) st spots h.0 _ refl
     run_infallible (Assume c) f h st = if_infallible (truth_of (value_in I st c)) (Goes st) Blocks tt tt
     run_infallible Fail f h st = absurd (cc)
@@ -72,17 +60,17 @@ module _ (I : Interpretation) (calls : Calls) (infallible : ℕ → Bool) (flags
     run_row_infallible : {n : _} (ss : Row_of-CoreStmt n) → row_has_fail ss ≡ false → AllByRecursion (λ q. infallible q ≡ true) (row_callees ss) → (st : Store Value) → StepInfallible (run_row I calls ss st)
     run_row_infallible end_of-CoreStmt f h st = tt
     run_row_infallible (more_of-CoreStmt s ss) f h st =
-        let fs = neither (has_fail s) (row_has_fail ss) f in
-        let here = all_front (λ q. infallible q ≡ true) (callees s) (row_callees ss) h in
-        let rest = all_back (λ q. infallible q ≡ true) (callees s) (row_callees ss) h in
+        let fs = or_parts (has_fail s) (row_has_fail ss) f in
+        let here = all-front (λ q. infallible q ≡ true) (callees s) (row_callees ss) h in
+        let rest = all-back (λ q. infallible q ≡ true) (callees s) (row_callees ss) h in
         then_infallible (run I calls s st) (run_row I calls ss) (run_infallible s fs.0 here st) (λ st1. run_row_infallible ss fs.1 rest st1)
 
   run_all_infallible : (ss : List CoreStmt) → any_fail ss ≡ false → AllByRecursion (λ q. infallible q ≡ true) (callees_of ss) → (st : Store Value) → StepInfallible (run_all I calls ss st)
   run_all_infallible [] f h st = tt
   run_all_infallible (s ∷ ss) f h st =
-      let fs = neither (has_fail s) (any_fail ss) f in
-      let here = all_front (λ q. infallible q ≡ true) (callees s) (callees_of ss) h in
-      let rest = all_back (λ q. infallible q ≡ true) (callees s) (callees_of ss) h in
+      let fs = or_parts (has_fail s) (any_fail ss) f in
+      let here = all-front (λ q. infallible q ≡ true) (callees s) (callees_of ss) h in
+      let rest = all-back (λ q. infallible q ≡ true) (callees s) (callees_of ss) h in
       then_infallible (run I calls s st) (run_all I calls ss) (run_infallible s fs.0 here st) (λ st1. run_all_infallible ss fs.1 rest st1)
 
 infallible_end : (p : CoreProc) (x : Step) (outs after : List Value) (flag : Bool) → StepInfallible x → end_of p x ≡ Ended outs after flag → flag ≡ false

@@ -4,7 +4,7 @@ use Rattle.std.specs.Prelude.{Bool, true, false, not, ◌&&◌, set, Some, slice
 use Rattle.std.specs.List.{AllByRecursion, list_all}
 use Rattle.std.proofs.lemmas.List.{length-set, length-replicate, get_or-set_same, get_or-set_other, get_or-replicate, get_or_read}
 use Rattle.std.proofs.lemmas.List.Elements.{Contains-append_left, Contains-push, Contains-push_cases}
-use Rattle.std.proofs.lemmas.Bool.{cases_eq, ltb-true, lt-ltb}
+use Rattle.std.proofs.lemmas.Bool.{cases_eq, ltb-true, lt-ltb, and_from, not-true, and_parts}
 use Rattle.sd_core.specs.declared.CoreProc.{CoreProc}
 use Rattle.sd_runs.specs.Calls.{callees_of, any_fail}
 use Rattle.sd_runs.specs.Infallible.{IsInfallibleBody, IsInfallibleSet, AreIn, AreTheInfallible, entry_at}
@@ -153,22 +153,10 @@ moves_all (r ∷ rs) m = moves_then r rs m (marked r m) (all_marked rs (marked r
 
 -- ---- what bodies tell
 
-both : (p q : Bool) → (p && q) ≡ true → (p ≡ true) × (q ≡ true)
-both true q h = (refl, h)
-both false q h = absurd (cc)
-
-together : (p q : Bool) → p ≡ true → q ≡ true → (p && q) ≡ true
-together true q h k = k
-together false q h k = h
-
-denied : (b : Bool) → not b ≡ true → b ≡ false
-denied true h = absurd (cc)
-denied false h = refl
-
 each_below : (n : ℕ) (cs : List ℕ) → list_all (λ q. nat_lt q n) cs ≡ true → (q : ℕ) → Contains cs q → q < n
 each_below n [] h q c = contains_none q c
 each_below n (d ∷ cs) h q c =
-    let hs = both (nat_lt d n) (list_all (λ q. nat_lt q n) cs) h in
+    let hs = and_parts (nat_lt d n) (list_all (λ q. nat_lt q n) cs) h in
     ⊎_elim
     (λ (s : d ≡ q). subst (λ (j : ℕ). j < n) s (below d hs.0))
     (λ (k : Contains cs q). each_below n cs hs.1 q k)
@@ -179,19 +167,19 @@ each_below n (d ∷ cs) h q c =
 
 all_below : (n : ℕ) (infallible : ℕ → Bool) → ((q : ℕ) → infallible q ≡ true → q < n) → (cs : List ℕ) → AllByRecursion (λ q. infallible q ≡ true) cs → list_all (λ q. nat_lt q n) cs ≡ true
 all_below n infallible h [] a = refl
-all_below n infallible h (d ∷ cs) a = together (nat_lt d n) (list_all (λ q. nat_lt q n) cs) (below d (h d a.0)) (all_below n infallible h cs a.1)
+all_below n infallible h (d ∷ cs) a = and_from (nat_lt d n) (list_all (λ q. nat_lt q n) cs) (below d (h d a.0)) (all_below n infallible h cs a.1)
   where
     below : (d : ℕ) → d < n → nat_lt d n ≡ true
     below d e = lt-ltb d n e
 
 pub may-parts : (n : ℕ) (p : CoreProc) → may_be_infallible n p ≡ true → (any_fail p.body ≡ false) × ((q : ℕ) → Contains (callees_of p.body) q → q < n)
 may-parts n p h =
-    let hs = both (not (any_fail p.body)) (list_all (λ q. nat_lt q n) (callees_of p.body)) h in
-    (denied (any_fail p.body) hs.0, each_below n (callees_of p.body) hs.1)
+    let hs = and_parts (not (any_fail p.body)) (list_all (λ q. nat_lt q n) (callees_of p.body)) h in
+    (not-true (any_fail p.body) hs.0, each_below n (callees_of p.body) hs.1)
 
 pub infallible-may : (procs : List CoreProc) (infallible : ℕ → Bool) → AreIn procs infallible → (p : CoreProc) → IsInfallibleBody infallible p → may_be_infallible (length procs) p ≡ true
 infallible-may procs infallible h p b =
-    together (not (any_fail p.body)) (list_all (λ q. nat_lt q (length procs)) (callees_of p.body)) (ap not b.no_fail) (all_below (length procs) infallible h (callees_of p.body) b.callees)
+    and_from (not (any_fail p.body)) (list_all (λ q. nat_lt q (length procs)) (callees_of p.body)) (ap not b.no_fail) (all_below (length procs) infallible h (callees_of p.body) b.callees)
 
 -- ---- the first marks
 

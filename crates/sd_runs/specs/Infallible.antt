@@ -11,7 +11,8 @@ pub record IsInfallibleBody (infallible : ℕ → Bool) (p : CoreProc) : Type 0 
 
 -- a set of procedures with such bodies
 abbrev pub IsInfallibleSet : List CoreProc → (ℕ → Bool) → Type 0
-IsInfallibleSet procs infallible = (q : ℕ) (p : CoreProc) → infallible q ≡ true → slice_get procs q ≡ Some p → IsInfallibleBody infallible p
+IsInfallibleSet procs infallible =
+    (q : ℕ) (p : CoreProc) → infallible q ≡ true → slice_get procs q ≡ Some p → IsInfallibleBody infallible p
 
 -- a set of procedures: of places in the list
 abbrev pub AreIn : List CoreProc → (ℕ → Bool) → Type 0
@@ -21,7 +22,8 @@ AreIn procs infallible = (q : ℕ) → infallible q ≡ true → q < length proc
 pub record AreTheInfallible (procs : List CoreProc) (infallible : ℕ → Bool) : Type 0 where
   pub is_set : IsInfallibleSet procs infallible
   pub are_in : AreIn procs infallible
-  pub greatest : (other : ℕ → Bool) → IsInfallibleSet procs other → AreIn procs other → (q : ℕ) → other q ≡ true → infallible q ≡ true
+  pub greatest : (other : ℕ → Bool) → IsInfallibleSet procs other → AreIn procs other
+      → (q : ℕ) → other q ≡ true → infallible q ≡ true
 
 -- whether the entry of a procedure is set
 abbrev pub entry_at : List Bool → ℕ → Bool

@@ -21,4 +21,6 @@ pub record EndFits (P : CoreProgram) (p : CoreProc) (globals outs after : List V
 
 -- each call from values of the declared types ends so
 pub record KeepsCalls (P : CoreProgram) (calls : Calls) : Type 0 where
-  pub by : (q : ℕ) (p : CoreProc) (ins globals outs after : List Value) (flag : Bool) → slice_get P.procs q ≡ Some p → HaveSorts (sorts_of p.ins) ins → HaveSorts (sorts_of P.globals) globals → calls q ins globals ≡ Ended outs after flag → EndFits P p globals outs after
+  pub by : (q : ℕ) (p : CoreProc) (ins globals outs after : List Value) (flag : Bool) → slice_get P.procs q ≡ Some p
+      → HaveSorts (sorts_of p.ins) ins → HaveSorts (sorts_of P.globals) globals
+      → calls q ins globals ≡ Ended outs after flag → EndFits P p globals outs after

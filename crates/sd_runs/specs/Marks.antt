@@ -47,4 +47,5 @@ may_be_infallible count p = not (any_fail p.body) && list_all (λ q. nat_lt q co
 -- the places of the others, from place r on
 abbrev pub refuted_from : (count r : ℕ) → List CoreProc → List ℕ
 refuted_from count r [] = []
-refuted_from count r (p ∷ procs) = if may_be_infallible count p then refuted_from count (suc r) procs else r ∷ refuted_from count (suc r) procs
+refuted_from count r (p ∷ procs) =
+    if may_be_infallible count p then refuted_from count (suc r) procs else r ∷ refuted_from count (suc r) procs

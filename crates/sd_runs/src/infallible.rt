@@ -9,8 +9,8 @@ use sd_core::CoreProc;
 use sqlite_items::Items;
 use std::alloc::Global;
 
-/// Which procedures are infallible, by their places. A procedure with a failure of its own isn't, nor one that calls a place
-/// without procedure, nor the callers of those.
+/// Which procedures are infallible, by their places. A procedure with a failure of its own isn't, nor one that calls a
+/// place without procedure, nor the callers of those.
 pub fn infallible_procedures(alloc: Global, procs: &[CoreProc]) -> Result<Vec<bool>, NoMemory>
     ensures length { IfOk result (λ infallible. length infallible.items ≡ length procs.now) }
     ensures infallible { IfOk result (λ infallible. AreTheInfallible procs.now (entry_at infallible.items)) }
@@ -86,7 +86,8 @@ fn mark_first(
     infallible: &mut Vec<bool>,
     waiting: &mut Vec<usize>,
 ) -> Result<(), NoMemory>
-    ensures { OnOk result ((infallible.new.items, waiting.new.items) ≡ all_marked (refuted_from (length procs.now) 0 procs.now) (infallible.old.items, waiting.old.items)) }
+    ensures { OnOk result ((infallible.new.items, waiting.new.items)
+        ≡ all_marked (refuted_from (length procs.now) 0 procs.now) (infallible.old.items, waiting.old.items)) }
 {
     for (at, procedure) in procs.iter().enumerate() {
         if !may_be_infallible(alloc, procedure, procs.len())? {
@@ -98,7 +99,8 @@ fn mark_first(
 
 /// Marks a procedure, if it isn't marked, and lets its callers wait for it.
 fn mark(infallible: &mut Vec<bool>, waiting: &mut Vec<usize>, at: usize) -> Result<(), NoMemory>
-    ensures { OnOk result ((infallible.new.items, waiting.new.items) ≡ marked at (infallible.old.items, waiting.old.items)) }
+    ensures { OnOk result ((infallible.new.items, waiting.new.items)
+        ≡ marked at (infallible.old.items, waiting.old.items)) }
 {
     if let Some(entry) = infallible.get_mut(at) {
         if *entry {
@@ -114,7 +116,8 @@ fn mark_all(
     waiting: &mut Vec<usize>,
     places: &[usize],
 ) -> Result<(), NoMemory>
-    ensures { OnOk result ((infallible.new.items, waiting.new.items) ≡ all_marked places.now (infallible.old.items, waiting.old.items)) }
+    ensures { OnOk result ((infallible.new.items, waiting.new.items)
+        ≡ all_marked places.now (infallible.old.items, waiting.old.items)) }
 {
     for at in places {
         mark(infallible, waiting, *at)?;

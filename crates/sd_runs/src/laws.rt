@@ -1,7 +1,8 @@
 //! What runs keep.
 ghost use Rattle.sd_runs.specs.Laws.{RunsKeep, MoreCalls, InfallibleRuns};
 
-/// A run gives outs and globals of the declared types, and leaves the globals that its procedure doesn't modify as they were.
+/// A run gives outs and globals of the declared types, and leaves the globals that its procedure doesn't modify as they
+/// were.
 pub fn runs_keep()
     ensures { RunsKeep }
 {}
