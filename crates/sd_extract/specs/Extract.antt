@@ -55,7 +55,12 @@ abbrev pub none : Counts
 none = record { calls = 0; args = 0; lefts = 0; loops = 0 }
 
 abbrev pub plus : Counts → Counts → Counts
-plus a b = record { calls = a.calls + b.calls; args = a.args + b.args; lefts = a.lefts + b.lefts; loops = a.loops + b.loops }
+plus a b = record {
+  calls = a.calls + b.calls;
+  args = a.args + b.args;
+  lefts = a.lefts + b.lefts;
+  loops = a.loops + b.loops;
+}
 
 -- a loop, whose own statements take loops alone
 abbrev pub of_loop : Bool → Counts → Counts
@@ -132,7 +137,9 @@ on_args N p spots = record {
 abbrev pub call_of : Names → (Text → ℕ) → List Spot → List Text → Text → List Expr → Option Proc → List CoreStmt
 call_of N number spots xs f es None = []
 call_of N number spots xs f es (Some p) =
-    put spots (cores N es) ++ (map (check (on_args N p spots)) (requires_of p.specs) ++ (core.Call (map (spot_of N) xs) (number f) (map At spots) ∷ []))
+    put spots (cores N es)
+    ++ (map (check (on_args N p spots)) (requires_of p.specs)
+    ++ (core.Call (map (spot_of N) xs) (number f) (map At spots) ∷ []))
 
 -- a loop with this number. The spot `left`, where there is one, receives whether it returned.
 abbrev pub loop_call : Frame → ℕ → (left : List Spot) → CoreStmt
@@ -153,7 +160,9 @@ abbrev mutual
   extracted P number F at (Call xs f es) =
       call_of F.names number (slots_from at.args es) xs f es (procedure_in P.decls f)
   extracted P number F at (If' e shape a shape' b) =
-      core.If (core_of F.names e.kind) (all_extracted P number F at a) (all_extracted P number F (plus at (counts_all a)) b) ∷ []
+      core.If (core_of F.names e.kind)
+      (all_extracted P number F at a)
+      (all_extracted P number F (plus at (counts_all a)) b) ∷ []
   extracted P number F at (While' e invs shape body) =
       let left = if has_returns body then Slot at.lefts ∷ [] else [] in
       loop_call F at.loops left ∷ leave_if left F.leave
@@ -293,7 +302,10 @@ body_proc P number S = record {
   outs = S.routine.head.outs;
   locals = S.routine.body.locals ++ (copies_of S ++ hidden P none (kinds S));
   modifies = S.modifies;
-  body = put (body_frame S).copies (map (λ i. At (Global i)) S.modifies) ++ (map (assume (on_args (body_frame S).names S.routine.declared (body_frame S).ins)) (requires_of S.routine.declared.specs) ++ (each_extracted P number (body_frame S) (body_start S) (kinds S) ++ leave S));
+  body = put (body_frame S).copies (map (λ i. At (Global i)) S.modifies)
+      ++ (map (assume (on_args (body_frame S).names S.routine.declared (body_frame S).ins))
+      (requires_of S.routine.declared.specs)
+      ++ (each_extracted P number (body_frame S) (body_start S) (kinds S) ++ leave S));
 }
 
 -- a loop's slots: ins, the state and the copies as it gets them, its own state, `left` where it has one, hidden ones
@@ -321,12 +333,16 @@ loop_start S k returns turn =
 -- a turn, and the loop again
 abbrev pub turn_of : Program → (Text → ℕ) → Source → ℕ → Bool → List StmtKind → List CoreStmt
 turn_of P number S k returns turn =
-    each_extracted P number (loop_frame S) (loop_start S k returns turn) turn ++ (loop_call (loop_frame S) k (left_of S returns) ∷ [])
+    each_extracted P number (loop_frame S) (loop_start S k returns turn) turn
+    ++ (loop_call (loop_frame S) k (left_of S returns) ∷ [])
 
 abbrev pub loop_body : Program → (Text → ℕ) → Source → ℕ → Expr → List Clause → Bool → List StmtKind → List CoreStmt
 loop_body P number S k guard invs returns turn =
     let F = loop_frame S in
-    put F.state (map At (slots_from (length S.routine.head.ins) (state_of S))) ++ (put (left_of S returns) (map (λ p. Literal false) (left_of S returns)) ++ (map (check F.names) invs ++ (core.If (core_of F.names guard.kind) (turn_of P number S k returns turn) [] ∷ [])))
+    put F.state (map At (slots_from (length S.routine.head.ins) (state_of S)))
+    ++ (put (left_of S returns) (map (λ p. Literal false) (left_of S returns))
+    ++ (map (check F.names) invs
+    ++ (core.If (core_of F.names guard.kind) (turn_of P number S k returns turn) [] ∷ [])))
 
 abbrev pub loop_proc : Program → (Text → ℕ) → Source → ℕ → Expr → List Clause → Bool → List StmtKind → CoreProc
 loop_proc P number S k guard invs returns turn = record {
@@ -343,7 +359,8 @@ loop_proc P number S k guard invs returns turn = record {
 abbrev mutual
   pub loops_in : Program → (Text → ℕ) → Source → ℕ → StmtKind → List CoreProc
   loops_in P number S k (While' e invs shape body) =
-      loop_proc P number S k e (clauses_of invs) (has_returns body) (kinds_in body) ∷ all_loops_in P number S (suc k) body
+      loop_proc P number S k e (clauses_of invs) (has_returns body) (kinds_in body)
+      ∷ all_loops_in P number S (suc k) body
   loops_in P number S k (If' e shape a shape' b) =
       all_loops_in P number S k a ++ all_loops_in P number S (k + (counts_all a).loops) b
   loops_in P number S k _ = []

@@ -26,7 +26,10 @@ Keeps ms before after = (i : ℕ) → NotIn i ms → get_or after i nothing ≡ 
 
 -- An end of the source and an end of the core are the same.
 abbrev pub SameEnds : List Text → List ℕ → List Value → Outcome → End → Type 0
-SameEnds names ms at_start (Ended outs globals) e = (later : List Value) × (e ≡ CoreEnded outs later false) × (globals ≡ named names later) × (length later ≡ length at_start) × Keeps ms at_start later
+SameEnds names ms at_start (Ended outs globals) e =
+    (later : List Value) × (e ≡ CoreEnded outs later false) × (globals ≡ named names later)
+    × (length later ≡ length at_start)
+    × Keeps ms at_start later
 SameEnds names ms at_start Failed e = (outs : List Value) × (later : List Value) × (e ≡ CoreEnded outs later true)
 SameEnds names ms at_start Blocked e = e ≡ CoreBlocked
 SameEnds names ms at_start Unfinished e = e ≡ CoreUnfinished
@@ -37,7 +40,8 @@ pub record Exact (names : List Text) (r : Outcome) (e : End) : Type 0 where
   pub blocked : (r ≡ Blocked) ↔ (e ≡ CoreBlocked)
   pub failed : (r ≡ Failed) ↔ ((outs : List Value) × (later : List Value) × (e ≡ CoreEnded outs later true))
   pub ended : (outs later : List Value) → e ≡ CoreEnded outs later false → r ≡ Ended outs (named names later)
-  pub ends : (outs : List Value) (globals : Store) → r ≡ Ended outs globals → (later : List Value) × (e ≡ CoreEnded outs later false) × (globals ≡ named names later)
+  pub ends : (outs : List Value) (globals : Store) → r ≡ Ended outs globals
+      → (later : List Value) × (e ≡ CoreEnded outs later false) × (globals ≡ named names later)
 
 -- what is fixed for a whole program: its globals, and the number and the modified globals of each procedure
 pub record Setting : Type 0 where
@@ -125,4 +129,9 @@ pub record ProgramFine (P : Program) : Type 0 where
 
 -- the law: with every number of steps, a run of a procedure and the flagged run of its core procedure have the same end
 abbrev pub ExtractedRuns : Type 0
-ExtractedRuns = (P : Program) → ProgramFine P → (M : Meaning) (n : ℕ) (f : Text) (d : Proc) (S : Source) → procedure_in P.decls f ≡ Some d → source_named P f ≡ Some S → (ins globals : List Value) → length ins ≡ length d.head.ins → length globals ≡ length (names_of (globals_in P.decls)) → Exact (names_of (globals_in P.decls)) (run P M n f ins (named (names_of (globals_in P.decls)) globals)) (flag_run (interpretation M) (core_procs P) n (number_from P 0 P.decls f) ins globals)
+ExtractedRuns =
+    (P : Program) → ProgramFine P → (M : Meaning) (n : ℕ) (f : Text) (d : Proc) (S : Source) → procedure_in P.decls f
+    ≡ Some d → source_named P f ≡ Some S → (ins globals : List Value) → length ins ≡ length d.head.ins
+    → length globals ≡ length (names_of (globals_in P.decls))
+    → Exact (names_of (globals_in P.decls)) (run P M n f ins (named (names_of (globals_in P.decls)) globals))
+    (flag_run (interpretation M) (core_procs P) n (number_from P 0 P.decls f) ins globals)

@@ -19,7 +19,8 @@ constants_named names sort = map (λ c. record { name = c; args = []; result = s
 -- the functions and constants, in text order
 abbrev pub functions_in : List Decl → List Function
 functions_in [] = []
-functions_in (decl.Function f args result ∷ ds) = record { name = f; args = args; result = result; constant = false } ∷ functions_in ds
+functions_in (decl.Function f args result ∷ ds) =
+    record { name = f; args = args; result = result; constant = false } ∷ functions_in ds
 functions_in (decl.Const unique names sort ∷ ds) = constants_named names sort ++ functions_in ds
 functions_in (_ ∷ ds) = functions_in ds
 

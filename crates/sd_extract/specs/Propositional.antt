@@ -70,7 +70,8 @@ MaybePropositionalBody (Some b) = IsPropositionalBody b
 -- globals, procedures and implementations alone
 abbrev pub IsPropositionalDecl : Decl → Type 0
 IsPropositionalDecl (Globals vars) = AreTruths vars
-IsPropositionalDecl (Procedure p) = IsPropositionalHead p.head × AllByRecursion IsPropositionalSpec p.specs × MaybePropositionalBody p.body
+IsPropositionalDecl (Procedure p) =
+    IsPropositionalHead p.head × AllByRecursion IsPropositionalSpec p.specs × MaybePropositionalBody p.body
 IsPropositionalDecl (Implementation i) = IsPropositionalHead i.head × IsPropositionalBody i.body
 IsPropositionalDecl _ = ⊥
 

@@ -72,8 +72,11 @@ reads m (i ∷ is) = reads (both op.Read m i) is
 -- a call of a procedure with this number
 abbrev pub call_with : Names → ℕ → List Spot → List Text → List Expr → Proc → List CoreStmt
 call_with N number spots xs es p =
-    put spots (cores N es) ++ (map (check (on_args N p spots)) (requires_of p.specs) ++ (core.Call (map (spot_of N) xs) number (map At spots) ∷ []))
+    put spots (cores N es)
+    ++ (map (check (on_args N p spots)) (requires_of p.specs)
+    ++ (core.Call (map (spot_of N) xs) number (map At spots) ∷ []))
 
 -- the hidden local of a loop that a `return` may leave
 abbrev pub left_var : Counts → Bool → List Var
-left_var at returns = if returns then record { name = decimal (suc at.loops) ++ codes "@left"; sort = sort.Bool } ∷ [] else []
+left_var at returns =
+    if returns then record { name = decimal (suc at.loops) ++ codes "@left"; sort = sort.Bool } ∷ [] else []

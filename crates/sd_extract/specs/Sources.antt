@@ -65,14 +65,20 @@ abbrev pub turn_with : Program → (Text → ℕ) → Frame → Counts → ℕ �
 turn_with P number F at k left turn = each_extracted P number F at turn ++ (loop_call F k left ∷ [])
 
 -- the body of a loop, with what it receives as its outs and locals
-abbrev pub loop_with : Program → (Text → ℕ) → Frame → List Spot → Counts → ℕ → Expr → List Clause → List Spot → List StmtKind → List CoreStmt
+abbrev pub loop_with : Program → (Text → ℕ) → Frame → List Spot → Counts → ℕ → Expr → List Clause → List Spot
+    → List StmtKind → List CoreStmt
 loop_with P number F received at k guard invs left turn =
-    put F.state (map At received) ++ (put left (map (λ p. Literal false) left) ++ (map (check F.names) invs ++ (core.If (core_of F.names guard.kind) (turn_with P number F at k left turn) [] ∷ [])))
+    put F.state (map At received)
+    ++ (put left (map (λ p. Literal false) left)
+    ++ (map (check F.names) invs
+    ++ (core.If (core_of F.names guard.kind) (turn_with P number F at k left turn) [] ∷ [])))
 
 -- the body of a procedure, with its `requires` and what follows its statements
 abbrev pub body_with : Program → (Text → ℕ) → Frame → List ℕ → Proc → Counts → List StmtKind → List CoreStmt
 body_with P number F modifies declared at kinds =
-    put F.copies (map (λ i. At (Global i)) modifies) ++ (map (assume (on_args F.names declared F.ins)) (requires_of declared.specs) ++ (each_extracted P number F at kinds ++ F.leave))
+    put F.copies (map (λ i. At (Global i)) modifies)
+    ++ (map (assume (on_args F.names declared F.ins)) (requires_of declared.specs)
+    ++ (each_extracted P number F at kinds ++ F.leave))
 
 abbrev pub left_out : Bool → List Var
 left_out returns = if returns then record { name = codes "left"; sort = sort.Bool } ∷ [] else []

@@ -23,7 +23,8 @@ fn read_at(
     name: &Name,
     indices: &[Expr],
 ) -> Result<CoreExpr, NoMemory>
-    ensures { IfOk result (λ e. e ≡ reads (at_place (place_of (names_in scope.now) name.now) name.now) (cores (names_in scope.now) indices.now)) }
+    ensures { IfOk result (λ e. e ≡ reads (at_place (place_of (names_in scope.now) name.now) name.now)
+        (cores (names_in scope.now) indices.now)) }
 {
     let mut e = scope.named(alloc, name)?;
     for index in indices {
@@ -39,7 +40,8 @@ fn read_at(
 
 /// What a left side is to hold.
 fn stored_at(alloc: Global, scope: &Scope, left: &Left, new: CoreExpr) -> Result<CoreExpr, NoMemory>
-    ensures { IfOk result (λ e. e ≡ stored (at_place (place_of (names_in scope.now) left.now.name) left.now.name) (cores (names_in scope.now) left.now.indices) new) }
+    ensures { IfOk result (λ e. e ≡ stored (at_place (place_of (names_in scope.now) left.now.name) left.now.name)
+        (cores (names_in scope.now) left.now.indices) new) }
 {
     let indices = left.indices.as_slice();
     let mut e = new;
@@ -90,7 +92,8 @@ pub(crate) fn assignment(
     lefts: &[Left],
     rights: &[Expr],
 ) -> Result<CoreStmt, NoMemory>
-    ensures { IfOk result (λ s. s ≡ Assignment (map (λ l. spot_of (names_in scope.now) l.name) lefts.now) (all_stored (names_in scope.now) lefts.now rights.now)) }
+    ensures { IfOk result (λ s. s ≡ Assignment (map (λ l. spot_of (names_in scope.now) l.name) lefts.now)
+        (all_stored (names_in scope.now) lefts.now rights.now)) }
 {
     let spots = targets(alloc, scope, lefts)?;
     Ok(CoreStmt::Assign(spots, all_stored_at(alloc, scope, lefts, rights)?))

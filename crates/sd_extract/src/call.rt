@@ -30,7 +30,8 @@ pub(crate) fn push_requires_on(
     assumed: bool,
     out: &mut Items<CoreStmt>,
 ) -> Result<(), NoMemory>
-    ensures { OnOk result (out.new ≡ out.old ++ map (clause_stmt (spec.on_args (names_in scope.now) callee.now spots.now) assumed) (requires_of callee.now.specs)) }
+    ensures { OnOk result (out.new ≡ out.old ++ map (clause_stmt (spec.on_args (names_in scope.now) callee.now spots.now)
+        assumed) (requires_of callee.now.specs)) }
 {
     let mut names = Items::new(alloc);
     push_names(alloc, &mut names, callee.head.ins.as_slice())?;
@@ -67,7 +68,8 @@ fn push_call(
     args: &[Expr],
     out: &mut Items<CoreStmt>,
 ) -> Result<(), NoMemory>
-    ensures { OnOk result (out.new ≡ out.old ++ call_with (names_in scope.now) number (slots_from first args.now) names.now args.now callee.now) }
+    ensures { OnOk result (out.new ≡ out.old ++ call_with (names_in scope.now) number (slots_from first args.now) names.now
+        args.now callee.now) }
 {
     let mut spots = Items::new(alloc);
     push_slots(first, args.len(), &mut spots)?;
@@ -92,8 +94,11 @@ pub(crate) fn call(
     args: &[Expr],
     out: &mut Items<CoreStmt>,
 ) -> Result<Counts, NoMemory>
-    ensures out { OnOk result (out.new ≡ out.old ++ spec.call_of (names_in scope.now) (number_of callees.now) (slots_from at.args args.now) names.now callee.now args.now (procedure_in (program_of callees.now).decls callee.now)) }
-    ensures next { IfOk result (λ next. counts_in next ≡ spec.plus (counts_in at) (record { calls = 1; args = length args.now; lefts = 0; loops = 0 })) }
+    ensures out { OnOk result (out.new ≡ out.old ++ spec.call_of (names_in scope.now) (number_of callees.now)
+        (slots_from at.args args.now) names.now callee.now args.now
+        (procedure_in (program_of callees.now).decls callee.now)) }
+    ensures next { IfOk result (λ next. counts_in next ≡ spec.plus (counts_in at)
+        (record { calls = 1; args = length args.now; lefts = 0; loops = 0 })) }
 {
     if let Some(procedure) = callees.named(callee) {
         push_call(

@@ -19,7 +19,8 @@ pub(crate) struct Callees<'a> {
     pub(crate) routines: Routines<'a>,
     numbers: HashMap<Name, u32>,
     total: u32,
-    ghost found: { (f : Text) → unwrap_or (get same_text numbers f) total ≡ number_from (record { decls = routines.procedures.decls.now }) 0 routines.procedures.decls.now f },
+    ghost found: { (f : Text) → unwrap_or (get same_text numbers f) total
+        ≡ number_from (record { decls = routines.procedures.decls.now }) 0 routines.procedures.decls.now f },
 }
 
 impl<'a> Callees<'a> {
@@ -48,7 +49,8 @@ impl<'a> Callees<'a> {
 
     /// The number of the procedure of this name.
     pub(crate) fn number(&self, name: &Name) -> u32
-        ensures { result ≡ number_from (record { decls = self.now.routines.procedures.decls.now }) 0 self.now.routines.procedures.decls.now name.now }
+        ensures { result ≡ number_from (record { decls = self.now.routines.procedures.decls.now }) 0
+            self.now.routines.procedures.decls.now name.now }
     {
         self.numbers.get(name).copied().unwrap_or(self.total)
     }

@@ -49,7 +49,8 @@ fn push_requirement(
     clause: &Spec,
     out: &mut Items<CoreStmt>,
 ) -> Result<(), NoMemory>
-    ensures { OnOk result (out.new ≡ out.old ++ map (clause_stmt (names_in scope.now) assumed) (requires_of (clause.now ∷ []))) }
+    ensures { OnOk result (out.new ≡ out.old ++ map (clause_stmt (names_in scope.now) assumed)
+        (requires_of (clause.now ∷ []))) }
 {
     match clause {
         Spec::Requires(free, e) => push_check(alloc, scope, assumed || *free, e, out),

@@ -8,7 +8,8 @@ ghost use Rattle.sd_extract.specs.Counted.{counts_in, has_return_among};
 use sd_ast::{Stmt, StmtKind};
 use sd_base::NoMemory;
 
-/// How many hidden locals and loops statements take: one for each call, argument, loop with a `return` inside, and loop.
+/// How many hidden locals and loops statements take: one for each call, argument, loop with a `return` inside, and
+/// loop.
 #[derive(Clone, Copy, Drop)]
 pub(crate) struct Counts {
     pub(crate) calls: u32,

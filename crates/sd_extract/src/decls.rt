@@ -28,7 +28,8 @@ fn enter(
     decl: &Decl,
     place: usize,
 ) -> Result<(), NoMemory>
-    ensures { OnOk result ((f : Text) → get same_text places.new f ≡ (if is_procedure_named f decl.now then Some place else get same_text places.old f)) }
+    ensures { OnOk result ((f : Text) → get same_text places.new f
+        ≡ (if is_procedure_named f decl.now then Some place else get same_text places.old f)) }
 {
     match decl {
         Decl::Procedure(proc) => {

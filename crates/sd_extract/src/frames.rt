@@ -13,7 +13,8 @@ use sd_core::Spot;
 fn body_scope<'a>(source: &'a Source<'a>, layout: &'a Layout) -> Scope<'a>
     requires globals { AreGlobals source.now.globals.now }
     requires layout { IsLayout (source_in source.now) layout.now }
-    ensures { names_in result ≡ names_at (source_in source.now) (length source.now.head.now.ins) (body_copies (source_in source.now)) }
+    ensures { names_in result ≡ names_at (source_in source.now) (length source.now.head.now.ins)
+        (body_copies (source_in source.now)) }
 {
     Scope {
         local_names: &layout.names,
@@ -27,7 +28,8 @@ fn body_scope<'a>(source: &'a Source<'a>, layout: &'a Layout) -> Scope<'a>
 fn turn_scope<'a>(source: &'a Source<'a>, layout: &'a Layout) -> Scope<'a>
     requires globals { AreGlobals source.now.globals.now }
     requires layout { IsLayout (source_in source.now) layout.now }
-    ensures { names_in result ≡ names_at (source_in source.now) (loop_state (source_in source.now)) (body_copies (source_in source.now)) }
+    ensures { names_in result ≡ names_at (source_in source.now) (loop_state (source_in source.now))
+        (body_copies (source_in source.now)) }
 {
     Scope {
         local_names: &layout.names,

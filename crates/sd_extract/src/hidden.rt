@@ -44,8 +44,10 @@ fn push_call_args(
     count: usize,
     args: &mut Items<Var>,
 ) -> Result<Counts, NoMemory>
-    ensures args { OnOk result (args.new ≡ args.old ++ arg_vars (1 + at.calls) 1 (ins_of (procedure_in (program_of callees.now).decls callee.now))) }
-    ensures next { IfOk result (λ next. counts_in next ≡ spec.plus (counts_in at) (record { calls = 1; args = count; lefts = 0; loops = 0 })) }
+    ensures args { OnOk result (args.new ≡ args.old ++ arg_vars (1 + at.calls) 1
+        (ins_of (procedure_in (program_of callees.now).decls callee.now))) }
+    ensures next { IfOk result (λ next. counts_in next ≡ spec.plus (counts_in at)
+        (record { calls = 1; args = count; lefts = 0; loops = 0 })) }
 {
     let call = add(1, at.calls)?;
     if let Some(procedure) = callees.named(callee) {
@@ -64,7 +66,8 @@ fn push_loop_left(
     lefts: &mut Items<Var>,
 ) -> Result<Counts, NoMemory>
     ensures lefts { OnOk result (lefts.new ≡ lefts.old ++ left_var (counts_in at) (has_return_among (kinds_of body.now))) }
-    ensures next { IfOk result (λ next. counts_in next ≡ spec.plus (counts_in at) (of_loop (has_return_among (kinds_of body.now)) (counts_each (kinds_of body.now)))) }
+    ensures next { IfOk result (λ next. counts_in next ≡ spec.plus (counts_in at)
+        (of_loop (has_return_among (kinds_of body.now)) (counts_each (kinds_of body.now)))) }
 {
     let inside = count_stmts(body)?;
     if inside.returns {

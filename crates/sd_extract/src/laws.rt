@@ -1,8 +1,8 @@
 //! What extraction keeps.
 ghost use Rattle.sd_extract.specs.Laws.{RunsAreKept, ProceduresAreKept, AxiomsAreKept, ExtractedIsFormed, FailuresAreKept, PropositionalIsKept, RootsAreProcedures};
 
-/// With every number of steps, a run of a procedure and the flagged run of its core procedure have the same end: they fail, are
-/// blocked and lack steps together, and give the same values.
+/// With every number of steps, a run of a procedure and the flagged run of its core procedure have the same end: they
+/// fail, are blocked and lack steps together, and give the same values.
 pub fn runs_are_kept()
     ensures { RunsAreKept }
 {}
@@ -22,8 +22,8 @@ pub fn axioms_are_kept()
     ensures { AxiomsAreKept }
 {}
 
-/// The core program of a well-typed program is well formed: all that it speaks of is there, types and numbers agree, no name is
-/// declared twice, and each procedure writes no more than its list of modified globals says.
+/// The core program of a well-typed program is well formed: all that it speaks of is there, types and numbers agree,
+/// no name is declared twice, and each procedure writes no more than its list of modified globals says.
 pub fn extracted_is_formed()
     ensures { ExtractedIsFormed }
 {}

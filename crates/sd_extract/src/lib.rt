@@ -1,5 +1,5 @@
-//! Source programs as core programs: loops become procedures that call themselves, contracts become checks, and a failed
-//! assertion becomes a flag.
+//! Source programs as core programs: loops become procedures that call themselves, contracts become checks, and a
+//! failed assertion becomes a flag.
 #![tactic(auto)]
 
 mod assignment;

@@ -27,7 +27,8 @@ use sd_core::{CoreExpr, CoreProc, CoreStmt, Spot};
 use sqlite_items::Items;
 use std::alloc::Global;
 
-/// The counts where statements begin, from the first slot of their hidden locals, what they take, and the number of the next loop.
+/// The counts where statements begin, from the first slot of their hidden locals, what they take, and the number of
+/// the next loop.
 pub(crate) fn start(first: u32, inside: Counts, loops: u32) -> Result<Counts, NoMemory>
     ensures { IfOk result (λ at. counts_in at ≡ start_at first inside.args loops) }
 {
@@ -49,7 +50,8 @@ fn turn(
     left: Option<Spot>,
     body: &[Stmt],
 ) -> Result<Items<CoreStmt>, NoMemory>
-    ensures { IfOk result (λ ss. ss ≡ turn_with (program_of callees.now) (number_of callees.now) (frame_in frame.now) (counts_in at) number (spots_of left) (kinds_of body.now)) }
+    ensures { IfOk result (λ ss. ss ≡ turn_with (program_of callees.now) (number_of callees.now) (frame_in frame.now)
+        (counts_in at) number (spots_of left) (kinds_of body.now)) }
 {
     let mut out = Items::new(alloc);
     push_stmts(alloc, callees, frame, at, body, &mut out)?;
@@ -88,7 +90,9 @@ fn loop_stmts(
     invariants: &[Invariant],
     body: &[Stmt],
 ) -> Result<Items<CoreStmt>, NoMemory>
-    ensures { IfOk result (λ ss. ss ≡ loop_with (program_of callees.now) (number_of callees.now) (frame_in frame.now) received.now (counts_in at) number guard.now (clauses_of invariants.now) (spots_of left) (kinds_of body.now)) }
+    ensures { IfOk result (λ ss. ss ≡ loop_with (program_of callees.now) (number_of callees.now) (frame_in frame.now)
+        received.now (counts_in at) number guard.now (clauses_of invariants.now) (spots_of left)
+        (kinds_of body.now)) }
 {
     let mut out = Items::new(alloc);
     let mut es = Items::new(alloc);
@@ -121,7 +125,8 @@ pub(crate) fn push_copies(
 
 /// What a loop receives: the ins, the outs and locals, and the copies.
 fn loop_ins(alloc: Global, source: &Source) -> Result<Items<Var>, NoMemory>
-    ensures { IfOk result (λ ins. ins ≡ source.now.head.now.ins ++ (state_of (source_in source.now) ++ copies_of (source_in source.now))) }
+    ensures { IfOk result (λ ins. ins ≡ source.now.head.now.ins
+        ++ (state_of (source_in source.now) ++ copies_of (source_in source.now))) }
 {
     let mut ins = clone_items(alloc, &source.head.ins)?;
     ins.append(clone_items(alloc, &source.head.outs)?)?;
@@ -183,7 +188,8 @@ fn hidden_locals(
     loops: u32,
     body: &[Stmt],
 ) -> Result<Items<Var>, NoMemory>
-    ensures { IfOk result (λ locals. locals ≡ spec.hidden (program_of callees.now) (record { calls = 0; args = 0; lefts = 0; loops = loops }) (kinds_of body.now)) }
+    ensures { IfOk result (λ locals. locals ≡ spec.hidden (program_of callees.now)
+        (record { calls = 0; args = 0; lefts = 0; loops = loops }) (kinds_of body.now)) }
 {
     let mut locals = Items::new(alloc);
     push_hidden(alloc, callees, only_loops(loops), body, &mut locals)?;
@@ -203,7 +209,8 @@ fn loop_proc(
 ) -> Result<CoreProc, NoMemory>
     requires globals { AreGlobals source.now.globals.now }
     requires layout { IsLayout (source_in source.now) layout.now }
-    ensures { IfOk result (λ p. p ≡ spec.loop_proc (program_of callees.now) (number_of callees.now) (source_in source.now) number guard.now (clauses_of invariants.now) (has_return_among (kinds_of body.now)) (kinds_of body.now)) }
+    ensures { IfOk result (λ p. p ≡ spec.loop_proc (program_of callees.now) (number_of callees.now) (source_in source.now)
+        number guard.now (clauses_of invariants.now) (has_return_among (kinds_of body.now)) (kinds_of body.now)) }
 {
     let inside = count_stmts(body)?;
     let frame = turn_frame(source, layout);
@@ -237,7 +244,8 @@ fn loop_proc(
     })
 }
 
-/// The procedures of the loops of a statement, where the next loop has this number. The number of the next loop comes back.
+/// The procedures of the loops of a statement, where the next loop has this number. The number of the next loop comes
+/// back.
 #[cycle(loops)]
 fn push_loops_of(
     alloc: Global,
@@ -250,7 +258,8 @@ fn push_loops_of(
 ) -> Result<u32, NoMemory>
     requires globals { AreGlobals source.now.globals.now }
     requires layout { IsLayout (source_in source.now) layout.now }
-    ensures out { OnOk result (out.new ≡ out.old ++ loops_in (program_of callees.now) (number_of callees.now) (source_in source.now) number kind.now) }
+    ensures out { OnOk result (out.new ≡ out.old ++ loops_in (program_of callees.now) (number_of callees.now)
+        (source_in source.now) number kind.now) }
     ensures next { IfOk result (λ next. next ≡ number + (spec.counts kind.now).loops) }
 {
     match kind {
@@ -291,7 +300,8 @@ pub(crate) fn push_loops(
 ) -> Result<u32, NoMemory>
     requires globals { AreGlobals source.now.globals.now }
     requires layout { IsLayout (source_in source.now) layout.now }
-    ensures out { OnOk result (out.new ≡ out.old ++ each_loop_in (program_of callees.now) (number_of callees.now) (source_in source.now) number (kinds_of stmts.now)) }
+    ensures out { OnOk result (out.new ≡ out.old ++ each_loop_in (program_of callees.now) (number_of callees.now)
+        (source_in source.now) number (kinds_of stmts.now)) }
     ensures next { IfOk result (λ next. next ≡ number + (counts_each (kinds_of stmts.now)).loops) }
 {
     let mut next = number;

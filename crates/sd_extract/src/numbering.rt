@@ -20,7 +20,9 @@ fn put_first(
     name: &Name,
     number: u32,
 ) -> Result<(), NoMemory>
-    ensures { OnOk result ((f : Text) → get same_text numbers.new f ≡ (if same_text f name.now then Some (unwrap_or (get same_text numbers.old f) number) else get same_text numbers.old f)) }
+    ensures { OnOk result ((f : Text) → get same_text numbers.new f
+        ≡ (if same_text f name.now then Some (unwrap_or (get same_text numbers.old f) number) else get same_text
+        numbers.old f)) }
 {
     match numbers.get(name).copied() {
         Some(_) => Ok(()),
@@ -39,7 +41,11 @@ pub(crate) fn enter_number(
     next: u32,
     numbers: &mut HashMap<Name, u32>,
 ) -> Result<u32, NoMemory>
-    ensures { IfOk result (λ after. (f : Text) (ds : List Declaration) → unwrap_or (get same_text numbers.new f) (number_from (record { decls = routines.now.procedures.decls.now }) after ds f) ≡ unwrap_or (get same_text numbers.old f) (number_from (record { decls = routines.now.procedures.decls.now }) next (decl.now ∷ ds) f)) }
+    ensures { IfOk result (λ after. (f : Text) (ds : List Declaration)
+        → unwrap_or (get same_text numbers.new f)
+        (number_from (record { decls = routines.now.procedures.decls.now }) after ds f)
+        ≡ unwrap_or (get same_text numbers.old f)
+        (number_from (record { decls = routines.now.procedures.decls.now }) next (decl.now ∷ ds) f)) }
 {
     match decl {
         Decl::Procedure(proc) => {

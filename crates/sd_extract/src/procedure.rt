@@ -46,7 +46,8 @@ fn body_stmts(
     at: Counts,
     stmts: &[Stmt],
 ) -> Result<Items<CoreStmt>, NoMemory>
-    ensures { IfOk result (λ ss. ss ≡ body_with (program_of callees.now) (number_of callees.now) (frame_in frame.now) modifies.now declared.now (counts_in at) (kinds_of stmts.now)) }
+    ensures { IfOk result (λ ss. ss ≡ body_with (program_of callees.now) (number_of callees.now) (frame_in frame.now)
+        modifies.now declared.now (counts_in at) (kinds_of stmts.now)) }
 {
     let mut out = Items::new(alloc);
     let copies = Items::from_slice(alloc, frame.copies)?;
@@ -59,7 +60,9 @@ fn body_stmts(
 
 /// The locals of a procedure: its own, the copies of globals, and the hidden ones.
 fn body_locals(alloc: Global, callees: &Callees, source: &Source) -> Result<Items<Var>, NoMemory>
-    ensures { IfOk result (λ locals. locals ≡ source.now.body.now.locals ++ (copies_of (source_in source.now) ++ spec.hidden (program_of callees.now) spec.none (kinds (source_in source.now)))) }
+    ensures { IfOk result (λ locals. locals ≡ source.now.body.now.locals
+        ++ (copies_of (source_in source.now) ++ spec.hidden (program_of callees.now) spec.none
+        (kinds (source_in source.now)))) }
 {
     let mut locals = clone_items(alloc, &source.body.locals)?;
     push_copies(alloc, source.copied.as_slice(), &mut locals)?;
@@ -115,7 +118,8 @@ pub(crate) fn push_procs(
     out: &mut Items<CoreProc>,
 ) -> Result<u32, NoMemory>
     requires { AreGlobals source.now.globals.now }
-    ensures out { OnOk result (out.new ≡ out.old ++ procs_of (program_of callees.now) (number_of callees.now) (source_in source.now)) }
+    ensures out { OnOk result (out.new ≡ out.old ++ procs_of (program_of callees.now) (number_of callees.now)
+        (source_in source.now)) }
     ensures next { IfOk result (λ next. next ≡ source.now.number + suc (counts_each (kinds (source_in source.now))).loops) }
 {
     let layout = layout_of(alloc, source)?;

@@ -29,7 +29,8 @@ fn push_routine(
     out: &mut Items<CoreProc>,
 ) -> Result<u32, NoMemory>
     requires { AreGlobals globals.now }
-    ensures out { OnOk result (out.new ≡ out.old ++ procs_of (program_of callees.now) (number_of callees.now) (source_of globals.now.vars number (routine_in routine.now))) }
+    ensures out { OnOk result (out.new ≡ out.old ++ procs_of (program_of callees.now) (number_of callees.now)
+        (source_of globals.now.vars number (routine_in routine.now))) }
     ensures next { IfOk result (λ next. next ≡ number + suc (counts_each (kinds_of (routine_in routine.now).body.stmts)).loops) }
 {
     let names = modified_names(alloc, routine.declared.specs.as_slice())?;
@@ -57,7 +58,8 @@ fn push_decl(
 ) -> Result<u32, NoMemory>
     requires globals { AreGlobals globals.now }
     requires vars { globals.now.vars ≡ globals_in (program_of callees.now).decls }
-    ensures { IfOk result (λ next. (ds : List Declaration) → out.new ++ procs_from (program_of callees.now) next ds ≡ out.old ++ procs_from (program_of callees.now) number (decl.now ∷ ds)) }
+    ensures { IfOk result (λ next. (ds : List Declaration) → out.new ++ procs_from (program_of callees.now) next ds
+        ≡ out.old ++ procs_from (program_of callees.now) number (decl.now ∷ ds)) }
 {
     match decl {
         Decl::Procedure(proc) => match find_routine(&callees.routines, &proc.head.name) {

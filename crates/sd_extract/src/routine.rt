@@ -18,7 +18,8 @@ pub(crate) struct Routine<'a> {
 }
 
 fn own_body<'a>(declared: &'a Proc) -> Option<Routine<'a>>
-    ensures { option_map routine_in result ≡ option_map (λ b. record { declared = declared.now; head = declared.now.head; body = b }) declared.now.body }
+    ensures { option_map routine_in result ≡ option_map
+        (λ b. record { declared = declared.now; head = declared.now.head; body = b }) declared.now.body }
 {
     match &declared.body {
         None => None,

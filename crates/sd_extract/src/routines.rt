@@ -37,7 +37,8 @@ fn enter(
     decl: &Decl,
     place: usize,
 ) -> Result<(), NoMemory>
-    ensures { OnOk result ((f : Text) → get same_text places.new f ≡ (if is_implementation_named f decl.now then Some place else get same_text places.old f)) }
+    ensures { OnOk result ((f : Text) → get same_text places.new f
+        ≡ (if is_implementation_named f decl.now then Some place else get same_text places.old f)) }
 {
     match decl {
         Decl::Implementation(implementation) => {

@@ -34,8 +34,8 @@ pub(crate) struct Source<'a> {
     pub(crate) copied: Items<Var>,
 }
 
-/// The slots of a procedure: its ins, its outs and locals, and the copies of globals. Its loops have all of these, and after them
-/// outs and locals of their own.
+/// The slots of a procedure: its ins, its outs and locals, and the copies of globals. Its loops have all of these,
+/// and after them outs and locals of their own.
 #[derive(Drop)]
 pub(crate) struct Slots {
     pub(crate) ins: Items<Spot>,

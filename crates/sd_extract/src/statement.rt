@@ -28,8 +28,10 @@ fn push_loop(
     body: &[Stmt],
     out: &mut Items<CoreStmt>,
 ) -> Result<Counts, NoMemory>
-    ensures out { OnOk result (out.new ≡ out.old ++ reached (frame_in frame.now) (counts_in at) (has_return_among (kinds_of body.now))) }
-    ensures next { IfOk result (λ next. counts_in next ≡ spec.plus (counts_in at) (of_loop (has_return_among (kinds_of body.now)) (counts_each (kinds_of body.now)))) }
+    ensures out { OnOk result (out.new ≡ out.old ++ reached (frame_in frame.now) (counts_in at)
+        (has_return_among (kinds_of body.now))) }
+    ensures next { IfOk result (λ next. counts_in next ≡ spec.plus (counts_in at)
+        (of_loop (has_return_among (kinds_of body.now)) (counts_each (kinds_of body.now)))) }
 {
     let inside = count_stmts(body)?;
     let left = if inside.returns {
@@ -52,7 +54,8 @@ pub(crate) fn push_stmt(
     kind: &StmtKind,
     out: &mut Items<CoreStmt>,
 ) -> Result<Counts, NoMemory>
-    ensures out { OnOk result (out.new ≡ out.old ++ extracted (program_of callees.now) (number_of callees.now) (frame_in frame.now) (counts_in at) kind.now) }
+    ensures out { OnOk result (out.new ≡ out.old ++ extracted (program_of callees.now) (number_of callees.now)
+        (frame_in frame.now) (counts_in at) kind.now) }
     ensures next { IfOk result (λ next. counts_in next ≡ spec.plus (counts_in at) (spec.counts kind.now)) }
 {
     match kind {
@@ -109,7 +112,8 @@ pub(crate) fn push_stmts(
     stmts: &[Stmt],
     out: &mut Items<CoreStmt>,
 ) -> Result<Counts, NoMemory>
-    ensures out { OnOk result (out.new ≡ out.old ++ each_extracted (program_of callees.now) (number_of callees.now) (frame_in frame.now) (counts_in at) (kinds_of stmts.now)) }
+    ensures out { OnOk result (out.new ≡ out.old ++ each_extracted (program_of callees.now) (number_of callees.now)
+        (frame_in frame.now) (counts_in at) (kinds_of stmts.now)) }
     ensures next { IfOk result (λ next. counts_in next ≡ spec.plus (counts_in at) (counts_each (kinds_of stmts.now))) }
 {
     let mut next = at;
