@@ -31,8 +31,8 @@ pub not_both : {A B : Type 0} → (A × (B → ⊥)) ⊎ (A → ⊥) → A → B
 not_both (inl h) a b = h.1 b
 not_both (inr h) a b = h a
 
-pub goes_on : (xs : Bytes) (i d : ℕ) → i + 1 < length xs → (get_or xs i 0 ≡ 42 → get_or xs (i + 1) 0 ≡ 47 → ⊥) → (get_or xs i 0 ≡ 47 → get_or xs (i + 1) 0 ≡ 42 → ⊥) → after_comment d (drop i xs) ≡ after_comment d (drop (i + 1) xs)
-goes_on xs i d h a b =
+pub skips_byte : (xs : Bytes) (i d : ℕ) → i + 1 < length xs → (get_or xs i 0 ≡ 42 → get_or xs (i + 1) 0 ≡ 47 → ⊥) → (get_or xs i 0 ≡ 47 → get_or xs (i + 1) 0 ≡ 42 → ⊥) → after_comment d (drop i xs) ≡ after_comment d (drop (i + 1) xs)
+skips_byte xs i d h a b =
     let e : suc (i + 1) ≡ i + 2 = omega arith in
     let next : drop (i + 1) xs ≡ get_or xs (i + 1) 0 ∷ drop (i + 2) xs = drop-cons xs (i + 1) 0 h ∙ ap (λ n. get_or xs (i + 1) 0 ∷ drop n xs) e in
     ap (after_comment d) (two xs i h) ∙ other d _ _ _ a b ∙ sym (ap (after_comment d) next)

@@ -6,7 +6,8 @@ use Rattle.std.specs.Bool.{Decides}
 use Rattle.std.proofs.lemmas.Slice.Eq.{starts_is}
 use Rattle.std.proofs.lemmas.Bool.Decides.{nat_tests}
 use Rattle.sd_lex.specs.declared.token.Piece.TheVariants.{BadByte}
-use Rattle.sd_lex.specs.Pieces.{Bytes, Other, first, BeginsAs, BeginsWith, IsIn, marks, mark, first_mark}
+use Rattle.sd_lex.specs.Pieces.{Bytes, Other, first, BeginsAs, BeginsWith, IsIn, mark, first_mark}
+use Rattle.sd_lex.specs.Tables.{marks}
 use Rattle.sd_lex.proofs.Cuts.{true_false, whole_cut}
 
 Table : Type 0

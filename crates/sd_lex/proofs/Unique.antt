@@ -10,9 +10,10 @@ use Rattle.sd_lex.specs.declared.token.LexError.{LexError}
 use Rattle.sd_lex.specs.declared.token.Piece.{Piece}
 use Rattle.sd_lex.specs.declared.token.Piece.TheVariants.{Gap, Whole, Wide, Unsupported, BadByte, OpenComment, OpenString}
 use Rattle.sd_lex.specs.declared.token.TokenKind.TheVariants.{Text}
-use Rattle.sd_lex.specs.Pieces.{Bytes, Each, First, Blank, Letter, Digit, Quote, Slash, Other, first, Begins, Cut, IsPiece, IsMark, IsAfterQuote, IsAfterSlash, IsIn, marks, mark, is_in_string}
+use Rattle.sd_lex.specs.Pieces.{Bytes, Each, First, Blank, Letter, Digit, Quote, Slash, Other, first, Begins, Cut, IsPiece, IsMark, IsAfterQuote, IsAfterSlash, IsIn, mark, is_in_string}
 use Rattle.sd_lex.specs.Tokens as d
 use Rattle.sd_lex.specs.Tokens.{Tokens, Refused, IsRefusal, token_at}
+use Rattle.sd_lex.specs.Tables.{marks}
 use Rattle.sd_lex.proofs.Cuts.{true_false, each_mid}
 use Rattle.sd_lex.proofs.Marks.{both}
 

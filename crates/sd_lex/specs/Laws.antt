@@ -6,10 +6,13 @@ use Rattle.sd_lex.specs.Pieces.{Bytes}
 use Rattle.sd_lex.specs.Tokens.{Tokens, Refused}
 
 abbrev pub NeverBoth : Type 0
-NeverBoth = (at : ℕ) (text : Bytes) (ts : List Token) (e : LexError) → Tokens at text ts → Refused at text e → ⊥
+NeverBoth =
+    (at : ℕ) (text : Bytes) (ts : List Token) (e : LexError) → Tokens at text ts → Refused at text e → ⊥
 
 abbrev pub OneList : Type 0
-OneList = (at : ℕ) (text : Bytes) (ts us : List Token) → Tokens at text ts → Tokens at text us → ts ≡ us
+OneList =
+    (at : ℕ) (text : Bytes) (ts us : List Token) → Tokens at text ts → Tokens at text us → ts ≡ us
 
 abbrev pub OneRefusal : Type 0
-OneRefusal = (at : ℕ) (text : Bytes) (e f : LexError) → Refused at text e → Refused at text f → e ≡ f
+OneRefusal =
+    (at : ℕ) (text : Bytes) (e f : LexError) → Refused at text e → Refused at text f → e ≡ f

@@ -1,3 +1,4 @@
+pub mod Tables
 pub mod Pieces
 pub mod Tokens
 pub mod Laws

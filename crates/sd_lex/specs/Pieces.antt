@@ -1,27 +1,25 @@
 -- What a blank, a comment and a token are, each as a whole text.
-use Rattle.std.specs.Prelude.{◌≡◌, ℕ, ◌+◌, ◌-◌, ◌*◌, ◌≤◌, ◌<◌, length, take, drop, Bool, true, false, not, ◌&&◌, ◌||◌, if◌then◌else◌, ◌==◌, nat_le, nat_eq, List, [], ◌∷◌, ◌++◌, map, Option, Some, None, ◌⊎◌}
+use Rattle.std.specs.Prelude.{◌≡◌, ℕ, ◌+◌, ◌-◌, ◌*◌, ◌≤◌, ◌<◌, length, take, drop, Bool, true, false, not, ◌&&◌, ◌||◌, if◌then◌else◌, ◌==◌, nat_le, nat_eq, List, [], ◌∷◌, ◌++◌, Option, Some, None, ◌⊎◌}
 use Rattle.std.specs.List.{fold, starts_with}
 use Rattle.std.specs.Str.{bytes_eq}
 use Rattle.std.specs.Char.{is_ascii_digit, is_ascii_alphabetic}
 use Rattle.sd_lex.specs.declared.token.TokenKind.TheVariants.{Word, Ident, Number, Text, Symbol}
 use Rattle.sd_lex.specs.declared.token.Piece.{Piece}
 use Rattle.sd_lex.specs.declared.token.Piece.TheVariants.{Gap, Whole, Wide, Unsupported, BadByte, OpenComment, OpenString}
-use Rattle.sd_lex.specs.declared.token.TheConstants.{RESERVED, UNSUPPORTED, MARKS}
+use Rattle.sd_lex.specs.Tables.{reserved_words, unsupported_words, marks}
 
 abbrev pub Bytes : Type 0
 Bytes = List ℕ
-
-abbrev pub is_one_of : Bytes → ℕ → Bool
-is_one_of [] b = false
-is_one_of (x ∷ xs) b = b == x || is_one_of xs b
 
 -- space, tab, CR and LF
 abbrev pub is_blank : ℕ → Bool
 is_blank b = b == 32 || b == 9 || b == 13 || b == 10
 
--- a letter, or one of the other signs that may stand in a name
+-- a letter, or one of `_`, `.`, `$`, `#`, `'`, `~`, `^`, `?` and the backquote
 abbrev pub is_letter : ℕ → Bool
-is_letter b = is_ascii_alphabetic b || b == 95 || b == 46 || b == 36 || b == 35 || b == 39 || b == 126 || b == 94 || b == 63 || b == 96
+is_letter b =
+    is_ascii_alphabetic b || b == 95 || b == 46 || b == 36 || b == 35 || b == 39 || b == 126 || b == 94 || b == 63
+    || b == 96
 
 abbrev pub is_name_byte : ℕ → Bool
 is_name_byte b = is_letter b || is_ascii_digit b
@@ -43,24 +41,19 @@ abbrev pub is_among : List Bytes → Bytes → Bool
 is_among [] text = false
 is_among (word ∷ words) text = if bytes_eq text word then true else is_among words text
 
-abbrev pub reserved : List Bytes
-reserved = map (λ w. w.now) RESERVED
-
-abbrev pub unsupported : List Bytes
-unsupported = map (λ w. w.now) UNSUPPORTED
-
-unfoldable pub marks : List (Bytes × Bool)
-marks = map (λ m. (m.0.now, m.1)) MARKS
-
+-- a name, a reserved word, or a word that is kept for what the language leaves out
 unfoldable pub word : Bytes → Piece
-word text = if is_among unsupported text then Unsupported text else (if is_among reserved text then Whole (Word text) else Whole (Ident text))
+word text =
+    if is_among unsupported_words text then Unsupported text
+    else (if is_among reserved_words text then Whole (Word text) else Whole (Ident text))
 
 -- the number that decimal digits stand for
 abbrev pub decimal : Bytes → ℕ
 decimal = fold (λ n b. 10 * n + (b - 48)) 0
 
 unfoldable pub number : Bytes → Piece
-number text = if nat_le (decimal text) 18446744073709551615 then Whole (Number (decimal text)) else Wide
+number text =
+    if nat_le (decimal text) 18446744073709551615 then Whole (Number (decimal text)) else Wide
 
 unfoldable pub mark : Bytes → Bool → Piece
 mark text true = Whole (Symbol text)
@@ -85,7 +78,11 @@ pub data First : Type 0 where
   Other : First
 
 abbrev pub first : ℕ → First
-first b = if is_blank b then Blank else (if is_letter b then Letter else (if is_ascii_digit b then Digit else (if b == 34 then Quote else (if b == 47 then Slash else Other))))
+first b =
+    if is_blank b then Blank
+    else (if is_letter b then Letter
+    else (if is_ascii_digit b then Digit
+    else (if b == 34 then Quote else (if b == 47 then Slash else Other))))
 
 -- The text is an entry of the table.
 unfoldable pub IsIn : List (Bytes × Bool) → Bytes → Bool → Type 0
@@ -94,14 +91,17 @@ IsIn (m ∷ ms) text supported = ((m.0 ≡ text) × (m.1 ≡ supported)) ⊎ IsI
 
 -- a symbol, or a byte that is none
 abbrev pub IsMark : Bytes → Piece → Type 0
-IsMark text p = ((supported : Bool) × IsIn marks text supported × (p ≡ mark text supported)) ⊎ ((length text ≡ 1) × ((supported : Bool) → IsIn marks text supported → ⊥) × (p ≡ BadByte))
+IsMark text p =
+    ((supported : Bool) × IsIn marks text supported × (p ≡ mark text supported))
+    ⊎ ((length text ≡ 1) × ((supported : Bool) → IsIn marks text supported → ⊥) × (p ≡ BadByte))
 
 -- after a slash
 abbrev pub IsAfterSlash : Bytes → Piece → Type 0
 IsAfterSlash [] p = p ≡ Unsupported (47 ∷ [])
 IsAfterSlash (b ∷ body) p =
     ((b ≡ 47) × Each is_in_line body × (p ≡ Gap))
-    ⊎ ((b ≡ 42) × (((after_comment 0 body ≡ Some []) × (p ≡ Gap)) ⊎ ((after_comment 0 body ≡ None) × (p ≡ OpenComment))))
+    ⊎ ((b ≡ 42)
+    × (((after_comment 0 body ≡ Some []) × (p ≡ Gap)) ⊎ ((after_comment 0 body ≡ None) × (p ≡ OpenComment))))
 
 -- after a quotation mark
 abbrev pub IsAfterQuote : Bytes → Piece → Type 0
@@ -125,7 +125,8 @@ IsPiece (b ∷ more) p = Begins (first b) b more p
 -- The text is cut rightly before the rest: it is this piece, and no longer piece stands there.
 pub record Cut (text rest : Bytes) (p : Piece) : Type 0 where
   pub piece : IsPiece text p
-  pub longest : (b : ℕ) (extra more : Bytes) (q : Piece) → rest ≡ b ∷ extra ++ more → IsPiece (text ++ b ∷ extra) q → ⊥
+  pub longest : (b : ℕ) (extra more : Bytes) (q : Piece) → rest ≡ b ∷ extra ++ more
+      → IsPiece (text ++ b ∷ extra) q → ⊥
 
 -- The text begins with this piece, of n bytes, and with no longer one.
 pub record BeginsWith (text : Bytes) (p : Piece) (n : ℕ) : Type 0 where

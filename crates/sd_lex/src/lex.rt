@@ -106,7 +106,8 @@ fn number(text: &[u8]) -> Piece
 
 /// Where the comment ends that has begun.
 fn comment_len(text: &[u8]) -> Option<usize>
-    ensures { MatchOption result (spec.after_comment 0 text.now ≡ None) (λ n. (n ≤ length text.now) × (spec.after_comment 0 text.now ≡ Some (drop n text.now))) }
+    ensures { MatchOption result (spec.after_comment 0 text.now ≡ None)
+        (λ n. (n ≤ length text.now) × (spec.after_comment 0 text.now ≡ Some (drop n text.now))) }
 {
     let mut depth: usize = 0;
     let mut at = 0;
@@ -184,7 +185,8 @@ fn slash_at(alloc: Global, text: &[u8]) -> Result<(Piece, usize), NoMemory>
 
 /// The first entry of the table with which the text begins.
 fn first_mark<'a>(mut table: &'a [(&'a [u8], bool)], text: &[u8]) -> Option<(&'a [u8], bool)>
-    ensures { MatchOption result (spec.first_mark (map (λ m. (m.0.now, m.1)) table.entry.now) text.now ≡ None) (λ m. spec.first_mark (map (λ m. (m.0.now, m.1)) table.entry.now) text.now ≡ Some (m.0.now, m.1)) }
+    ensures { MatchOption result (spec.first_mark (map (λ m. (m.0.now, m.1)) table.entry.now) text.now ≡ None)
+        (λ m. spec.first_mark (map (λ m. (m.0.now, m.1)) table.entry.now) text.now ≡ Some (m.0.now, m.1)) }
 {
     while let [entry, rest @ ..] = table {
         if text.starts_with(entry.0) {

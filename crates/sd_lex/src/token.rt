@@ -3,7 +3,6 @@ use std::alloc::AllocFailed;
 use thiserror::Error;
 
 /// What a token is. The name is its text; that of a string is what stands between the quotes.
-
 #[derive(Debug, Drop)]
 pub enum TokenKind {
     /// A reserved word.
@@ -78,6 +77,7 @@ impl From<NoMemory> for LexError {
     }
 }
 
+/// The words that are no names, as the grammar has them.
 pub const RESERVED: [&[u8]; 27] = [
     b"type",
     b"const",
@@ -108,6 +108,7 @@ pub const RESERVED: [&[u8]; 27] = [
     b"bool",
 ];
 
+/// The words that are no names, as they are kept for what the language leaves out.
 pub const UNSUPPORTED: [&[u8]; 11] = [
     b"havoc",
     b"goto",

@@ -7,12 +7,12 @@ use Rattle.sd_base.specs.declared.Place.{Place}
 use Rattle.sd_lex.specs.declared.Token.{Token}
 use Rattle.sd_lex.specs.declared.TokenKind.{TokenKind}
 use Rattle.sd_lex.specs.declared.TokenKind.TheVariants as kind
-use Rattle.sd_parse.specs.declared.sign.Sign.{Sign}
-use Rattle.sd_parse.specs.Signs.{same_sign}
+use Rattle.sd_parse.specs.declared.class.TokenClass.{TokenClass}
+use Rattle.sd_parse.specs.TokenClasses.{same_class}
 use Rattle.sd_parse.specs.Grammar.{Tokens, Is}
-use Rattle.sd_parse.specs.Reading.{Syntax, Deep, Step, Got, Bad, Reader, and_then, ahead, sign_of, skip, want, name_by, name, number_by, number, many, deeper}
-use Rattle.sd_parse.proofs.Sound as r
-use Rattle.sd_parse.proofs.Sound.{SoundStep, Sound, Wanted, wanted, Named, named, Counted, counted, Nothing, nothing, Both, both, Repeat, same_is}
+use Rattle.sd_parse.specs.Reading.{Syntax, Deep, Step, Got, Bad, Reader, and_then, ahead, class_of, skip, want, name_by, name, number_by, number, many, deeper}
+use Rattle.sd_parse.proofs.Texts as r
+use Rattle.sd_parse.proofs.Texts.{Wanted, wanted, Named, named, Counted, counted, Nothing, nothing, Both, both, Repeat, same_is}
 use Rattle.sd_parse.proofs.Spelling.{Spelled}
 
 -- These tokens begin a text of the language.
@@ -95,14 +95,6 @@ chain F V G W pre ts (Got x rest) f a narrow wide next = shift G W pre a.0 ts re
 chain F V G W pre ts (Bad Syntax rest) f a narrow wide next = (a.0, a.1, narrow (pre ++ a.0) a.2)
 chain F V G W pre ts (Bad Deep rest) f a narrow wide next = (a.0, a.1, narrow (pre ++ a.0) a.2, a.3, a.4, a.5, wide ((pre ++ a.0) ++ a.3 ∷ []) a.6)
 
--- the half that is about what was got
-sound_step : {A : Type 0} (G W : Tokens → A → Type 0) (ts : Tokens) (step : Step A) → AnswersStep G W [] ts step → SoundStep G [] ts step
-sound_step G W ts (Got x rest) a = a
-sound_step G W ts (Bad k rest) a = tt
-
-pub sound : {A : Type 0} {G W : Tokens → A → Type 0} {ts : Tokens} {step : Step A} → Answers G W ts step → Sound G ts step
-sound {G = G} {W = W} {ts = ts} {step = step} a = record { fact = sound_step G W ts step a.fact }
-
 pub into : {A : Type 0} {F V G W : Tokens → A → Type 0} {ts : Tokens} {step : Step A} → ((v : Tokens) (x : A) → F v x → G v x) → ((v : Tokens) (x : A) → V v x → W v x) → Answers F V ts step → Answers G W ts step
 into {F = F} {V = V} {G = G} {W = W} {ts = ts} {step = step} f v a = record { fact = answers_map F V G W [] ts step f v a.fact }
 
@@ -150,19 +142,19 @@ rule_into {F = F} {G = G} f v up a = record { least = begins_map F G (λ x. x) [
 
 -- ---- tokens
 
-wanted_begins : (x : Sign) → Spelled x → Begins (Wanted x) []
+wanted_begins : (x : TokenClass) → Spelled x → Begins (Wanted x) []
 wanted_begins x w = record { more = w.token ∷ []; value = w.token.at; spelt = wanted w.is }
 
-pub skip_answers : (x : Sign) → Spelled x → (ts : Tokens) → sign_of (ahead ts) ≡ x → Answers (Wanted x) (Wanted x) ts (skip ts)
+pub skip_answers : (x : TokenClass) → Spelled x → (ts : Tokens) → class_of (ahead ts) ≡ x → Answers (Wanted x) (Wanted x) ts (skip ts)
 skip_answers x w [] e = fails (wanted_begins x w)
 skip_answers x w (t ∷ ts) e = record { fact = (t ∷ [], refl, wanted (record { same = e })) }
 
-pub want_rule : (x : Sign) → Spelled x → Rule (Wanted x) (Wanted x) (want x)
+pub want_rule : (x : TokenClass) → Spelled x → Rule (Wanted x) (Wanted x) (want x)
 unfolding want
-want_rule x w = record { least = wanted_begins x w; up = λ u p i. i; answers = λ ts. by_test ts (same_sign (sign_of (ahead ts)) x) refl }
+want_rule x w = record { least = wanted_begins x w; up = λ u p i. i; answers = λ ts. by_test ts (same_class (class_of (ahead ts)) x) refl }
   where
-    by_test : (ts : Tokens) (b : Bool) → same_sign (sign_of (ahead ts)) x ≡ b → Answers (Wanted x) (Wanted x) ts (cond {A = Reader Place} b skip (λ ts. Bad Syntax ts) ts)
-    by_test ts true e = skip_answers x w ts (same_is (sign_of (ahead ts)) x e)
+    by_test : (ts : Tokens) (b : Bool) → same_class (class_of (ahead ts)) x ≡ b → Answers (Wanted x) (Wanted x) ts (cond {A = Reader Place} b skip (λ ts. Bad Syntax ts) ts)
+    by_test ts true e = skip_answers x w ts (same_is (class_of (ahead ts)) x e)
     by_test ts false e = fails (wanted_begins x w)
 
 abbrev token_of : TokenKind → Token
@@ -199,32 +191,32 @@ number_rule = record { least = counted_begins; up = λ u x i. i; answers = by_to
     by_tokens (t ∷ ts) = by_kind t ts t.kind refl
 
 -- after the token that chose the rule
-pub after : {B : Type 0} {G W : Place → Tokens → B → Type 0} {q : Place → Reader B} (x : Sign) → Spelled x → (ts : Tokens) → sign_of (ahead ts) ≡ x → ((p : Place) → Rule (G p) (W p) (q p)) → Answers (Both (Wanted x) G) (Both (Wanted x) W) ts (and_then (skip ts) q)
+pub after : {B : Type 0} {G W : Place → Tokens → B → Type 0} {q : Place → Reader B} (x : TokenClass) → Spelled x → (ts : Tokens) → class_of (ahead ts) ≡ x → ((p : Place) → Rule (G p) (W p) (q p)) → Answers (Both (Wanted x) G) (Both (Wanted x) W) ts (and_then (skip ts) q)
 after x w ts e next = seq_at (λ u p i. i) (skip_answers x w ts e) next
 
 -- what needs a phrase below it: without room for one its first token is too deep
-pub deeper_answers : {B : Type 0} {G W : Tokens → B → Type 0} (x : Sign) → Spelled x → (d : ℕ) (p : Reader B) (ts : Tokens) → sign_of (ahead ts) ≡ x → Begins G [] → ((t : Token) → Is x t → Begins W (t ∷ [])) → (1 ≤ d → Answers G W ts (p ts)) → Answers G W ts (deeper d p ts)
+pub deeper_answers : {B : Type 0} {G W : Tokens → B → Type 0} (x : TokenClass) → Spelled x → (d : ℕ) (p : Reader B) (ts : Tokens) → class_of (ahead ts) ≡ x → Begins G [] → ((t : Token) → Is x t → Begins W (t ∷ [])) → (1 ≤ d → Answers G W ts (p ts)) → Answers G W ts (deeper d p ts)
 deeper_answers x w zero p [] e least begun a = absurd (w.real e)
 deeper_answers {G = G} {W = W} x w zero p (t ∷ ts) e least begun a = record { fact = stop_deep G W [] t ts least (begun t (record { same = e })) }
 deeper_answers x w (suc d) p ts e least begun a = a (omega arith)
 
 -- ---- items
 
-repeat_up : {A B : Type 0} {F V : Tokens → A → Type 0} {begins : Sign → Bool} {add : B → A → B} → ((u : Tokens) (x : A) → F u x → V u x) → {acc y : B} {u : Tokens} → Repeat F begins add acc u y → Repeat V begins add acc u y
+repeat_up : {A B : Type 0} {F V : Tokens → A → Type 0} {begins : TokenClass → Bool} {add : B → A → B} → ((u : Tokens) (x : A) → F u x → V u x) → {acc y : B} {u : Tokens} → Repeat F begins add acc u y → Repeat V begins add acc u y
 repeat_up f r.none = r.none
 repeat_up f (r.more {u = u} {x = x} a m) = r.more (f u x a) (repeat_up f m)
 
 -- the reader of an item stands before a token that begins one
-pub many_rule : {A B : Type 0} (F V : Tokens → A → Type 0) (begins : Sign → Bool) (item : Reader A) (add : B → A → B) → ((u : Tokens) (x : A) → F u x → V u x) → ((ts : Tokens) → begins (sign_of (ahead ts)) ≡ true → Answers F V ts (item ts))
+pub many_rule : {A B : Type 0} (F V : Tokens → A → Type 0) (begins : TokenClass → Bool) (item : Reader A) (add : B → A → B) → ((u : Tokens) (x : A) → F u x → V u x) → ((ts : Tokens) → begins (class_of (ahead ts)) ≡ true → Answers F V ts (item ts))
     → (n : ℕ) (acc : B) → Rule (Repeat F begins add acc) (Repeat V begins add acc) (many begins item add n acc)
 unfolding many
 many_rule F V begins item add up law zero acc = record { least = record { more = []; value = acc; spelt = r.none }; up = λ u y m. repeat_up up m; answers = λ ts. fails (record { more = []; value = acc; spelt = r.none }) }
-many_rule {A} {B} F V begins item add up law (suc n) acc = record { least = record { more = []; value = acc; spelt = r.none }; up = λ u y m. repeat_up up m; answers = λ ts. by_test ts (begins (sign_of (ahead ts))) refl (λ x. many_rule F V begins item add up law n (add acc x)) }
+many_rule {A} {B} F V begins item add up law (suc n) acc = record { least = record { more = []; value = acc; spelt = r.none }; up = λ u y m. repeat_up up m; answers = λ ts. by_test ts (begins (class_of (ahead ts))) refl (λ x. many_rule F V begins item add up law n (add acc x)) }
   where
     to_more : (H : Tokens → A → Type 0) (u : Tokens) (y : B) → Both H (λ x. Repeat H begins add (add acc x)) u y → Repeat H begins add acc u y
     to_more H u y (both f m) = r.more f m
 
-    by_test : (ts : Tokens) (b : Bool) → begins (sign_of (ahead ts)) ≡ b → ((x : A) → Rule (Repeat F begins add (add acc x)) (Repeat V begins add (add acc x)) (many begins item add n (add acc x)))
+    by_test : (ts : Tokens) (b : Bool) → begins (class_of (ahead ts)) ≡ b → ((x : A) → Rule (Repeat F begins add (add acc x)) (Repeat V begins add (add acc x)) (many begins item add n (add acc x)))
         → Answers (Repeat F begins add acc) (Repeat V begins add acc) ts (cond {A = Reader B} b (λ ts. and_then (item ts) (λ x. many begins item add n (add acc x))) (λ ts. Got acc ts) ts)
     by_test ts true e next = into (to_more F) (to_more V) (seq_at {F = F} {V = V} {G = λ x. Repeat F begins add (add acc x)} {W = λ x. Repeat V begins add (add acc x)} up (law ts e) next)
     by_test ts false e next = record { fact = ([], refl, r.none) }

@@ -14,9 +14,10 @@ use Rattle.sd_parse.specs.Programs.{Spells}
 use Rattle.sd_parse.specs.Refusals as rule
 use Rattle.sd_parse.specs.Refusals.{Verdict, Read, IsVerdict}
 use Rattle.sd_parse.specs.Counts.{procedures}
-use Rattle.sd_parse.specs.Answer.{end_of, IsStar, IsAnswer, IsParsed, IsReading, OneAnswer}
+use Rattle.sd_parse.specs.Answer.{end_of, IsStar, IsAnswer, IsParsed, IsReading}
+use Rattle.sd_parse.specs.Laws.{OneAnswer}
 use Rattle.sd_parse.proofs.Exact.{one_verdict}
-use Rattle.sd_parse.proofs.TextLemmas.{one_tree}
+use Rattle.sd_parse.proofs.ProgramExact.{one_tree}
 
 module _ (ts : Tokens) (end : Place) where
   one : (v w : Verdict Program) → IsVerdict Spells 200 ts end v → IsVerdict Spells 200 ts end w → v ≡ w

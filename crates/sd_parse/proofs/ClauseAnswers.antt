@@ -5,17 +5,17 @@ use Rattle.sd_base.specs.declared.Place.{Place}
 use Rattle.sd_base.specs.Value.{Text}
 use Rattle.sd_lex.specs.declared.Token.{Token}
 use Rattle.sd_ast.specs.declared.Expr.{Expr}
-use Rattle.sd_parse.specs.declared.sign.Sign.{Sign}
-use Rattle.sd_parse.specs.declared.sign.Sign.TheVariants as s
+use Rattle.sd_parse.specs.declared.class.TokenClass.{TokenClass}
+use Rattle.sd_parse.specs.declared.class.TokenClass.TheVariants as s
 use Rattle.sd_parse.specs.Grammar.{Tokens, Whole, Is}
 use Rattle.sd_parse.specs.Clauses as c
 use Rattle.sd_parse.specs.Clauses.{Expression, Attributes, Claim}
 use Rattle.sd_parse.specs.Statements.{Names}
-use Rattle.sd_parse.specs.Reading.{Syntax, Deep, Got, Bad, Reader, Tall, and_then, ahead, sign_of, begins, read}
+use Rattle.sd_parse.specs.Reading.{Syntax, Deep, Got, Bad, Reader, MeasuredExpr, and_then, ahead, class_of, begins, read}
 use Rattle.sd_parse.specs.ReadingRows.{is, keep, plain_name, names}
 use Rattle.sd_parse.specs.ReadingRows as reading
 use Rattle.sd_parse.specs.ReadingClauses.{expression, datum_by, datum, next_datum, more_data, contents_by, contents, attribute, attributes, claim}
-use Rattle.sd_parse.proofs.Sound.{Repeat, same_is}
+use Rattle.sd_parse.proofs.Texts.{Repeat, same_is}
 use Rattle.sd_parse.proofs.Spelling.{Spelled, spelled}
 use Rattle.sd_parse.proofs.Algebra.{Begins, Answers, Rule, begins_map, into, seq, done, rule_into, want_rule, name_rule, after, wide}
 use Rattle.sd_parse.proofs.ExpressionAnswers.{Within, filler, filled, begun, read_rule}
@@ -34,9 +34,9 @@ expression_rule d pos = rule_into (to_expression d) (to_expression (wide d)) (lo
 
 expression_floor : (ts : Tokens) → Refuses (Low Expression 2) ts (expression 0 ts)
 unfolding expression read
-expression_floor ts = by_test ts (begins (sign_of (ahead ts))) refl
+expression_floor ts = by_test ts (begins (class_of (ahead ts))) refl
   where
-    by_test : (ts : Tokens) (b : Bool) → begins (sign_of (ahead ts)) ≡ b → Refuses (Low Expression 2) ts (and_then (cond {A = Reader Tall} b (λ ts. Bad Deep ts) (λ ts. Bad Syntax ts) ts) (λ e ts. Got e.0 ts))
+    by_test : (ts : Tokens) (b : Bool) → begins (class_of (ahead ts)) ≡ b → Refuses (Low Expression 2) ts (and_then (cond {A = Reader MeasuredExpr} b (λ ts. Bad Deep ts) (λ ts. Bad Syntax ts) ts) (λ e ts. Got e.0 ts))
     by_test [] true e = absurd (cc)
     by_test (t ∷ ts) true e = too_deep t ts refl refl (begins_map (Within 2 Whole) (Low Expression 2) (λ x. x.0) (t ∷ []) (λ u x w. record { height = x.1; spelt = c.whole w.phrase; low = w.low }) (begun 0 t e))
     by_test ts false e = refused refl
@@ -59,15 +59,15 @@ some_brace = spelled s.CloseBrace (λ e. cc)
 module _ (d : ℕ) (pos : 1 ≤ d) where
   datum_rule : Rule (Low DatumText d) (Low DatumText (wide d)) (datum d)
   unfolding datum
-  datum_rule = record { least = record { more = some_text.token ∷ []; value = tt; spelt = record { height = 0; spelt = c.text some_text.is; low = omega arith } }; up = low_wide DatumText d; answers = λ ts. by_sign ts (sign_of (ahead ts)) refl }
+  datum_rule = record { least = record { more = some_text.token ∷ []; value = tt; spelt = record { height = 0; spelt = c.text some_text.is; low = omega arith } }; up = low_wide DatumText d; answers = λ ts. by_class ts (class_of (ahead ts)) refl }
     where
-      by_sign : (ts : Tokens) (x : Sign) → sign_of (ahead ts) ≡ x → Answers (Low DatumText d) (Low DatumText (wide d)) ts (datum_by d x ts)
-      by_sign ts s.Text e = into (to_text d) (to_text (wide d)) (after s.Text some_text ts e (λ _. done tt))
-      by_sign ts _ e = into (to_datum d) (to_datum (wide d)) ((seq (expression_rule d pos) (λ _. done tt)).answers ts)
+      by_class : (ts : Tokens) (x : TokenClass) → class_of (ahead ts) ≡ x → Answers (Low DatumText d) (Low DatumText (wide d)) ts (datum_by d x ts)
+      by_class ts s.Text e = into (to_text d) (to_text (wide d)) (after s.Text some_text ts e (λ _. done tt))
+      by_class ts _ e = into (to_datum d) (to_datum (wide d)) ((seq (expression_rule d pos) (λ _. done tt)).answers ts)
 
-  next_answers : (ts : Tokens) → is s.Comma (sign_of (ahead ts)) ≡ true → Answers (Next (Low DatumText d)) (Next (Low DatumText (wide d))) ts (next_datum d ts)
+  next_answers : (ts : Tokens) → is s.Comma (class_of (ahead ts)) ≡ true → Answers (Next (Low DatumText d)) (Next (Low DatumText (wide d))) ts (next_datum d ts)
   unfolding next_datum
-  next_answers ts e = into (to_next d) (to_next (wide d)) (after s.Comma some_comma ts (same_is (sign_of (ahead ts)) s.Comma e) (λ _. datum_rule))
+  next_answers ts e = into (to_next d) (to_next (wide d)) (after s.Comma some_comma ts (same_is (class_of (ahead ts)) s.Comma e) (λ _. datum_rule))
 
   next_up : (u : Tokens) (x : Unit {0}) → Next (Low DatumText d) u x → Next (Low DatumText (wide d)) u x
   next_up w x (next {u = u} i f) = next i (low_wide DatumText d u x f)
@@ -82,15 +82,15 @@ module _ (d : ℕ) (pos : 1 ≤ d) where
 
   contents_rule : Rule (Contents d) (Contents (wide d)) (contents d)
   unfolding contents
-  contents_rule = record { least = record { more = []; value = tt; spelt = empty }; up = contents_up; answers = λ ts. by_sign ts (sign_of (ahead ts)) refl }
+  contents_rule = record { least = record { more = []; value = tt; spelt = empty }; up = contents_up; answers = λ ts. by_class ts (class_of (ahead ts)) refl }
     where
-      by_sign : (ts : Tokens) (x : Sign) → sign_of (ahead ts) ≡ x → Answers (Contents d) (Contents (wide d)) ts (contents_by d x ts)
-      by_sign ts s.CloseBrace e = record { fact = ([], refl, empty) }
-      by_sign ts _ e = into (to_given d) (to_given (wide d)) ((seq datum_rule (λ _. data_rule)).answers ts)
+      by_class : (ts : Tokens) (x : TokenClass) → class_of (ahead ts) ≡ x → Answers (Contents d) (Contents (wide d)) ts (contents_by d x ts)
+      by_class ts s.CloseBrace e = record { fact = ([], refl, empty) }
+      by_class ts _ e = into (to_given d) (to_given (wide d)) ((seq datum_rule (λ _. data_rule)).answers ts)
 
-  attribute_answers : (ts : Tokens) → is s.OpenAttribute (sign_of (ahead ts)) ≡ true → Answers (Low AttributeText d) (Low AttributeText (wide d)) ts (attribute d ts)
+  attribute_answers : (ts : Tokens) → is s.OpenAttribute (class_of (ahead ts)) ≡ true → Answers (Low AttributeText d) (Low AttributeText (wide d)) ts (attribute d ts)
   unfolding attribute
-  attribute_answers ts e = into (to_attribute d) (to_attribute (wide d)) (after s.OpenAttribute (spelled s.OpenAttribute (λ e. cc)) ts (same_is (sign_of (ahead ts)) s.OpenAttribute e) (λ _. seq name_rule (λ _. seq contents_rule (λ _. seq (want_rule s.CloseBrace some_brace) (λ _. done tt)))))
+  attribute_answers ts e = into (to_attribute d) (to_attribute (wide d)) (after s.OpenAttribute (spelled s.OpenAttribute (λ e. cc)) ts (same_is (class_of (ahead ts)) s.OpenAttribute e) (λ _. seq name_rule (λ _. seq contents_rule (λ _. seq (want_rule s.CloseBrace some_brace) (λ _. done tt)))))
 
   pub attributes_rule : Rule (AttributesText d) (AttributesText (wide d)) (attributes d)
   unfolding attributes
@@ -99,16 +99,16 @@ module _ (d : ℕ) (pos : 1 ≤ d) where
 
 -- ---- claims
 
-pub claim_wide : (limit d : ℕ) (word : Sign) (u : Tokens) (x : Place × Expr) → Low (Claim limit word) d u x → Low (Claim (wide limit) word) (wide d) u x
+pub claim_wide : (limit d : ℕ) (word : TokenClass) (u : Tokens) (x : Place × Expr) → Low (Claim limit word) d u x → Low (Claim (wide limit) word) (wide d) u x
 claim_wide limit d word u x w = record { height = w.height; spelt = claim_more (omega arith) w.spelt; low = let z = w.low in omega arith }
 
-pub claim_rule : (limit d : ℕ) (word : Sign) → 1 ≤ limit → 1 ≤ d → Spelled word → Rule (Low (Claim limit word) d) (Low (Claim (wide limit) word) (wide d)) (claim limit d word)
+pub claim_rule : (limit d : ℕ) (word : TokenClass) → 1 ≤ limit → 1 ≤ d → Spelled word → Rule (Low (Claim limit word) d) (Low (Claim (wide limit) word) (wide d)) (claim limit d word)
 unfolding claim
 claim_rule limit d word lim pos some = rule_into (to_claim limit d word) (to_claim (wide limit) (wide d) word) (claim_wide limit d word)
     (seq (want_rule word some) (λ p. seq (attributes_rule limit lim) (λ _. seq (expression_rule d pos) (λ e. seq (want_rule s.Semi (spelled s.Semi (λ e. cc))) (λ _. done (p, e))))))
 
 -- the least claim, from its word on
-pub claim_begins : (limit d : ℕ) (word : Sign) → 1 ≤ d → (t : Token) → Is word t → Begins (Low (Claim limit word) d) (t ∷ [])
+pub claim_begins : (limit d : ℕ) (word : TokenClass) → 1 ≤ d → (t : Token) → Is word t → Begins (Low (Claim limit word) d) (t ∷ [])
 claim_begins limit d word pos t i =
     let semi : Spelled s.Semi = spelled s.Semi (λ e. cc) in
     record { more = filler ∷ semi.token ∷ []; value = (t.at, _); spelt = record { height = 1; spelt = c.claim i c.none (c.whole (filled Whole)) semi.is; low = pos } }

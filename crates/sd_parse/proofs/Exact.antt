@@ -61,7 +61,7 @@ module _ {A : Type 0} {L : ℕ → Tokens → A → Type 0} {limit : ℕ} {p : �
   syntax_at ts end rest e = go rest e (subst (AnswersStep (L limit) (L (wide limit)) [] ts) e (laws.answers ts).fact)
     where
       go : (rest : Tokens) → p limit ts ≡ Bad Syntax rest → AnswersStep (L limit) (L (wide limit)) [] ts (Bad Syntax rest) → IsSyntax L limit ts end (place_of end rest)
-      go [] e a = rule.at_end (subst (BeginsWithin L limit) (sym (a.1 ∙ append-nil a.0)) (within a.0 a.2)) (no_end ts e)
+      go [] e a = rule.missing_at_end (subst (BeginsWithin L limit) (sym (a.1 ∙ append-nil a.0)) (within a.0 a.2)) (no_end ts e)
       go (t ∷ r) e a = rule.IsSyntax.at_token t r a.1 (within a.0 a.2) (no_more a.0 t r (ap (p limit) (sym a.1) ∙ e))
 
   pub deep_at : (ts : Tokens) (end : Place) (rest : Tokens) → p limit ts ≡ Bad Deep rest → IsDeep L limit ts (place_of end rest)
@@ -135,7 +135,7 @@ module _ {A : Type 0} (L : ℕ → Tokens → A → Type 0) (limit : ℕ) (ts : 
   module _ (end : Place) (one : (x y : A) → L limit ts x → L limit ts y → x ≡ y) where
     read_not_syntax : (x : A) (at : Place) → L limit ts x → IsSyntax L limit ts end at → ⊥
     read_not_syntax x at w (rule.IsSyntax.at_token {u = u} t r e b none) = none_refused (whole_begins x w) (record { split = e; sofar = b; refused = of_some (u ++ t ∷ []) none })
-    read_not_syntax x at w (rule.at_end b none) = none limit x w
+    read_not_syntax x at w (rule.missing_at_end b none) = none limit x w
 
     read_not_deep : (x : A) (at : Place) → L limit ts x → IsDeep L limit ts at → ⊥
     read_not_deep x at w (rule.IsDeep.at_token {u = u} t r e b some none) = none_refused (whole_begins x w) (record { split = e; sofar = b; refused = none })
@@ -144,14 +144,14 @@ module _ {A : Type 0} (L : ℕ → Tokens → A → Type 0) (limit : ℕ) (ts : 
     syntax_not_deep p q (rule.IsSyntax.at_token {u = u} t r e b none) (rule.IsDeep.at_token {u = v} s m f c some high) =
         let same = one_token (record { split = e; sofar = b; refused = of_some (u ++ t ∷ []) none }) (record { split = f; sofar = c; refused = high }) in
         none (subst (λ u. BeginsSome L (u ++ t ∷ [])) (sym same.0) (subst (λ s. BeginsSome L (v ++ s ∷ [])) (sym same.1) some))
-    syntax_not_deep p q (rule.at_end b none) (rule.IsDeep.at_token {u = v} s m f c some high) = none_refused b (record { split = f; sofar = c; refused = high })
+    syntax_not_deep p q (rule.missing_at_end b none) (rule.IsDeep.at_token {u = v} s m f c some high) = none_refused b (record { split = f; sofar = c; refused = high })
 
     one_syntax : (p q : Place) → IsSyntax L limit ts end p → IsSyntax L limit ts end q → p ≡ q
     one_syntax p q (rule.IsSyntax.at_token {u = u} t r e b none) (rule.IsSyntax.at_token {u = v} s m f c other) =
         ap (λ t. t.at) (one_token (record { split = e; sofar = b; refused = of_some (u ++ t ∷ []) none }) (record { split = f; sofar = c; refused = of_some (v ++ s ∷ []) other })).1
-    one_syntax p q (rule.IsSyntax.at_token {u = u} t r e b none) (rule.at_end c other) = absurd (none_refused c (record { split = e; sofar = b; refused = of_some (u ++ t ∷ []) none }))
-    one_syntax p q (rule.at_end b none) (rule.IsSyntax.at_token {u = v} s m f c other) = absurd (none_refused b (record { split = f; sofar = c; refused = of_some (v ++ s ∷ []) other }))
-    one_syntax p q (rule.at_end b none) (rule.at_end c other) = refl
+    one_syntax p q (rule.IsSyntax.at_token {u = u} t r e b none) (rule.missing_at_end c other) = absurd (none_refused c (record { split = e; sofar = b; refused = of_some (u ++ t ∷ []) none }))
+    one_syntax p q (rule.missing_at_end b none) (rule.IsSyntax.at_token {u = v} s m f c other) = absurd (none_refused b (record { split = f; sofar = c; refused = of_some (v ++ s ∷ []) other }))
+    one_syntax p q (rule.missing_at_end b none) (rule.missing_at_end c other) = refl
 
     one_deep : (p q : Place) → IsDeep L limit ts p → IsDeep L limit ts q → p ≡ q
     one_deep p q (rule.IsDeep.at_token {u = u} t r e b some none) (rule.IsDeep.at_token {u = v} s m f c other high) =

@@ -9,7 +9,7 @@ use Rattle.sd_ast.specs.declared.Stmt.{Stmt}
 use Rattle.sd_ast.specs.declared.Body.{Body}
 use Rattle.sd_ast.specs.declared.Spec.{Spec}
 use Rattle.sd_ast.specs.declared.Decl.{Decl}
-use Rattle.sd_parse.specs.declared.sign.Sign.{Sign}
+use Rattle.sd_parse.specs.declared.class.TokenClass.{TokenClass}
 use Rattle.sd_parse.specs.Grammar.{Tokens}
 use Rattle.sd_parse.specs.Rows as w
 use Rattle.sd_parse.specs.Rows.{Row, Joined}
@@ -33,10 +33,10 @@ module _ {a b : ℕ} (above : a ≤ b) where
   attributes_more c.none = c.none
   attributes_more (c.more f low m) = c.more f (omega arith) (attributes_more m)
 
-  pub claim_more : {word : Sign} {u : Tokens} {x : Place × Expr} {h : ℕ} → Claim a word u x h → Claim b word u x h
+  pub claim_more : {word : TokenClass} {u : Tokens} {x : Place × Expr} {h : ℕ} → Claim a word u x h → Claim b word u x h
   claim_more (c.claim i l e j) = c.claim i (attributes_more l) e j
 
-  pub clause_more : {word : Sign} {u : Tokens} {f : Bool} {e : Expr} {h : ℕ} → Clause a word u f e h → Clause b word u f e h
+  pub clause_more : {word : TokenClass} {u : Tokens} {f : Bool} {e : Expr} {h : ℕ} → Clause a word u f e h → Clause b word u f e h
   clause_more (c.checked k) = c.checked (claim_more k)
   clause_more (c.free i k) = c.free i (claim_more k)
 

@@ -7,10 +7,11 @@ use Rattle.sd_base.specs.Value.{Text}
 use Rattle.sd_lex.specs.declared.Token.{Token}
 use Rattle.sd_lex.specs.declared.TokenKind.{TokenKind}
 use Rattle.sd_lex.specs.declared.TokenKind.TheVariants as kind
-use Rattle.sd_parse.specs.declared.sign.Sign.{Sign}
-use Rattle.sd_parse.specs.Signs.{same_sign}
+use Rattle.sd_parse.specs.declared.class.TokenClass.{TokenClass}
+use Rattle.sd_parse.specs.declared.class.TokenClass.TheVariants as s
+use Rattle.sd_parse.specs.TokenClasses.{class, same_class}
 use Rattle.sd_parse.specs.Grammar.{Tokens}
-use Rattle.sd_parse.specs.Reading.{Fault, Syntax, Deep, Step, Got, Bad, Reader, and_then, ahead, sign_of, bad, skip, want, name_by, name, number_by, number, many, all, deeper}
+use Rattle.sd_parse.specs.Reading.{Fault, Syntax, Deep, Step, Got, Bad, Reader, and_then, ahead, class_of, bad, skip, want, name_by, name, number_by, number, many, all, deeper}
 
 abbrev pub rest_of : {A : Type 0} → Step A → Tokens
 rest_of (Got x rest) = rest
@@ -69,55 +70,90 @@ first_blind : {A : Type 0} (o : Option A) (t : Token) (v w : Tokens) → rest_of
 first_blind None t v w e = refl
 first_blind (Some x) t v w e = absurd (let z = ap length e in omega arith)
 
-local_one : {A : Type 0} (f : Token → Option A) → Local (one f)
-local_one {A} f = record { suffix = suffix; blind = blind }
+-- what was got took a token at least
+pub record Takes {A : Type 0} (p : Reader A) : Type 0 where
+  pub shorter : (ts : Tokens) (x : A) (rest : Tokens) → p ts ≡ Got x rest → length rest < length ts
+
+one_shorter : {A : Type 0} (o : Option A) (t : Token) (ts : Tokens) (x : A) (rest : Tokens) → one_by o t ts ≡ Got x rest → length rest < suc (length ts)
+one_shorter None t ts x rest e = absurd (cc)
+one_shorter (Some y) t ts x rest e = let same : ts ≡ rest = cc in let z = ap length same in omega arith
+
+module _ {A : Type 0} (p : Reader A) (f : Token → Option A) (same : (ts : Tokens) → p ts ≡ one f ts) where
+  one_local : Local (one f)
+  one_local = record { suffix = suffix; blind = blind }
+    where
+      suffix : (ts : Tokens) → (u : Tokens) × (ts ≡ u ++ rest_of (one f ts))
+      suffix [] = ([], refl)
+      suffix (t ∷ ts) = one_suffix (f t) t ts
+
+      blind : (u : Tokens) (t : Token) (v w : Tokens) → rest_of (one f (u ++ t ∷ v)) ≡ t ∷ v → one f (u ++ t ∷ w) ≡ before (one f (u ++ t ∷ v)) (t ∷ w)
+      blind [] t v w e = first_blind (f t) t v w e
+      blind (a ∷ u) t v w e = one_blind (f a) a u t v w e
+
+  token_local : Local p
+  token_local = local_same p (one f) same one_local
+
+  token_takes : Takes p
+  token_takes = record { shorter = shorter }
+    where
+      shorter : (ts : Tokens) (x : A) (rest : Tokens) → p ts ≡ Got x rest → length rest < length ts
+      shorter [] x rest e = absurd (let z : Bad Syntax [] ≡ Got x rest = sym (same []) ∙ e in cc)
+      shorter (t ∷ ts) x rest e = one_shorter (f t) t ts x rest (sym (same (t ∷ ts)) ∙ e)
+
+-- a reader of one token
+pub record OneToken {A : Type 0} (p : Reader A) : Type 0 where
+  pub local : Local p
+  pub takes : Takes p
+
+one_token : {A : Type 0} (p : Reader A) (f : Token → Option A) → ((ts : Tokens) → p ts ≡ one f ts) → OneToken p
+one_token p f same = record { local = token_local p f same; takes = token_takes p f same }
+
+pub one_skip : OneToken skip
+one_skip = one_token skip (λ t. Some t.at) by_tokens
   where
-    suffix : (ts : Tokens) → (u : Tokens) × (ts ≡ u ++ rest_of (one f ts))
-    suffix [] = ([], refl)
-    suffix (t ∷ ts) = one_suffix (f t) t ts
-
-    blind : (u : Tokens) (t : Token) (v w : Tokens) → rest_of (one f (u ++ t ∷ v)) ≡ t ∷ v → one f (u ++ t ∷ w) ≡ before (one f (u ++ t ∷ v)) (t ∷ w)
-    blind [] t v w e = first_blind (f t) t v w e
-    blind (a ∷ u) t v w e = one_blind (f a) a u t v w e
-
-skip_one : (ts : Tokens) → skip ts ≡ one (λ t. Some t.at) ts
-skip_one [] = refl
-skip_one (t ∷ ts) = refl
-
-pub local_skip : Local skip
-local_skip = local_same skip (one (λ t. Some t.at)) skip_one (local_one (λ t. Some t.at))
+    by_tokens : (ts : Tokens) → skip ts ≡ one (λ t. Some t.at) ts
+    by_tokens [] = refl
+    by_tokens (t ∷ ts) = refl
 
 abbrev name_in : Token → TokenKind → Option (Text × Place)
 name_in t (kind.Ident x) = Some (x, t.at)
 name_in t _ = None
 
-name_kind : (t : Token) (ts : Tokens) (k : TokenKind) → name_by t ts k ≡ one_by (name_in t k) t ts
-name_kind t ts (kind.Ident x) = refl
-name_kind t ts _ = refl
-
-name_one : (ts : Tokens) → name ts ≡ one (λ t. name_in t t.kind) ts
+pub one_name : OneToken name
 unfolding name
-name_one [] = refl
-name_one (t ∷ ts) = name_kind t ts t.kind
+one_name = one_token name (λ t. name_in t t.kind) by_tokens
+  where
+    by_kind : (t : Token) (ts : Tokens) (k : TokenKind) → name_by t ts k ≡ one_by (name_in t k) t ts
+    by_kind t ts (kind.Ident x) = refl
+    by_kind t ts _ = refl
 
-pub local_name : Local name
-local_name = local_same name (one (λ t. name_in t t.kind)) name_one (local_one (λ t. name_in t t.kind))
+    by_tokens : (ts : Tokens) → name ts ≡ one (λ t. name_in t t.kind) ts
+    by_tokens [] = refl
+    by_tokens (t ∷ ts) = by_kind t ts t.kind
 
 abbrev number_in : Token → TokenKind → Option (ℕ × Place)
 number_in t (kind.Number n) = Some (n, t.at)
 number_in t _ = None
 
-number_kind : (t : Token) (ts : Tokens) (k : TokenKind) → number_by t ts k ≡ one_by (number_in t k) t ts
-number_kind t ts (kind.Number n) = refl
-number_kind t ts _ = refl
-
-number_one : (ts : Tokens) → number ts ≡ one (λ t. number_in t t.kind) ts
+pub one_number : OneToken number
 unfolding number
-number_one [] = refl
-number_one (t ∷ ts) = number_kind t ts t.kind
+one_number = one_token number (λ t. number_in t t.kind) by_tokens
+  where
+    by_kind : (t : Token) (ts : Tokens) (k : TokenKind) → number_by t ts k ≡ one_by (number_in t k) t ts
+    by_kind t ts (kind.Number n) = refl
+    by_kind t ts _ = refl
 
-pub local_number : Local number
-local_number = local_same number (one (λ t. number_in t t.kind)) number_one (local_one (λ t. number_in t t.kind))
+    by_tokens : (ts : Tokens) → number ts ≡ one (λ t. number_in t t.kind) ts
+    by_tokens [] = refl
+    by_tokens (t ∷ ts) = by_kind t ts t.kind
+
+pub one_want : (x : TokenClass) → OneToken (want x)
+unfolding want
+one_want x = one_token (want x) (λ t. cond (same_class (class t) x) (Some t.at) None) by_tokens
+  where
+    by_tokens : (ts : Tokens) → want x ts ≡ one (λ t. cond (same_class (class t) x) (Some t.at) None) ts
+    by_tokens [] = elim (same_class s.Other x) as (λ b. cond {A = Reader Place} b skip (bad Syntax) [] ≡ Bad Syntax []) [ true ↦ refl | false ↦ refl ]
+    by_tokens (t ∷ ts) = elim (same_class (class t) x) as (λ b. cond {A = Reader Place} b skip (bad Syntax) (t ∷ ts) ≡ one_by (cond b (Some t.at) None) t ts) [ true ↦ refl | false ↦ refl ]
 
 -- ---- one reader after another
 
@@ -152,6 +188,18 @@ module _ {A B : Type 0} (p : Reader A) (f : A → Reader B) (lp : Local p) (lf :
     blind = λ u t v w r. let y = lp.suffix (u ++ t ∷ v) in bind_blind u t v w (p (u ++ t ∷ v)) y.0 refl y.1 r;
   }
 
+  pub takes_bind : Takes p → Takes (λ ts. and_then (p ts) f)
+  takes_bind takes = record { shorter = λ ts x rest e. by_step ts (p ts) refl x rest e }
+    where
+      by_step : (ts : Tokens) (s : Step A) → p ts ≡ s → (x : B) (rest : Tokens) → and_then s f ≡ Got x rest → length rest < length ts
+      by_step ts (Bad k r) g x rest e = absurd (cc)
+      by_step ts (Got y r) g x rest e =
+          let less : length r < length ts = takes.shorter ts y r g in
+          let z = (lf y).suffix r in
+          let size = ap length (z.1 ∙ ap (λ s. z.0 ++ rest_of s) e) in
+          let sum = length-append z.0 rest in
+          omega arith
+
 look_blind : {A : Type 0} (f : Option Token → Reader A) → ((o : Option Token) → Local (f o)) → (u : Tokens) (t : Token) (v w : Tokens) → rest_of (f (ahead (u ++ t ∷ v)) (u ++ t ∷ v)) ≡ t ∷ v
     → f (ahead (u ++ t ∷ w)) (u ++ t ∷ w) ≡ before (f (ahead (u ++ t ∷ v)) (u ++ t ∷ v)) (t ∷ w)
 look_blind f lf [] t v w e = (lf (Some t)).blind [] t v w e
@@ -164,38 +212,17 @@ pub local_if : {A : Type 0} (b : Bool) (p q : Reader A) → Local p → Local q 
 local_if true p q lp lq = lp
 local_if false p q lp lq = lq
 
-pub local_want : (x : Sign) → Local (want x)
-unfolding want
-local_want x = local_look (λ t. cond (same_sign (sign_of t) x) skip (bad Syntax)) (λ t. local_if (same_sign (sign_of t) x) skip (bad Syntax) local_skip (local_bad Syntax))
-
 pub local_deeper : {A : Type 0} (d : ℕ) (p : Reader A) → Local p → Local (deeper d p)
 local_deeper zero p lp = local_bad Deep
 local_deeper (suc d) p lp = lp
 
 -- ---- items
 
--- what was got took a token at least
-pub record Takes {A : Type 0} (p : Reader A) : Type 0 where
-  pub shorter : (ts : Tokens) (x : A) (rest : Tokens) → p ts ≡ Got x rest → length rest < length ts
-
--- a token, and then another reader
-pub skip_takes : {A : Type 0} (f : Place → Reader A) → ((p : Place) → Local (f p)) → Takes (λ ts. and_then (skip ts) f)
-skip_takes {A} f lf = record { shorter = shorter }
-  where
-    shorter : (ts : Tokens) (x : A) (rest : Tokens) → and_then (skip ts) f ≡ Got x rest → length rest < length ts
-    shorter [] x rest e = absurd (cc)
-    shorter (t ∷ ts) x rest e =
-        let y = (lf t.at).suffix ts in
-        let split : ts ≡ y.0 ++ rest = y.1 ∙ ap (λ s. y.0 ++ rest_of s) e in
-        let size = ap length split in
-        let sum = length-append y.0 rest in
-        omega arith
-
-module _ {A B : Type 0} (begins : Sign → Bool) (item : Reader A) (add : B → A → B) where
+module _ {A B : Type 0} (begins : TokenClass → Bool) (item : Reader A) (add : B → A → B) where
   pub local_many : Local item → (n : ℕ) (acc : B) → Local (many begins item add n acc)
   unfolding many
   local_many li zero acc = local_bad Syntax
-  local_many li (suc n) acc = local_look _ (λ t. by_test (begins (sign_of t)) (λ x. local_many li n (add acc x)))
+  local_many li (suc n) acc = local_look _ (λ t. by_test (begins (class_of t)) (λ x. local_many li n (add acc x)))
     where
       by_test : (b : Bool) → ((x : A) → Local (many begins item add n (add acc x))) → Local (cond {A = Reader B} b (λ ts. and_then (item ts) (λ x. many begins item add n (add acc x))) (λ ts. Got acc ts))
       by_test true next = local_bind item _ li next
@@ -206,7 +233,7 @@ module _ {A B : Type 0} (begins : Sign → Bool) (item : Reader A) (add : B → 
   unfolding many
   many_fuel takes zero m acc ts h k = absurd (omega arith)
   many_fuel takes (suc n) zero acc ts h k = absurd (omega arith)
-  many_fuel takes (suc n) (suc m) acc ts h k = by_test (begins (sign_of (ahead ts))) (λ x rest less. many_fuel takes n m (add acc x) rest (omega arith) (omega arith))
+  many_fuel takes (suc n) (suc m) acc ts h k = by_test (begins (class_of (ahead ts))) (λ x rest less. many_fuel takes n m (add acc x) rest (omega arith) (omega arith))
     where
       by_step : (s : Step A) → item ts ≡ s → ((x : A) (rest : Tokens) → length rest < length ts → many begins item add n (add acc x) rest ≡ many begins item add m (add acc x) rest)
           → and_then s (λ x. many begins item add n (add acc x)) ≡ and_then s (λ x. many begins item add m (add acc x))

@@ -10,8 +10,8 @@ use Rattle.sd_ast.specs.declared.Spec.{Spec}
 use Rattle.sd_ast.specs.declared.Spec.TheVariants as spec
 use Rattle.sd_ast.specs.declared.Decl.{Decl}
 use Rattle.sd_ast.specs.declared.Decl.TheVariants as decl
-use Rattle.sd_parse.specs.declared.sign.Sign.{Sign}
-use Rattle.sd_parse.specs.declared.sign.Sign.TheVariants as s
+use Rattle.sd_parse.specs.declared.class.TokenClass.{TokenClass}
+use Rattle.sd_parse.specs.declared.class.TokenClass.TheVariants as s
 use Rattle.sd_parse.specs.Grammar.{Tokens}
 use Rattle.sd_parse.specs.Rows as w
 use Rattle.sd_parse.specs.Rows.{Row, Joined, Enclosed}
@@ -19,12 +19,12 @@ use Rattle.sd_parse.specs.Types as ty
 use Rattle.sd_parse.specs.Types.{TypeText}
 use Rattle.sd_parse.specs.Programs as p
 use Rattle.sd_parse.specs.Programs.{variables, Vars, VarLine, Parameters, Results, HeadText, SpecText, BodyText, Uniqueness, Argument, ResultType, Declaration}
-use Rattle.sd_parse.specs.Reading.{Reader, ahead, sign_of}
+use Rattle.sd_parse.specs.Reading.{Reader, ahead, class_of}
 use Rattle.sd_parse.specs.ReadingRows.{is, join_lists}
 use Rattle.sd_parse.specs.ReadingRows as reading
 use Rattle.sd_parse.specs.ReadingStatements.{statement}
 use Rattle.sd_parse.specs.ReadingPrograms.{begins_spec, begins_declaration, modified_by, modified, modifies, uniqueness_by, uniqueness, typed, group, more_groups, vars, var_line, locals, parameters_by, listed_parameters, parameters, results_by, results, head, required, ensured, condition_by, condition, free_condition, clause_by, clause, clauses, body, named_by, after_name, named_argument, argument_by, argument, returned_type, colon_type, result_by, result_type, types, constants, function, axiom_line, globals, declared, defined, procedure_by, procedure_from, procedure, implementation, declaration_by, declaration, declarations, ended, program}
-use Rattle.sd_parse.proofs.Sound.{Wanted, Both, same_is}
+use Rattle.sd_parse.proofs.Texts.{Wanted, Both, same_is}
 use Rattle.sd_parse.proofs.Spelling.{Spelled, spelled}
 use Rattle.sd_parse.proofs.Algebra.{Begins, AnswersStep, Answers, Rule, bind, begins_map, begins_whole, stop, stop_syntax, into, fails, seq_at, seq, done, rule_into, want_rule, name_rule, after, wide}
 use Rattle.sd_parse.proofs.Lists as lists
@@ -35,8 +35,8 @@ use Rattle.sd_parse.proofs.TypeAnswers.{type_rule}
 use Rattle.sd_parse.proofs.ClauseAnswers.{attributes_rule, claim_wide, claim_rule, names_rule}
 use Rattle.sd_parse.proofs.StatementAnswers.{lift_low, statements_rule, statement_rule}
 use Rattle.sd_parse.proofs.Limits.{var_line_more, spec_more, body_more, declaration_more, specs_more}
-use Rattle.sd_parse.proofs.ProgramSound as made
-use Rattle.sd_parse.proofs.ProgramSound.{TypedPair, GroupText, Closed, Modified, Condition, of_requires, of_ensures, AfterName, colon, nothing_more, ProcedureFrom, declared_from, defined_from}
+use Rattle.sd_parse.proofs.ProgramTexts as made
+use Rattle.sd_parse.proofs.ProgramTexts.{TypedPair, GroupText, Closed, Modified, Condition, of_requires, of_ensures, AfterName, colon, nothing_more, ProcedureFrom, declared_from, defined_from}
 
 some_semi : Spelled s.Semi
 some_semi = spelled s.Semi (λ e. cc)
@@ -60,19 +60,19 @@ some_modifies = spelled s.Modifies (λ e. cc)
 
 uniqueness_rule : Rule Uniqueness Uniqueness uniqueness
 unfolding uniqueness
-uniqueness_rule = record { least = record { more = []; value = false; spelt = p.plain }; up = λ u x i. i; answers = λ ts. by_sign ts (sign_of (ahead ts)) refl }
+uniqueness_rule = record { least = record { more = []; value = false; spelt = p.plain }; up = λ u x i. i; answers = λ ts. by_class ts (class_of (ahead ts)) refl }
   where
-    by_sign : (ts : Tokens) (x : Sign) → sign_of (ahead ts) ≡ x → Answers Uniqueness Uniqueness ts (uniqueness_by x ts)
-    by_sign ts s.Unique e = into made.to_unique made.to_unique (after s.Unique (spelled s.Unique (λ e. cc)) ts e (λ _. done true))
-    by_sign ts _ e = record { fact = ([], refl, p.plain) }
+    by_class : (ts : Tokens) (x : TokenClass) → class_of (ahead ts) ≡ x → Answers Uniqueness Uniqueness ts (uniqueness_by x ts)
+    by_class ts s.Unique e = into made.to_unique made.to_unique (after s.Unique (spelled s.Unique (λ e. cc)) ts e (λ _. done true))
+    by_class ts _ e = record { fact = ([], refl, p.plain) }
 
 modified_rule : Rule Modified Modified modified
 unfolding modified
-modified_rule = record { least = record { more = []; value = []; spelt = made.none }; up = λ u x m. m; answers = λ ts. by_sign ts (sign_of (ahead ts)) }
+modified_rule = record { least = record { more = []; value = []; spelt = made.none }; up = λ u x m. m; answers = λ ts. by_class ts (class_of (ahead ts)) }
   where
-    by_sign : (ts : Tokens) (x : Sign) → Answers Modified Modified ts (modified_by x ts)
-    by_sign ts s.Semi = record { fact = ([], refl, made.none) }
-    by_sign ts _ = into (λ u xs m. made.some m) (λ u xs m. made.some m) (names_rule.answers ts)
+    by_class : (ts : Tokens) (x : TokenClass) → Answers Modified Modified ts (modified_by x ts)
+    by_class ts s.Semi = record { fact = ([], refl, made.none) }
+    by_class ts _ = into (λ u xs m. made.some m) (λ u xs m. made.some m) (names_rule.answers ts)
 
 module _ (d : ℕ) (pos : 1 ≤ d) where
   -- ---- variables
@@ -100,13 +100,13 @@ module _ (d : ℕ) (pos : 1 ≤ d) where
   line_up : (u : Tokens) (xs : List Var) → Low (VarLine d) d u xs → Low (VarLine (wide d)) (wide d) u xs
   line_up = lift_low (var_line_more (omega arith)) d
 
-  line_answers : (ts : Tokens) → sign_of (ahead ts) ≡ s.Var → Answers (Low (VarLine d) d) (Low (VarLine (wide d)) (wide d)) ts (var_line d ts)
+  line_answers : (ts : Tokens) → class_of (ahead ts) ≡ s.Var → Answers (Low (VarLine d) d) (Low (VarLine (wide d)) (wide d)) ts (var_line d ts)
   unfolding var_line
   line_answers ts e = into (made.to_line d) (made.to_line (wide d)) (after s.Var (spelled s.Var (λ e. cc)) ts e (λ _. seq (attributes_rule d pos) (λ _. seq vars_rule (λ ys. seq (want_rule s.Semi some_semi) (λ _. done ys)))))
 
   locals_rule : Rule (Low (Joined (VarLine d)) d) (Low (Joined (VarLine (wide d))) (wide d)) (locals d)
   unfolding locals
-  locals_rule = joined_rule (VarLine d) (VarLine (wide d)) d line_up (is s.Var) (var_line d) (λ ts e. line_answers ts (same_is (sign_of (ahead ts)) s.Var e))
+  locals_rule = joined_rule (VarLine d) (VarLine (wide d)) d line_up (is s.Var) (var_line d) (λ ts e. line_answers ts (same_is (class_of (ahead ts)) s.Var e))
 
   -- ---- heads
 
@@ -116,11 +116,11 @@ module _ (d : ℕ) (pos : 1 ≤ d) where
 
   listed_rule : Rule (Closed d) (Closed (wide d)) (listed_parameters d)
   unfolding listed_parameters
-  listed_rule = record { least = record { more = some_close.token ∷ []; value = []; spelt = made.empty some_close.is }; up = closed_up; answers = λ ts. by_sign ts (sign_of (ahead ts)) refl }
+  listed_rule = record { least = record { more = some_close.token ∷ []; value = []; spelt = made.empty some_close.is }; up = closed_up; answers = λ ts. by_class ts (class_of (ahead ts)) refl }
     where
-      by_sign : (ts : Tokens) (x : Sign) → sign_of (ahead ts) ≡ x → Answers (Closed d) (Closed (wide d)) ts (parameters_by d x ts)
-      by_sign ts s.Close e = into (made.to_none d) (made.to_none (wide d)) (after s.Close some_close ts e (λ _. done []))
-      by_sign ts _ e = into (made.to_some d) (made.to_some (wide d)) ((seq vars_rule (λ ys. seq (want_rule s.Close some_close) (λ _. done ys))).answers ts)
+      by_class : (ts : Tokens) (x : TokenClass) → class_of (ahead ts) ≡ x → Answers (Closed d) (Closed (wide d)) ts (parameters_by d x ts)
+      by_class ts s.Close e = into (made.to_none d) (made.to_none (wide d)) (after s.Close some_close ts e (λ _. done []))
+      by_class ts _ e = into (made.to_some d) (made.to_some (wide d)) ((seq vars_rule (λ ys. seq (want_rule s.Close some_close) (λ _. done ys))).answers ts)
 
   parameters_rule : Rule (Low Parameters d) (Low Parameters (wide d)) (parameters d)
   unfolding parameters
@@ -128,11 +128,11 @@ module _ (d : ℕ) (pos : 1 ≤ d) where
 
   results_rule : Rule (Low Results d) (Low Results (wide d)) (results d)
   unfolding results
-  results_rule = record { least = record { more = []; value = []; spelt = record { height = 0; spelt = p.none; low = omega arith } }; up = low_wide Results d; answers = λ ts. by_sign ts (sign_of (ahead ts)) refl }
+  results_rule = record { least = record { more = []; value = []; spelt = record { height = 0; spelt = p.none; low = omega arith } }; up = low_wide Results d; answers = λ ts. by_class ts (class_of (ahead ts)) refl }
     where
-      by_sign : (ts : Tokens) (x : Sign) → sign_of (ahead ts) ≡ x → Answers (Low Results d) (Low Results (wide d)) ts (results_by d x ts)
-      by_sign ts s.Returns e = into (made.to_results d) (made.to_results (wide d)) (after s.Returns (spelled s.Returns (λ e. cc)) ts e (λ _. parameters_rule))
-      by_sign ts _ e = record { fact = ([], refl, record { height = 0; spelt = p.none; low = omega arith }) }
+      by_class : (ts : Tokens) (x : TokenClass) → class_of (ahead ts) ≡ x → Answers (Low Results d) (Low Results (wide d)) ts (results_by d x ts)
+      by_class ts s.Returns e = into (made.to_results d) (made.to_results (wide d)) (after s.Returns (spelled s.Returns (λ e. cc)) ts e (λ _. parameters_rule))
+      by_class ts _ e = record { fact = ([], refl, record { height = 0; spelt = p.none; low = omega arith }) }
 
   head_rule : Rule (Low HeadText d) (Low HeadText (wide d)) (head d)
   unfolding head
@@ -143,7 +143,7 @@ module _ (d : ℕ) (pos : 1 ≤ d) where
   spec_up : (u : Tokens) (x : Spec) → Low (SpecText d) d u x → Low (SpecText (wide d)) (wide d) u x
   spec_up = lift_low (spec_more (omega arith)) d
 
-  modifies_answers : (ts : Tokens) → sign_of (ahead ts) ≡ s.Modifies → Answers (Low (SpecText d) d) (Low (SpecText (wide d)) (wide d)) ts (modifies ts)
+  modifies_answers : (ts : Tokens) → class_of (ahead ts) ≡ s.Modifies → Answers (Low (SpecText d) d) (Low (SpecText (wide d)) (wide d)) ts (modifies ts)
   unfolding modifies
   modifies_answers ts e = into (made.to_modifies d) (made.to_modifies (wide d)) (after s.Modifies some_modifies ts e (λ _. seq modified_rule (λ xs. seq (want_rule s.Semi some_semi) (λ _. done (spec.Modifies xs)))))
 
@@ -161,25 +161,25 @@ module _ (d : ℕ) (pos : 1 ≤ d) where
 
   condition_rule : (f : Bool) → Rule (Condition d f) (Condition (wide d) f) (condition d f)
   unfolding condition
-  condition_rule f = record { least = (required_rule f).least; up = condition_up f; answers = λ ts. by_sign ts (sign_of (ahead ts)) }
+  condition_rule f = record { least = (required_rule f).least; up = condition_up f; answers = λ ts. by_class ts (class_of (ahead ts)) }
     where
-      by_sign : (ts : Tokens) (x : Sign) → Answers (Condition d f) (Condition (wide d) f) ts (condition_by d f x ts)
-      by_sign ts s.Requires = (required_rule f).answers ts
-      by_sign ts s.Ensures = (ensured_rule f).answers ts
-      by_sign ts _ = fails (required_rule f).least
+      by_class : (ts : Tokens) (x : TokenClass) → Answers (Condition d f) (Condition (wide d) f) ts (condition_by d f x ts)
+      by_class ts s.Requires = (required_rule f).answers ts
+      by_class ts s.Ensures = (ensured_rule f).answers ts
+      by_class ts _ = fails (required_rule f).least
 
   clause_rule : Rule (Low (SpecText d) d) (Low (SpecText (wide d)) (wide d)) (clause d)
   unfolding clause free_condition
   clause_rule = record {
     least = record { more = some_modifies.token ∷ some_semi.token ∷ []; value = spec.Modifies []; spelt = record { height = 0; spelt = p.modifies_none some_modifies.is some_semi.is; low = omega arith } };
     up = spec_up;
-    answers = λ ts. by_sign ts (sign_of (ahead ts)) refl;
+    answers = λ ts. by_class ts (class_of (ahead ts)) refl;
   }
     where
-      by_sign : (ts : Tokens) (x : Sign) → sign_of (ahead ts) ≡ x → Answers (Low (SpecText d) d) (Low (SpecText (wide d)) (wide d)) ts (clause_by d x ts)
-      by_sign ts s.Modifies e = modifies_answers ts e
-      by_sign ts s.Free e = into (made.to_free d) (made.to_free (wide d)) (after s.Free (spelled s.Free (λ e. cc)) ts e (λ _. condition_rule true))
-      by_sign ts _ e = into (made.to_checked d) (made.to_checked (wide d)) ((condition_rule false).answers ts)
+      by_class : (ts : Tokens) (x : TokenClass) → class_of (ahead ts) ≡ x → Answers (Low (SpecText d) d) (Low (SpecText (wide d)) (wide d)) ts (clause_by d x ts)
+      by_class ts s.Modifies e = modifies_answers ts e
+      by_class ts s.Free e = into (made.to_free d) (made.to_free (wide d)) (after s.Free (spelled s.Free (λ e. cc)) ts e (λ _. condition_rule true))
+      by_class ts _ e = into (made.to_checked d) (made.to_checked (wide d)) ((condition_rule false).answers ts)
 
   clauses_rule : Rule (Low (Row (SpecText d)) d) (Low (Row (SpecText (wide d))) (wide d)) (clauses d)
   unfolding clauses
@@ -198,11 +198,11 @@ module _ (d : ℕ) (pos : 1 ≤ d) where
 
   after_name_rule : (x : Text) → Rule (AfterName d x) (AfterName (wide d) x) (after_name d x)
   unfolding after_name
-  after_name_rule x = record { least = record { more = []; value = sort.Named x; spelt = nothing_more }; up = name_up x; answers = λ ts. by_sign ts (sign_of (ahead ts)) refl }
+  after_name_rule x = record { least = record { more = []; value = sort.Named x; spelt = nothing_more }; up = name_up x; answers = λ ts. by_class ts (class_of (ahead ts)) refl }
     where
-      by_sign : (ts : Tokens) (y : Sign) → sign_of (ahead ts) ≡ y → Answers (AfterName d x) (AfterName (wide d) x) ts (named_by d x y ts)
-      by_sign ts s.Colon e = into (made.to_colon d x) (made.to_colon (wide d) x) (after s.Colon some_colon ts e (λ _. type_rule d pos))
-      by_sign ts _ e = record { fact = ([], refl, nothing_more) }
+      by_class : (ts : Tokens) (y : TokenClass) → class_of (ahead ts) ≡ y → Answers (AfterName d x) (AfterName (wide d) x) ts (named_by d x y ts)
+      by_class ts s.Colon e = into (made.to_colon d x) (made.to_colon (wide d) x) (after s.Colon some_colon ts e (λ _. type_rule d pos))
+      by_class ts _ e = record { fact = ([], refl, nothing_more) }
 
 named_answers : (d : ℕ) → 1 ≤ d → (ts : Tokens) → Answers (Low Argument d) (Low Argument (wide d)) ts (named_argument d ts)
 unfolding named_argument
@@ -215,27 +215,27 @@ module _ (d : ℕ) (pos : 1 ≤ d) where
   argument_rule = record {
     least = record { more = some_int.token ∷ []; value = sort.Int; spelt = record { height = 1; spelt = p.bare (ty.int some_int.is); low = pos } };
     up = low_wide Argument d;
-    answers = λ ts. by_sign ts (sign_of (ahead ts));
+    answers = λ ts. by_class ts (class_of (ahead ts));
   }
     where
       bare : (n : ℕ) (u : Tokens) (T : Sort) → Low TypeText n u T → Low Argument n u T
       bare n u T w = record { height = w.height; spelt = p.bare w.spelt; low = w.low }
 
-      by_sign : (ts : Tokens) (x : Sign) → Answers (Low Argument d) (Low Argument (wide d)) ts (argument_by d x ts)
-      by_sign ts s.Name = named_answers d pos ts
-      by_sign ts _ = into (bare d) (bare (wide d)) ((type_rule d pos).answers ts)
+      by_class : (ts : Tokens) (x : TokenClass) → Answers (Low Argument d) (Low Argument (wide d)) ts (argument_by d x ts)
+      by_class ts s.Name = named_answers d pos ts
+      by_class ts _ = into (bare d) (bare (wide d)) ((type_rule d pos).answers ts)
 
   result_rule : Rule (Low ResultType d) (Low ResultType (wide d)) (result_type d)
   unfolding result_type returned_type colon_type
   result_rule = record {
     least = record { more = some_colon.token ∷ some_int.token ∷ []; value = sort.Int; spelt = record { height = 1; spelt = p.colon some_colon.is (ty.int some_int.is); low = pos } };
     up = low_wide ResultType d;
-    answers = λ ts. by_sign ts (sign_of (ahead ts)) refl;
+    answers = λ ts. by_class ts (class_of (ahead ts)) refl;
   }
     where
-      by_sign : (ts : Tokens) (x : Sign) → sign_of (ahead ts) ≡ x → Answers (Low ResultType d) (Low ResultType (wide d)) ts (result_by d x ts)
-      by_sign ts s.Returns e = into (made.to_returned d) (made.to_returned (wide d)) (after s.Returns (spelled s.Returns (λ e. cc)) ts e (λ _. seq (want_rule s.Open (spelled s.Open (λ e. cc))) (λ _. seq argument_rule (λ T. seq (want_rule s.Close some_close) (λ _. done T)))))
-      by_sign ts _ e = into (made.to_colon_type d) (made.to_colon_type (wide d)) ((seq (want_rule s.Colon some_colon) (λ _. type_rule d pos)).answers ts)
+      by_class : (ts : Tokens) (x : TokenClass) → class_of (ahead ts) ≡ x → Answers (Low ResultType d) (Low ResultType (wide d)) ts (result_by d x ts)
+      by_class ts s.Returns e = into (made.to_returned d) (made.to_returned (wide d)) (after s.Returns (spelled s.Returns (λ e. cc)) ts e (λ _. seq (want_rule s.Open (spelled s.Open (λ e. cc))) (λ _. seq argument_rule (λ T. seq (want_rule s.Close some_close) (λ _. done T)))))
+      by_class ts _ e = into (made.to_colon_type d) (made.to_colon_type (wide d)) ((seq (want_rule s.Colon some_colon) (λ _. type_rule d pos)).answers ts)
 
   -- ---- declarations
 
@@ -243,15 +243,15 @@ module _ (d : ℕ) (pos : 1 ≤ d) where
   abbrev Here : Tokens → Reader Decl → Type 0
   Here ts q = Answers (Low (Declaration d) d) (Low (Declaration (wide d)) (wide d)) ts (q ts)
 
-  types_answers : (ts : Tokens) → sign_of (ahead ts) ≡ s.Type → Here ts (types d)
+  types_answers : (ts : Tokens) → class_of (ahead ts) ≡ s.Type → Here ts (types d)
   unfolding types
   types_answers ts e = into (made.to_types d) (made.to_types (wide d)) (after s.Type some_type ts e (λ _. seq (attributes_rule d pos) (λ _. seq names_rule (λ xs. seq (want_rule s.Semi some_semi) (λ _. done (decl.Types xs))))))
 
-  constants_answers : (ts : Tokens) → sign_of (ahead ts) ≡ s.Const → Here ts (constants d)
+  constants_answers : (ts : Tokens) → class_of (ahead ts) ≡ s.Const → Here ts (constants d)
   unfolding constants
   constants_answers ts e = into (made.to_constants d) (made.to_constants (wide d)) (after s.Const (spelled s.Const (λ e. cc)) ts e (λ _. seq (attributes_rule d pos) (λ _. seq uniqueness_rule (λ b. seq (typed_rule d pos) (λ g. seq (want_rule s.Semi some_semi) (λ _. done (decl.Const b g.0 g.1)))))))
 
-  function_answers : (ts : Tokens) → sign_of (ahead ts) ≡ s.Function → Here ts (function d)
+  function_answers : (ts : Tokens) → class_of (ahead ts) ≡ s.Function → Here ts (function d)
   unfolding function
   function_answers ts e = into (made.to_function d) (made.to_function (wide d))
       (after s.Function (spelled s.Function (λ e. cc)) ts e (λ _. seq (attributes_rule d pos) (λ _. seq name_rule (λ f. seq (enclosed_rule Argument Argument d (low_wide Argument d) (full argument_rule)) (λ xs. seq result_rule (λ T. seq (want_rule s.Semi some_semi) (λ _. done (decl.Function f.0 xs T))))))))
@@ -260,7 +260,7 @@ module _ (d : ℕ) (pos : 1 ≤ d) where
   unfolding axiom_line
   axiom_answers ts = into (made.to_axiom d) (made.to_axiom (wide d)) ((seq (claim_rule d d s.Axiom pos pos (spelled s.Axiom (λ e. cc))) (λ k. done (decl.Axiom k.1))).answers ts)
 
-  globals_answers : (ts : Tokens) → sign_of (ahead ts) ≡ s.Var → Here ts (globals d)
+  globals_answers : (ts : Tokens) → class_of (ahead ts) ≡ s.Var → Here ts (globals d)
   unfolding globals
   globals_answers ts e = into (made.to_globals d) (made.to_globals (wide d)) (seq_at (line_up d pos) (line_answers d pos ts e) (λ xs. done (decl.Globals xs)))
 
@@ -273,18 +273,18 @@ module _ (d : ℕ) (pos : 1 ≤ d) where
   procedure_from_rule f = record {
     least = record { more = some_semi.token ∷ []; value = decl.Procedure (record { head = f; specs = []; body = None }); spelt = declared_from some_semi.is (record { height = 0; spelt = w.none; low = omega arith }) };
     up = procedure_up f;
-    answers = λ ts. by_sign ts (sign_of (ahead ts)) refl;
+    answers = λ ts. by_class ts (class_of (ahead ts)) refl;
   }
     where
-      by_sign : (ts : Tokens) (x : Sign) → sign_of (ahead ts) ≡ x → Answers (ProcedureFrom d f) (ProcedureFrom (wide d) f) ts (procedure_by d f x ts)
-      by_sign ts s.Semi e = into (made.to_declared d f) (made.to_declared (wide d) f) (after s.Semi some_semi ts e (λ _. seq (clauses_rule d pos) (λ xs. done (decl.Procedure (record { head = f; specs = xs; body = None })))))
-      by_sign ts _ e = into (made.to_defined d f) (made.to_defined (wide d) f) ((seq (clauses_rule d pos) (λ xs. seq (body_rule d pos) (λ b. done (decl.Procedure (record { head = f; specs = xs; body = Some b }))))).answers ts)
+      by_class : (ts : Tokens) (x : TokenClass) → class_of (ahead ts) ≡ x → Answers (ProcedureFrom d f) (ProcedureFrom (wide d) f) ts (procedure_by d f x ts)
+      by_class ts s.Semi e = into (made.to_declared d f) (made.to_declared (wide d) f) (after s.Semi some_semi ts e (λ _. seq (clauses_rule d pos) (λ xs. done (decl.Procedure (record { head = f; specs = xs; body = None })))))
+      by_class ts _ e = into (made.to_defined d f) (made.to_defined (wide d) f) ((seq (clauses_rule d pos) (λ xs. seq (body_rule d pos) (λ b. done (decl.Procedure (record { head = f; specs = xs; body = Some b }))))).answers ts)
 
-  procedure_answers : (ts : Tokens) → sign_of (ahead ts) ≡ s.Procedure → Here ts (procedure d)
+  procedure_answers : (ts : Tokens) → class_of (ahead ts) ≡ s.Procedure → Here ts (procedure d)
   unfolding procedure
   procedure_answers ts e = into (made.to_procedure d) (made.to_procedure (wide d)) (after s.Procedure (spelled s.Procedure (λ e. cc)) ts e (λ _. seq (attributes_rule d pos) (λ _. seq (head_rule d pos) (λ f. procedure_from_rule f))))
 
-  implementation_answers : (ts : Tokens) → sign_of (ahead ts) ≡ s.Implementation → Here ts (implementation d)
+  implementation_answers : (ts : Tokens) → class_of (ahead ts) ≡ s.Implementation → Here ts (implementation d)
   unfolding implementation
   implementation_answers ts e = into (made.to_implementation d) (made.to_implementation (wide d))
       (after s.Implementation (spelled s.Implementation (λ e. cc)) ts e (λ _. seq (attributes_rule d pos) (λ _. seq (head_rule d pos) (λ f. seq (body_rule d pos) (λ b. done (decl.Implementation (record { head = f; body = b })))))))
@@ -294,17 +294,17 @@ module _ (d : ℕ) (pos : 1 ≤ d) where
 
   declaration_answers : (ts : Tokens) → Here ts (declaration d)
   unfolding declaration
-  declaration_answers ts = by_sign (sign_of (ahead ts)) refl
+  declaration_answers ts = by_class (class_of (ahead ts)) refl
     where
-      by_sign : (x : Sign) → sign_of (ahead ts) ≡ x → Here ts (declaration_by d x)
-      by_sign s.Type e = types_answers ts e
-      by_sign s.Const e = constants_answers ts e
-      by_sign s.Function e = function_answers ts e
-      by_sign s.Axiom e = axiom_answers ts
-      by_sign s.Var e = globals_answers ts e
-      by_sign s.Procedure e = procedure_answers ts e
-      by_sign s.Implementation e = implementation_answers ts e
-      by_sign _ e = fails least
+      by_class : (x : TokenClass) → class_of (ahead ts) ≡ x → Here ts (declaration_by d x)
+      by_class s.Type e = types_answers ts e
+      by_class s.Const e = constants_answers ts e
+      by_class s.Function e = function_answers ts e
+      by_class s.Axiom e = axiom_answers ts
+      by_class s.Var e = globals_answers ts e
+      by_class s.Procedure e = procedure_answers ts e
+      by_class s.Implementation e = implementation_answers ts e
+      by_class _ e = fails least
 
   declarations_rule : Rule (Low (Row (Declaration d)) d) (Low (Row (Declaration (wide d))) (wide d)) (declarations d)
   unfolding declarations

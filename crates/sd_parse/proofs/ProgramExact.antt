@@ -1,5 +1,5 @@
 -- The reader of programs answers by the rule of refusals.
-use Rattle.std.proofs.Common.{◌≡◌, ℕ, suc, ◌+◌, ◌≤◌, List, [], ◌∷◌, refl, ap, arith}
+use Rattle.std.proofs.Common.{◌≡◌, ℕ, suc, ◌+◌, ◌≤◌, List, [], ◌∷◌, ap, sym, ◌∙◌, arith}
 use Rattle.sd_base.specs.declared.Place.{Place}
 use Rattle.sd_ast.specs.declared.Decl.{Decl}
 use Rattle.sd_ast.specs.declared.Program.{Program}
@@ -10,15 +10,14 @@ use Rattle.sd_parse.specs.Refusals.{IsSyntax, IsDeep, place_of}
 use Rattle.sd_parse.specs.Reading.{Syntax, Deep, Step, Got, Bad, Reader, and_then}
 use Rattle.sd_parse.specs.ReadingPrograms.{declarations, ended, program}
 use Rattle.sd_parse.proofs.Algebra.{Answers, bind, begins_map, stop, wide}
-use Rattle.sd_parse.proofs.Local.{local_bind, local_pure}
-use Rattle.sd_parse.proofs.Lifts.{same, lift_bind, lift_more}
-use Rattle.sd_parse.proofs.Exact.{Exact, syntax_at, deep_at}
+use Rattle.sd_parse.proofs.Lifts.{lift_more}
+use Rattle.sd_parse.proofs.Widening.{Widens, sequence, got}
+use Rattle.sd_parse.proofs.Exact.{Exact, syntax_at, deep_at, read_is}
 use Rattle.sd_parse.proofs.Rows.{Low}
 use Rattle.sd_parse.proofs.Limits.{declarations_more}
 use Rattle.sd_parse.proofs.ProgramAnswers.{program_answers}
-use Rattle.sd_parse.proofs.ProgramLocal.{local_program}
-use Rattle.sd_parse.proofs.ProgramLifts.{lift_program}
-use Rattle.sd_parse.proofs.TextLemmas.{spelled_is_read}
+use Rattle.sd_parse.proofs.ProgramComplete.{program_complete}
+use Rattle.sd_parse.proofs.ProgramWidening.{widen_program}
 
 abbrev pub tree : List Decl → Program
 tree xs = record { decls = xs }
@@ -41,8 +40,8 @@ whole_answers d pos ts = record {
       (λ xs u rest w. stop (Spells d) (Spells (wide d)) u rest (tree xs) (to_spells d u xs w));
 }
 
-whole_complete : (d : ℕ) (u : Tokens) (P : Program) → Spells d u P → whole d u ≡ Got P []
-whole_complete d u P w = ap (λ s. and_then s (λ xs ts. Got (tree xs) ts)) (spelled_is_read d u P w)
+pub whole_complete : (d : ℕ) (u : Tokens) (P : Program) → Spells d u P → whole d u ≡ Got P []
+whole_complete d u P w = ap (λ s. and_then s (λ xs ts. Got (tree xs) ts)) (program_complete d u P.decls w.height w.spelled w.low)
 
 got_end : (s : Step (List Decl)) (P : Program) (rest : Tokens) → and_then (and_then s ended) (λ xs ts. Got (tree xs) ts) ≡ Got P rest → rest ≡ []
 unfolding ended
@@ -54,13 +53,16 @@ whole_ends : (d : ℕ) (ts : Tokens) (P : Program) (rest : Tokens) → whole d t
 unfolding program
 whole_ends d ts P rest e = got_end (declarations d ts) P rest e
 
+widen_whole : (d : ℕ) → Widens (whole d) (whole (suc d))
+widen_whole d = sequence (widen_program d) (λ xs. got (tree xs))
+
 pub whole_exact : (limit : ℕ) → 1 ≤ limit → Exact Spells limit whole
 whole_exact limit pos = record {
   grows = spells_more;
   answers = whole_answers limit pos;
   complete = whole_complete;
-  local = λ d. local_bind (program d) _ (local_program d) (λ xs. local_pure (tree xs));
-  lifts = λ k d ts. lift_more whole (λ d ts. lift_bind (program d ts) (program (suc d) ts) _ _ (lift_program d ts) (λ xs rest. same refl)) k d ts;
+  local = λ d. (widen_whole d).local;
+  lifts = λ k d ts. lift_more whole (λ d ts. (widen_whole d).lifts ts) k d ts;
   ends = whole_ends limit;
 }
 
@@ -70,3 +72,10 @@ program_syntax limit pos ts end rest e = syntax_at (whole_exact limit pos) ts en
 
 pub program_deep : (limit : ℕ) → 1 ≤ limit → (ts : Tokens) (end : Place) (rest : Tokens) → program limit ts ≡ Bad Deep rest → IsDeep Spells limit ts (place_of end rest)
 program_deep limit pos ts end rest e = deep_at (whole_exact limit pos) ts end rest (ap (λ s. and_then s (λ xs ts. Got (tree xs) ts)) e)
+
+-- What the reader of programs gives is spelled.
+pub program_spells : (limit : ℕ) → 1 ≤ limit → (ts : Tokens) (xs : List Decl) (rest : Tokens) → program limit ts ≡ Got xs rest → Spells limit ts (tree xs)
+program_spells limit pos ts xs rest e = read_is (whole_exact limit pos) ts (tree xs) rest (ap (λ s. and_then s (λ xs ts. Got (tree xs) ts)) e)
+
+pub one_tree : (d : ℕ) (ts : Tokens) (P Q : Program) → Spells d ts P → Spells d ts Q → P ≡ Q
+one_tree d ts P Q p q = let same : Got P [] ≡ Got Q [] = sym (whole_complete d ts P p) ∙ whole_complete d ts Q q in cc

@@ -8,7 +8,7 @@ use Rattle.sd_parse.specs.Answer.{IsStar, Rising, star_at}
 use Rattle.sd_parse.specs.Reading.{Fault, Syntax, Deep, Bad}
 use Rattle.sd_parse.specs.ReadingPrograms.{program}
 use Rattle.sd_parse.proofs.Local.{rest_of}
-use Rattle.sd_parse.proofs.ProgramLocal.{local_program}
+use Rattle.sd_parse.proofs.ProgramWidening.{widen_program}
 use Rattle.sd_parse.proofs.ProgramExact.{program_syntax, program_deep}
 use Rattle.sd_parse.proofs.Stars.{star_yes, star_no, drop_before}
 
@@ -20,10 +20,10 @@ take_all (suc n) (t ∷ ts) low = ap (λ ts. t ∷ ts) (take_all n ts (omega ari
 
 module _ (ts rest : Tokens) (end : Place) (k : Fault) (e : program 200 ts ≡ Bad k rest) where
   abbrev before : Tokens
-  before = ((local_program 200).suffix ts).0
+  before = ((widen_program 200).local.suffix ts).0
 
   split : ts ≡ before ++ rest
-  split = ((local_program 200).suffix ts).1 ∙ ap (λ s. before ++ rest_of s) e
+  split = ((widen_program 200).local.suffix ts).1 ∙ ap (λ s. before ++ rest_of s) e
 
   size : length ts ≡ length before + length rest
   size = ap length split ∙ length-append before rest

@@ -2,15 +2,15 @@
 use Rattle.std.proofs.Common.{◌≡◌, ℕ, suc, ◌≤◌, max, true, List, [], ◌∷◌, ◌++◌, length, refl, sym, subst, arith}
 use Rattle.std.specs.Prelude.{Bool}
 use Rattle.sd_lex.specs.declared.Token.{Token}
-use Rattle.sd_parse.specs.declared.sign.Sign.{Sign}
-use Rattle.sd_parse.specs.declared.sign.Sign.TheVariants as s
+use Rattle.sd_parse.specs.declared.class.TokenClass.{TokenClass}
+use Rattle.sd_parse.specs.declared.class.TokenClass.TheVariants as s
 use Rattle.sd_parse.specs.Grammar.{Tokens}
 use Rattle.sd_parse.specs.Rows as w
 use Rattle.sd_parse.specs.Rows.{Row, Joined, Commas, Enclosed}
-use Rattle.sd_parse.specs.Reading.{Syntax, Deep, Step, Got, Bad, Reader, and_then, ahead, sign_of, want, many, all}
+use Rattle.sd_parse.specs.Reading.{Syntax, Deep, Step, Got, Bad, Reader, and_then, ahead, class_of, want, many, all}
 use Rattle.sd_parse.specs.ReadingRows.{push, join_lists, is, listed_by, listed, enclosed}
 use Rattle.sd_parse.specs.ReadingRows as reading
-use Rattle.sd_parse.proofs.Sound.{wanted, nothing, both, Repeat, same_is}
+use Rattle.sd_parse.proofs.Texts.{wanted, nothing, both, Repeat, same_is}
 use Rattle.sd_parse.proofs.Lists as lists
 use Rattle.sd_parse.proofs.Lists.{Many, none, more, Behind, pushed, joined}
 use Rattle.sd_parse.proofs.Rows.{Low, Next, next, to_next, row_of, of_row, joined_of, of_joined, to_commas, Opened, opened, to_none, to_some, to_enclosed}
@@ -21,7 +21,7 @@ pub low_wide : {A : Type 0} (F : Tokens → A → ℕ → Type 0) (d : ℕ) (u :
 low_wide F d u x w = record { height = w.height; spelt = w.spelt; low = let z = w.low in omega arith }
 
 -- as many items as there are
-pub all_rule : {A B : Type 0} (F V : Tokens → A → Type 0) (begins : Sign → Bool) (item : Reader A) (add : B → A → B) → ((u : Tokens) (x : A) → F u x → V u x) → ((ts : Tokens) → begins (sign_of (ahead ts)) ≡ true → Answers F V ts (item ts))
+pub all_rule : {A B : Type 0} (F V : Tokens → A → Type 0) (begins : TokenClass → Bool) (item : Reader A) (add : B → A → B) → ((u : Tokens) (x : A) → F u x → V u x) → ((ts : Tokens) → begins (class_of (ahead ts)) ≡ true → Answers F V ts (item ts))
     → (acc : B) → Rule (Repeat F begins add acc) (Repeat V begins add acc) (all begins item add acc)
 all_rule {B = B} F V begins item add up law acc =
     let at : (n : ℕ) → Rule (Repeat F begins add acc) (Repeat V begins add acc) (many begins item add n acc) = λ n. many_rule F V begins item add up law n acc in
@@ -36,23 +36,23 @@ joined_up f lists.none = lists.none
 joined_up f (lists.more {u = u} {xs = x} a m) = lists.more (f u x a) (joined_up f m)
 
 module _ {A : Type 0} (F V : Tokens → A → ℕ → Type 0) (d : ℕ) (up : (u : Tokens) (x : A) → Low F d u x → Low V (wide d) u x) where
-  to_row : (H : Tokens → A → ℕ → Type 0) (n : ℕ) (begins : Sign → Bool) (u : Tokens) (xs : List A) → Repeat (Low H n) begins push [] u xs → Low (Row H) n u xs
+  to_row : (H : Tokens → A → ℕ → Type 0) (n : ℕ) (begins : TokenClass → Bool) (u : Tokens) (xs : List A) → Repeat (Low H n) begins push [] u xs → Low (Row H) n u xs
   to_row H n begins u xs m = let w = pushed (Low H n) begins m in subst (λ ys. Low (Row H) n u ys) (sym w.same) (row_of H n w.list)
 
   row_up : (u : Tokens) (xs : List A) → Low (Row F) d u xs → Low (Row V) (wide d) u xs
   row_up u xs w = row_of V (wide d) (many_up up (of_row F d w.spelt w.low))
 
-  pub row_rule : (begins : Sign → Bool) (item : Reader A) → ((ts : Tokens) → begins (sign_of (ahead ts)) ≡ true → Answers (Low F d) (Low V (wide d)) ts (item ts)) → Rule (Low (Row F) d) (Low (Row V) (wide d)) (all begins item push [])
+  pub row_rule : (begins : TokenClass → Bool) (item : Reader A) → ((ts : Tokens) → begins (class_of (ahead ts)) ≡ true → Answers (Low F d) (Low V (wide d)) ts (item ts)) → Rule (Low (Row F) d) (Low (Row V) (wide d)) (all begins item push [])
   row_rule begins item law = rule_into (to_row F d begins) (to_row V (wide d) begins) row_up (all_rule (Low F d) (Low V (wide d)) begins item push up law [])
 
 module _ {A : Type 0} (F V : Tokens → List A → ℕ → Type 0) (d : ℕ) (up : (u : Tokens) (x : List A) → Low F d u x → Low V (wide d) u x) where
-  to_joined : (H : Tokens → List A → ℕ → Type 0) (n : ℕ) (begins : Sign → Bool) (u : Tokens) (xs : List A) → Repeat (Low H n) begins join_lists [] u xs → Low (Joined H) n u xs
+  to_joined : (H : Tokens → List A → ℕ → Type 0) (n : ℕ) (begins : TokenClass → Bool) (u : Tokens) (xs : List A) → Repeat (Low H n) begins join_lists [] u xs → Low (Joined H) n u xs
   to_joined H n begins u xs m = let w = joined (Low H n) begins m in subst (λ ys. Low (Joined H) n u ys) (sym w.same) (joined_of H n w.list)
 
   join_up : (u : Tokens) (xs : List A) → Low (Joined F) d u xs → Low (Joined V) (wide d) u xs
   join_up u xs w = joined_of V (wide d) (joined_up up (of_joined F d w.spelt w.low))
 
-  pub joined_rule : (begins : Sign → Bool) (item : Reader (List A)) → ((ts : Tokens) → begins (sign_of (ahead ts)) ≡ true → Answers (Low F d) (Low V (wide d)) ts (item ts)) → Rule (Low (Joined F) d) (Low (Joined V) (wide d)) (all begins item join_lists [])
+  pub joined_rule : (begins : TokenClass → Bool) (item : Reader (List A)) → ((ts : Tokens) → begins (class_of (ahead ts)) ≡ true → Answers (Low F d) (Low V (wide d)) ts (item ts)) → Rule (Low (Joined F) d) (Low (Joined V) (wide d)) (all begins item join_lists [])
   joined_rule begins item law = rule_into (to_joined F d begins) (to_joined V (wide d) begins) join_up (all_rule (Low F d) (Low V (wide d)) begins item join_lists up law [])
 
 -- ---- items with commas between them
@@ -67,9 +67,9 @@ pub next_wide : {A : Type 0} {F V : Tokens → A → Type 0} → ((u : Tokens) (
 next_wide f w x (next {u = u} i a) = next i (f u x a)
 
 module _ {A : Type 0} {F V : Tokens → A → Type 0} {item : Reader A} (rule : Rule F V item) where
-  pub next_answers : (ts : Tokens) → is s.Comma (sign_of (ahead ts)) ≡ true → Answers (Next F) (Next V) ts (reading.next item ts)
+  pub next_answers : (ts : Tokens) → is s.Comma (class_of (ahead ts)) ≡ true → Answers (Next F) (Next V) ts (reading.next item ts)
   unfolding reading.next
-  next_answers ts e = into (to_next F) (to_next V) (after s.Comma some_comma ts (same_is (sign_of (ahead ts)) s.Comma e) (λ _. rule))
+  next_answers ts e = into (to_next F) (to_next V) (after s.Comma some_comma ts (same_is (class_of (ahead ts)) s.Comma e) (λ _. rule))
 
   behind_up : (acc : List A) (u : Tokens) (xs : List A) → Behind (Many (Next F)) acc u xs → Behind (Many (Next V)) acc u xs
   behind_up acc u xs m = record { items = m.items; same = m.same; list = many_up (next_wide rule.up) m.list }
@@ -126,15 +126,15 @@ module _ {A : Type 0} (F V : Tokens → A → ℕ → Type 0) (d : ℕ) (up : (u
 
   listed_rule : {item : Reader A} → Item item → Rule (Opened F d) (Opened V (wide d)) (listed item)
   unfolding listed reading.commas
-  listed_rule {item = item} i = record { least = none_opened F d; up = opened_up; answers = λ ts. by_sign ts (sign_of (ahead ts)) refl }
+  listed_rule {item = item} i = record { least = none_opened F d; up = opened_up; answers = λ ts. by_class ts (class_of (ahead ts)) refl }
     where
       by_item : (ts : Tokens) → Item item → Answers (Opened F d) (Opened V (wide d)) ts (and_then (reading.commas item ts) (λ xs ts. and_then (want s.Close ts) (λ _ ts. Got xs ts)))
       by_item ts (full rule) = into (λ u xs w. opened (to_some F d u xs w)) (λ u xs w. opened (to_some V (wide d) u xs w)) ((seq (commas_rule rule) (λ ys. seq (want_rule s.Close some_close) (λ _. done ys))).answers ts)
       by_item ts (floor f) = low_listed item (f ts)
 
-      by_sign : (ts : Tokens) (x : Sign) → sign_of (ahead ts) ≡ x → Answers (Opened F d) (Opened V (wide d)) ts (listed_by item x ts)
-      by_sign ts s.Close e = into (λ u xs w. opened (to_none F d u xs w)) (λ u xs w. opened (to_none V (wide d) u xs w)) (after s.Close some_close ts e (λ _. done []))
-      by_sign ts _ e = by_item ts i
+      by_class : (ts : Tokens) (x : TokenClass) → class_of (ahead ts) ≡ x → Answers (Opened F d) (Opened V (wide d)) ts (listed_by item x ts)
+      by_class ts s.Close e = into (λ u xs w. opened (to_none F d u xs w)) (λ u xs w. opened (to_none V (wide d) u xs w)) (after s.Close some_close ts e (λ _. done []))
+      by_class ts _ e = by_item ts i
 
   enclosed_wide : (u : Tokens) (xs : List A) → Low (Enclosed F) d u xs → Low (Enclosed V) (wide d) u xs
   enclosed_wide u xs y = by_text y.spelt y.low

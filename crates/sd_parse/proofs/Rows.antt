@@ -4,19 +4,19 @@ use Rattle.std.specs.Prelude.{Bool}
 use Rattle.std.proofs.lemmas.List.{append-nil}
 use denote.Enum.Bare.{false_same}
 use Rattle.sd_lex.specs.declared.Token.{Token}
-use Rattle.sd_parse.specs.declared.sign.Sign.{Sign}
-use Rattle.sd_parse.specs.declared.sign.Sign.TheVariants as s
-use Rattle.sd_parse.specs.contracts.sign.Sign.{the_type}
-use Rattle.sd_parse.specs.Signs.{sign, same_sign}
+use Rattle.sd_parse.specs.declared.class.TokenClass.{TokenClass}
+use Rattle.sd_parse.specs.declared.class.TokenClass.TheVariants as s
+use Rattle.sd_parse.specs.contracts.class.TokenClass.{the_type}
+use Rattle.sd_parse.specs.TokenClasses.{class, same_class}
 use Rattle.sd_parse.specs.Grammar.{Tokens, Is}
 use Rattle.sd_parse.specs.Rows as r
 use Rattle.sd_parse.specs.Rows.{Row, Joined, Commas, Enclosed}
-use Rattle.sd_parse.specs.Reading.{Got, Reader, and_then, ahead, sign_of, want, all}
+use Rattle.sd_parse.specs.Reading.{Got, Reader, and_then, ahead, class_of, want, all}
 use Rattle.sd_parse.specs.ReadingRows.{push, join_lists, is, listed_by, listed, enclosed}
 use Rattle.sd_parse.specs.ReadingRows as reading
-use Rattle.sd_parse.proofs.Sound.{Sound, Wanted, wanted, Nothing, settle, Both, both, seq, done, into, skip_sound, want_sound, many_sound, same_is}
-use Rattle.sd_parse.proofs.ExpressionComplete.{want_goes, same_signs}
-use Rattle.sd_parse.proofs.Lists.{Many, none, more, Behind, pushed, joined, push_all, join_all, all_complete}
+use Rattle.sd_parse.proofs.Texts.{Wanted, wanted, Nothing, settle, Both, both}
+use Rattle.sd_parse.proofs.ExpressionComplete.{want_reads, same_classes}
+use Rattle.sd_parse.proofs.Lists.{Many, none, more, Behind, push_all, join_all, all_complete}
 use Rattle.sd_parse.proofs.Lists as lists
 
 -- within a height
@@ -25,15 +25,15 @@ pub record Low {A : Type 0} (F : Tokens → A → ℕ → Type 0) (d : ℕ) (u :
   pub spelt : F u x height
   pub low : height ≤ d
 
--- ---- signs
+-- ---- classes
 
-pub other_sign : (a b : Sign) → (a ≡ b → ⊥) → same_sign a b ≡ false
-unfolding same_sign
-other_sign a b f = false_same the_type tt a b f
+pub other_class : (a b : TokenClass) → (a ≡ b → ⊥) → same_class a b ≡ false
+unfolding same_class
+other_class a b f = false_same the_type tt a b f
 
--- the next token is of one sign, and not of another
-pub apart : (x y : Sign) (rest : Tokens) → sign_of (ahead rest) ≡ x → (x ≡ y → ⊥) → is y (sign_of (ahead rest)) ≡ false
-apart x y rest e f = other_sign (sign_of (ahead rest)) y (λ g. f (sym e ∙ g))
+-- the next token is of one class, and not of another
+pub apart : (x y : TokenClass) (rest : Tokens) → class_of (ahead rest) ≡ x → (x ≡ y → ⊥) → is y (class_of (ahead rest)) ≡ false
+apart x y rest e f = other_class (class_of (ahead rest)) y (λ g. f (sym e ∙ g))
 
 -- ---- items one after another
 
@@ -46,15 +46,12 @@ module _ {A : Type 0} (F : Tokens → A → ℕ → Type 0) (d : ℕ) where
   of_row r.none low = none
   of_row (r.more {h = h} f m) low = more (record { height = h; spelt = f; low = omega arith }) (of_row m (omega arith))
 
-  pub row_sound : (begins : Sign → Bool) (item : Reader A) → ((ts : Tokens) → begins (sign_of (ahead ts)) ≡ true → Sound (Low F d) ts (item ts)) → (ts : Tokens) → Sound (Low (Row F) d) ts (all begins item push [] ts)
-  row_sound begins item law ts = into (λ u y m. let w = pushed (Low F d) begins m in subst (λ ys. Low (Row F) d u ys) (sym w.same) (row_of w.list)) (many_sound (Low F d) begins item push law (suc (length ts)) [] ts)
-
-  module _ (begins : Sign → Bool) (item : Reader A) (Ends : Tokens → Type 0)
+  module _ (begins : TokenClass → Bool) (item : Reader A) (Ends : Tokens → Type 0)
       (some : (u : Tokens) (x : A) (h : ℕ) → F u x h → 0 < length u)
-      (first : (u : Tokens) (x : A) (h : ℕ) (rest : Tokens) → F u x h → begins (sign_of (ahead (u ++ rest))) ≡ true)
-      (ends : (rest : Tokens) → begins (sign_of (ahead rest)) ≡ true → Ends rest)
+      (first : (u : Tokens) (x : A) (h : ℕ) (rest : Tokens) → F u x h → begins (class_of (ahead (u ++ rest))) ≡ true)
+      (ends : (rest : Tokens) → begins (class_of (ahead rest)) ≡ true → Ends rest)
       (complete : (u : Tokens) (x : A) (h : ℕ) (rest : Tokens) → F u x h → h ≤ d → Ends rest → item (u ++ rest) ≡ Got x rest) where
-    pub row_complete : (rest : Tokens) → Ends rest → begins (sign_of (ahead rest)) ≡ false → {u : Tokens} {xs : List A} {h : ℕ} → Row F u xs h → h ≤ d → all begins item push [] (u ++ rest) ≡ Got xs rest
+    pub row_complete : (rest : Tokens) → Ends rest → begins (class_of (ahead rest)) ≡ false → {u : Tokens} {xs : List A} {h : ℕ} → Row F u xs h → h ≤ d → all begins item push [] (u ++ rest) ≡ Got xs rest
     row_complete rest e stops m low = all_complete (Low F d) begins item push Ends (λ u x f. some u x f.height f.spelt) (λ u x rest f. first u x f.height rest f.spelt) ends (λ u x rest f e. complete u x f.height rest f.spelt f.low e)
         rest e stops (push_all (Low F d) begins (of_row m low) [])
 
@@ -67,14 +64,11 @@ module _ {A : Type 0} (F : Tokens → List A → ℕ → Type 0) (d : ℕ) where
   of_joined r.none low = lists.none
   of_joined (r.more {h = h} f m) low = lists.more (record { height = h; spelt = f; low = omega arith }) (of_joined m (omega arith))
 
-  pub joined_sound : (begins : Sign → Bool) (item : Reader (List A)) → ((ts : Tokens) → begins (sign_of (ahead ts)) ≡ true → Sound (Low F d) ts (item ts)) → (ts : Tokens) → Sound (Low (Joined F) d) ts (all begins item join_lists [] ts)
-  joined_sound begins item law ts = into (λ u y m. let w = joined (Low F d) begins m in subst (λ ys. Low (Joined F) d u ys) (sym w.same) (joined_of w.list)) (many_sound (Low F d) begins item join_lists law (suc (length ts)) [] ts)
-
-  module _ (begins : Sign → Bool) (item : Reader (List A))
+  module _ (begins : TokenClass → Bool) (item : Reader (List A))
       (some : (u : Tokens) (x : List A) (h : ℕ) → F u x h → 0 < length u)
-      (first : (u : Tokens) (x : List A) (h : ℕ) (rest : Tokens) → F u x h → begins (sign_of (ahead (u ++ rest))) ≡ true)
+      (first : (u : Tokens) (x : List A) (h : ℕ) (rest : Tokens) → F u x h → begins (class_of (ahead (u ++ rest))) ≡ true)
       (complete : (u : Tokens) (x : List A) (h : ℕ) (rest : Tokens) → F u x h → h ≤ d → item (u ++ rest) ≡ Got x rest) where
-    pub joined_complete : (rest : Tokens) → begins (sign_of (ahead rest)) ≡ false → {u : Tokens} {xs : List A} {h : ℕ} → Joined F u xs h → h ≤ d → all begins item join_lists [] (u ++ rest) ≡ Got xs rest
+    pub joined_complete : (rest : Tokens) → begins (class_of (ahead rest)) ≡ false → {u : Tokens} {xs : List A} {h : ℕ} → Joined F u xs h → h ≤ d → all begins item join_lists [] (u ++ rest) ≡ Got xs rest
     joined_complete rest stops m low = all_complete (Low F d) begins item join_lists (λ _. Unit {0}) (λ u x f. some u x f.height f.spelt) (λ u x rest f. first u x f.height rest f.spelt) (λ rest e. tt) (λ u x rest f e. complete u x f.height rest f.spelt f.low)
         rest tt stops (join_all (Low F d) begins (of_joined m low) [])
 
@@ -88,28 +82,20 @@ pub to_next : {A : Type 0} (F : Tokens → A → Type 0) (u : Tokens) (x : A) �
 to_next F u x (both (wanted i) f) = next i f
 
 module _ {A : Type 0} (F : Tokens → A → Type 0) (item : Reader A) where
-  pub next_sound : ((ts : Tokens) → Sound F ts (item ts)) → (ts : Tokens) → is s.Comma (sign_of (ahead ts)) ≡ true → Sound (Next F) ts (reading.next item ts)
-  unfolding reading.next
-  next_sound law ts e = into (to_next F) (seq (skip_sound s.Comma ts (same_is (sign_of (ahead ts)) s.Comma e)) (λ _ ts. law ts))
-
-  pub next_first : (u : Tokens) (x : A) (rest : Tokens) → Next F u x → is s.Comma (sign_of (ahead (u ++ rest))) ≡ true
-  next_first u x rest (next {c = c} i f) = same_signs (sign c) s.Comma i.same
+  pub next_first : (u : Tokens) (x : A) (rest : Tokens) → Next F u x → is s.Comma (class_of (ahead (u ++ rest))) ≡ true
+  next_first u x rest (next {c = c} i f) = same_classes (class c) s.Comma i.same
 
   pub next_some : (u : Tokens) (x : A) → Next F u x → 0 < length u
   next_some u x (next i f) = omega arith
 
-  pub next_goes : (Ends : Tokens → Type 0) → ((u : Tokens) (x : A) (rest : Tokens) → F u x → Ends rest → item (u ++ rest) ≡ Got x rest) → (u : Tokens) (x : A) (rest : Tokens) → Next F u x → Ends rest → reading.next item (u ++ rest) ≡ Got x rest
+  pub next_reads : (Ends : Tokens → Type 0) → ((u : Tokens) (x : A) (rest : Tokens) → F u x → Ends rest → item (u ++ rest) ≡ Got x rest) → (u : Tokens) (x : A) (rest : Tokens) → Next F u x → Ends rest → reading.next item (u ++ rest) ≡ Got x rest
   unfolding reading.next
-  next_goes Ends complete w x rest (next {u = u} i f) e = complete u x rest f e
+  next_reads Ends complete w x rest (next {u = u} i f) e = complete u x rest f e
 
-  pub more_sound : ((ts : Tokens) → Sound F ts (item ts)) → (acc : List A) (ts : Tokens) → Sound (Behind (Many (Next F)) acc) ts (reading.more item acc ts)
+  pub more_complete : (Ends : Tokens → Type 0) → ((rest : Tokens) → is s.Comma (class_of (ahead rest)) ≡ true → Ends rest) → ((u : Tokens) (x : A) (rest : Tokens) → F u x → Ends rest → item (u ++ rest) ≡ Got x rest)
+      → (rest : Tokens) → Ends rest → is s.Comma (class_of (ahead rest)) ≡ false → {u : Tokens} {xs : List A} → Many (Next F) u xs → (acc : List A) → reading.more item acc (u ++ rest) ≡ Got (acc ++ xs) rest
   unfolding reading.more
-  more_sound law acc ts = into (λ u y m. pushed (Next F) (is s.Comma) m) (many_sound (Next F) (is s.Comma) (reading.next item) push (next_sound law) (suc (length ts)) acc ts)
-
-  pub more_complete : (Ends : Tokens → Type 0) → ((rest : Tokens) → is s.Comma (sign_of (ahead rest)) ≡ true → Ends rest) → ((u : Tokens) (x : A) (rest : Tokens) → F u x → Ends rest → item (u ++ rest) ≡ Got x rest)
-      → (rest : Tokens) → Ends rest → is s.Comma (sign_of (ahead rest)) ≡ false → {u : Tokens} {xs : List A} → Many (Next F) u xs → (acc : List A) → reading.more item acc (u ++ rest) ≡ Got (acc ++ xs) rest
-  unfolding reading.more
-  more_complete Ends ends complete rest e stops m acc = all_complete (Next F) (is s.Comma) (reading.next item) push Ends next_some next_first ends (next_goes Ends complete) rest e stops (push_all (Next F) (is s.Comma) m acc)
+  more_complete Ends ends complete rest e stops m acc = all_complete (Next F) (is s.Comma) (reading.next item) push Ends next_some next_first ends (next_reads Ends complete) rest e stops (push_all (Next F) (is s.Comma) m acc)
 
 module _ {A : Type 0} (F : Tokens → A → ℕ → Type 0) (d : ℕ) where
   pub commas_of : {u v : Tokens} {x : A} {xs : List A} → Low F d u x → Many (Next (Low F d)) v xs → Low (Commas F) d (u ++ v) (x ∷ xs)
@@ -136,46 +122,29 @@ module _ {A : Type 0} (F : Tokens → A → ℕ → Type 0) (d : ℕ) where
   pub to_enclosed : (u : Tokens) (xs : List A) → Both (Wanted s.Open) (λ _. Opened) u xs → Low (Enclosed F) d u xs
   to_enclosed u xs (both (wanted {t = o} i) (opened f)) = f o i
 
-  module _ (item : Reader A) (law : (ts : Tokens) → Sound (Low F d) ts (item ts)) where
-    pub commas_sound : (ts : Tokens) → Sound (Low (Commas F) d) ts (reading.commas item ts)
-    unfolding reading.commas
-    commas_sound ts = into to_commas (seq (law ts) (λ x ts. more_sound (Low F d) item law (x ∷ []) ts))
-
-    listed_sound : (ts : Tokens) → Sound Opened ts (listed item ts)
-    unfolding listed
-    listed_sound ts = by_sign (sign_of (ahead ts)) refl
-      where
-        by_sign : (x : Sign) → sign_of (ahead ts) ≡ x → Sound Opened ts (listed_by item x ts)
-        by_sign s.Close e = into (λ u xs w. opened (to_none u xs w)) (seq (skip_sound s.Close ts e) (λ _ ts. done [] ts))
-        by_sign _ e = into (λ u xs w. opened (to_some u xs w)) (seq (commas_sound ts) (λ ys ts. seq (want_sound s.Close ts) (λ _ ts. done ys ts)))
-
-    pub enclosed_sound : (ts : Tokens) → Sound (Low (Enclosed F) d) ts (enclosed item ts)
-    unfolding enclosed
-    enclosed_sound ts = into to_enclosed (seq (want_sound s.Open ts) (λ _ ts. listed_sound ts))
-
-  module _ (item : Reader A) (Ends : Tokens → Type 0) (ends : (rest : Tokens) → is s.Comma (sign_of (ahead rest)) ≡ true → Ends rest)
+  module _ (item : Reader A) (Ends : Tokens → Type 0) (ends : (rest : Tokens) → is s.Comma (class_of (ahead rest)) ≡ true → Ends rest)
       (complete : (u : Tokens) (x : A) (h : ℕ) (rest : Tokens) → F u x h → h ≤ d → Ends rest → item (u ++ rest) ≡ Got x rest) where
-    pub commas_complete : (rest : Tokens) → Ends rest → is s.Comma (sign_of (ahead rest)) ≡ false → {u : Tokens} {xs : List A} {h : ℕ} → Commas F u xs h → h ≤ d → reading.commas item (u ++ rest) ≡ Got xs rest
+    pub commas_complete : (rest : Tokens) → Ends rest → is s.Comma (class_of (ahead rest)) ≡ false → {u : Tokens} {xs : List A} {h : ℕ} → Commas F u xs h → h ≤ d → reading.commas item (u ++ rest) ≡ Got xs rest
     unfolding reading.commas
     commas_complete rest e stops (r.one {u = u} {x = x} {h = h} f) low = rw (complete u x h rest f low e) (more_complete (Low F d) item Ends ends (λ u x rest f e. complete u x f.height rest f.spelt f.low e) rest e stops none (x ∷ []))
     commas_complete rest e stops (r.more {c = c} {u = u} {v = v} {x = x} {h = h} f i m) low =
         let split : (u ++ c ∷ v) ++ rest ≡ u ++ c ∷ (v ++ rest) = append_assoc u (c ∷ v) rest in
-        let first : item (u ++ c ∷ (v ++ rest)) ≡ Got x (c ∷ (v ++ rest)) = complete u x h (c ∷ (v ++ rest)) f (omega arith) (ends (c ∷ (v ++ rest)) (same_signs (sign c) s.Comma i.same)) in
+        let first : item (u ++ c ∷ (v ++ rest)) ≡ Got x (c ∷ (v ++ rest)) = complete u x h (c ∷ (v ++ rest)) f (omega arith) (ends (c ∷ (v ++ rest)) (same_classes (class c) s.Comma i.same)) in
         rw (split, first) (more_complete (Low F d) item Ends ends (λ u x rest f e. complete u x f.height rest f.spelt f.low e) rest e stops (of_commas i m (omega arith)) (x ∷ []))
 
-    module _ (closes : (rest : Tokens) → sign_of (ahead rest) ≡ s.Close → Ends rest) (first : (u : Tokens) (x : A) (h : ℕ) (rest : Tokens) → F u x h → sign_of (ahead (u ++ rest)) ≡ s.Close → ⊥) where
-      commas_first : {u : Tokens} {xs : List A} {h : ℕ} (rest : Tokens) → Commas F u xs h → sign_of (ahead (u ++ rest)) ≡ s.Close → ⊥
+    module _ (closes : (rest : Tokens) → class_of (ahead rest) ≡ s.Close → Ends rest) (first : (u : Tokens) (x : A) (h : ℕ) (rest : Tokens) → F u x h → class_of (ahead (u ++ rest)) ≡ s.Close → ⊥) where
+      commas_first : {u : Tokens} {xs : List A} {h : ℕ} (rest : Tokens) → Commas F u xs h → class_of (ahead (u ++ rest)) ≡ s.Close → ⊥
       commas_first rest (r.one {u = u} {x = x} {h = h} f) e = first u x h rest f e
-      commas_first rest (r.more {c = c} {u = u} {v = v} {x = x} {h = h} f i m) e = first u x h (c ∷ (v ++ rest)) f (ap (λ z. sign_of (ahead z)) (sym (append_assoc u (c ∷ v) rest)) ∙ e)
+      commas_first rest (r.more {c = c} {u = u} {v = v} {x = x} {h = h} f i m) e = first u x h (c ∷ (v ++ rest)) f (ap (λ z. class_of (ahead z)) (sym (append_assoc u (c ∷ v) rest)) ∙ e)
 
-      listed_some : (x : Sign) (ts : Tokens) → (x ≡ s.Close → ⊥) → listed_by item x ts ≡ and_then (reading.commas item ts) (λ xs ts. and_then (want s.Close ts) (λ _ ts. Got xs ts))
+      listed_some : (x : TokenClass) (ts : Tokens) → (x ≡ s.Close → ⊥) → listed_by item x ts ≡ and_then (reading.commas item ts) (λ xs ts. and_then (want s.Close ts) (λ _ ts. Got xs ts))
       listed_some s.Close ts f = absurd (f refl)
       listed_some _ ts f = refl
 
       pub enclosed_complete : (rest : Tokens) → {u : Tokens} {xs : List A} {h : ℕ} → Enclosed F u xs h → h ≤ d → enclosed item (u ++ rest) ≡ Got xs rest
       unfolding enclosed listed
-      enclosed_complete rest (r.none {o = o} {c = c} i j) low = rw (want_goes s.Open o (c ∷ rest) i) (ap (λ x. listed_by item x (c ∷ rest)) j.same)
+      enclosed_complete rest (r.none {o = o} {c = c} i j) low = rw (want_reads s.Open o (c ∷ rest) i) (ap (λ x. listed_by item x (c ∷ rest)) j.same)
       enclosed_complete rest (r.some {o = o} {c = c} {u = u} {xs = xs} i m j) low =
           let split : (u ++ c ∷ []) ++ rest ≡ u ++ c ∷ rest = append_assoc u (c ∷ []) rest in
           let read : reading.commas item (u ++ c ∷ rest) ≡ Got xs (c ∷ rest) = commas_complete (c ∷ rest) (closes (c ∷ rest) j.same) (apart s.Close s.Comma (c ∷ rest) j.same (λ e. cc)) m low in
-          rw (split, want_goes s.Open o (u ++ c ∷ rest) i) (listed_some (sign_of (ahead (u ++ c ∷ rest))) (u ++ c ∷ rest) (commas_first (c ∷ rest) m) ∙ rw (read, want_goes s.Close c rest j) refl)
+          rw (split, want_reads s.Open o (u ++ c ∷ rest) i) (listed_some (class_of (ahead (u ++ c ∷ rest))) (u ++ c ∷ rest) (commas_first (c ∷ rest) m) ∙ rw (read, want_reads s.Close c rest j) refl)

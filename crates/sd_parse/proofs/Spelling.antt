@@ -1,15 +1,15 @@
--- Each sign but that of no token of the grammar is the sign of some token.
+-- Each class but that of no token of the grammar is the class of some token.
 use Rattle.std.proofs.Common.{◌≡◌, refl, [], ◌∷◌}
 use Rattle.sd_lex.specs.declared.Token.{Token}
 use Rattle.sd_lex.specs.declared.TokenKind.{TokenKind}
 use Rattle.sd_lex.specs.declared.TokenKind.TheVariants as kind
-use Rattle.sd_parse.specs.declared.sign.Sign.{Sign}
-use Rattle.sd_parse.specs.declared.sign.Sign.TheVariants as s
-use Rattle.sd_parse.specs.Signs.{sign_of_kind}
+use Rattle.sd_parse.specs.declared.class.TokenClass.{TokenClass}
+use Rattle.sd_parse.specs.declared.class.TokenClass.TheVariants as s
+use Rattle.sd_parse.specs.TokenClasses.{words, symbols, class_of_kind}
 use Rattle.sd_parse.specs.Grammar.{Is}
 
--- a token of this sign, which isn't the end
-pub record Spelled (x : Sign) : Type 0 where
+-- a token of this class, which isn't the end
+pub record Spelled (x : TokenClass) : Type 0 where
   pub token : Token
   pub is : Is x token
   pub real : s.Other ≡ x → ⊥
@@ -17,11 +17,11 @@ pub record Spelled (x : Sign) : Type 0 where
 abbrev token_of : TokenKind → Token
 token_of k = record { at = record { byte = 0 }; kind = k }
 
-spell : (x : Sign) (k : TokenKind) → sign_of_kind k ≡ x → (s.Other ≡ x → ⊥) → Spelled x
+spell : (x : TokenClass) (k : TokenKind) → class_of_kind k ≡ x → (s.Other ≡ x → ⊥) → Spelled x
 spell x k e real = record { token = token_of k; is = record { same = e }; real = real }
 
-pub spelled : (x : Sign) → (s.Other ≡ x → ⊥) → Spelled x
-unfolding sign_of_kind
+pub spelled : (x : TokenClass) → (s.Other ≡ x → ⊥) → Spelled x
+unfolding class_of_kind words symbols
 spelled s.Name real = spell s.Name (kind.Ident []) refl real
 spelled s.Number real = spell s.Number (kind.Number 0) refl real
 spelled s.True real = spell s.True (kind.Word (116 ∷ 114 ∷ 117 ∷ 101 ∷ [])) refl real

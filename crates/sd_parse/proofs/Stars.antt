@@ -5,13 +5,13 @@ use Rattle.sd_base.specs.declared.Place.{Place}
 use Rattle.sd_lex.specs.Pieces.{Bytes, Cut}
 use Rattle.sd_lex.specs.Tokens as lex
 use Rattle.sd_lex.specs.declared.Token.{Token}
-use Rattle.sd_parse.specs.declared.sign.Sign.TheVariants as s
-use Rattle.sd_parse.specs.Signs.{sign, same_sign}
+use Rattle.sd_parse.specs.declared.class.TokenClass.TheVariants as s
+use Rattle.sd_parse.specs.TokenClasses.{class, same_class}
 use Rattle.sd_parse.specs.Grammar.{Tokens}
 use Rattle.sd_parse.specs.Refusals.{place_of}
 use Rattle.sd_parse.specs.Answer.{guards, IsStar, star, Rising, guarded, star_at}
-use Rattle.sd_parse.proofs.Sound.{same_is}
-use Rattle.sd_parse.proofs.ExpressionComplete.{same_signs}
+use Rattle.sd_parse.proofs.Texts.{same_is}
+use Rattle.sd_parse.proofs.ExpressionComplete.{same_classes}
 use Rattle.sd_parse.proofs.Exact.{Cuts, at_one, sooner, later, cuts}
 
 -- ---- the tokens of a text rise
@@ -89,9 +89,9 @@ drop_before (x ∷ v) z = drop_before v z
 from_guarded : (ts v : Tokens) (w o : Token) (end : Place) (rest : Tokens) → ts ≡ v ++ (w ∷ o ∷ rest) → guarded (w ∷ o ∷ rest) ≡ true → IsStar ts (place_of end rest)
 from_guarded ts v w o end [] split e = absurd (cc)
 from_guarded ts v w o end (t ∷ r) split e =
-    let outer = both_true (guards (sign w) && same_sign (sign o) s.Open) (same_sign (sign t) s.Star) e in
-    let inner = both_true (guards (sign w)) (same_sign (sign o) s.Open) outer.0 in
-    star v w o t r split inner.0 (same_is (sign o) s.Open inner.1) (same_is (sign t) s.Star outer.1)
+    let outer = both_true (guards (class w) && same_class (class o) s.Open) (same_class (class t) s.Star) e in
+    let inner = both_true (guards (class w)) (same_class (class o) s.Open) outer.0 in
+    star v w o t r split inner.0 (same_is (class o) s.Open inner.1) (same_is (class t) s.Star outer.1)
 
 -- where the test says yes
 pub star_yes : (ts u : Tokens) (end : Place) (rest : Tokens) → ts ≡ u ++ rest → star_at ts (length u) ≡ true → IsStar ts (place_of end rest)
@@ -105,11 +105,11 @@ star_yes ts (x ∷ y ∷ u) end rest split e =
     from_guarded ts l.0 l.1 l.2 end rest whole (ap guarded (sym here) ∙ e)
 
 -- the test sees each star
-sees_star : (ts v : Tokens) (w o t : Token) (r : Tokens) → ts ≡ v ++ (w ∷ o ∷ t ∷ r) → guards (sign w) ≡ true → sign o ≡ s.Open → sign t ≡ s.Star → star_at ts (suc (suc (length v))) ≡ true
+sees_star : (ts v : Tokens) (w o t : Token) (r : Tokens) → ts ≡ v ++ (w ∷ o ∷ t ∷ r) → guards (class w) ≡ true → class o ≡ s.Open → class t ≡ s.Star → star_at ts (suc (suc (length v))) ≡ true
 unfolding star_at
 sees_star ts v w o t r split g i j =
     let here : drop (length v) ts ≡ w ∷ o ∷ t ∷ r = ap (drop (length v)) split ∙ drop_before v (w ∷ o ∷ t ∷ r) in
-    ap guarded here ∙ rw (g, same_signs (sign o) s.Open i, same_signs (sign t) s.Star j) refl
+    ap guarded here ∙ rw (g, same_classes (class o) s.Open i, same_classes (class t) s.Star j) refl
 
 -- where the test says no
 pub star_no : (ts u : Tokens) (end : Place) (rest : Tokens) → ts ≡ u ++ rest → Rising 0 ts end.byte → star_at ts (length u) ≡ false → IsStar ts (place_of end rest) → ⊥

@@ -10,8 +10,8 @@ use Rattle.sd_ast.specs.declared.Left.{Left}
 use Rattle.sd_ast.specs.declared.Invariant.{Invariant}
 use Rattle.sd_ast.specs.declared.Stmt.{Stmt}
 use Rattle.sd_ast.specs.declared.StmtKind.{Assert, Assume, Assign, Call, If, While, Break, Return}
-use Rattle.sd_parse.specs.declared.sign.Sign.{Sign}
-use Rattle.sd_parse.specs.declared.sign.Sign.TheVariants as s
+use Rattle.sd_parse.specs.declared.class.TokenClass.{TokenClass}
+use Rattle.sd_parse.specs.declared.class.TokenClass.TheVariants as s
 use Rattle.sd_parse.specs.Grammar.{Tokens, Whole, Is, placed}
 use Rattle.sd_parse.specs.Rows as w
 use Rattle.sd_parse.specs.Rows.{Row, Commas, Enclosed}
@@ -19,12 +19,12 @@ use Rattle.sd_parse.specs.Clauses as c
 use Rattle.sd_parse.specs.Clauses.{Expression, Attributes, Claim}
 use Rattle.sd_parse.specs.Statements as st
 use Rattle.sd_parse.specs.Statements.{Index, LeftSide, InvariantLine, Statement, Otherwise, Block, Statements, stated}
-use Rattle.sd_parse.specs.Reading.{Syntax, Deep, Step, Got, Bad, Reader, and_then, ahead, sign_of, want}
+use Rattle.sd_parse.specs.Reading.{Syntax, Deep, Step, Got, Bad, Reader, and_then, ahead, class_of, want}
 use Rattle.sd_parse.specs.ReadingRows.{is, push, plain_name}
 use Rattle.sd_parse.specs.ReadingRows as reading
 use Rattle.sd_parse.specs.ReadingClauses.{expression, claim}
 use Rattle.sd_parse.specs.ReadingStatements.{index, indices, left, plain_left, begins_invariant, stated_invariant, invariant_by, loop_invariant, invariants, begins_statement, asserted, assumed, assigned, applied, applied_to, received, call_by, call_from, called, statements, block, branch_by, branch, otherwise_by, otherwise, guard, conditional, looped, broken, returned, statement_by, statement_layer, statement}
-use Rattle.sd_parse.proofs.Sound.{Repeat, same_is}
+use Rattle.sd_parse.proofs.Texts.{Repeat, same_is}
 use Rattle.sd_parse.proofs.Spelling.{Spelled, spelled}
 use Rattle.sd_parse.proofs.Tables.{is_name}
 use Rattle.sd_parse.proofs.Algebra.{Begins, Answers, Rule, begins_map, into, fails, seq_at, seq, done, rule_into, want_rule, name_rule, after, deeper_answers, wide}
@@ -34,7 +34,7 @@ use Rattle.sd_parse.proofs.Rows.{Low}
 use Rattle.sd_parse.proofs.RowAnswers.{low_wide, all_rule, row_rule, more_rule, commas_rule, enclosed_rule}
 use Rattle.sd_parse.proofs.ClauseAnswers.{expression_rule, expression_item, attributes_rule, claim_wide, claim_rule, claim_begins, more_names_rule}
 use Rattle.sd_parse.proofs.Limits.{invariant_more, statement_more, otherwise_more, block_more, statements_more}
-use Rattle.sd_parse.proofs.StatementSound.{low_statements, some_tokens, if_statement, Branch, of_block, of_if, PlacedLeft, placed_left, to_index, to_left, to_plain, Guarded, guarded, to_guard, Applied, applied_text, CallFrom, through, direct, StatedInvariant, stated_line, to_stated, to_free, to_checked, to_asserted, to_assumed, to_assigned, to_applied, to_received, to_direct, to_called, to_block, to_otherwise, to_conditional, to_loop, to_broken, to_returned}
+use Rattle.sd_parse.proofs.StatementTexts.{low_statements, some_tokens, if_statement, Branch, of_block, of_if, PlacedLeft, placed_left, to_index, to_left, to_plain, Guarded, guarded, to_guard, Applied, applied_text, CallFrom, through, direct, StatedInvariant, stated_line, to_stated, to_free, to_checked, to_asserted, to_assumed, to_assigned, to_applied, to_received, to_direct, to_called, to_block, to_otherwise, to_conditional, to_loop, to_broken, to_returned}
 
 -- what is spelled in one language within a height is so in a wider one
 pub lift_low : {A : Type 0} {F V : Tokens → A → ℕ → Type 0} → ((u : Tokens) (x : A) (h : ℕ) → F u x h → V u x h) → (d : ℕ) (u : Tokens) (x : A) → Low F d u x → Low V (wide d) u x
@@ -64,9 +64,9 @@ some_return = spelled s.Return (λ e. cc)
 -- ---- the parts of a statement
 
 module _ (d : ℕ) (pos : 1 ≤ d) where
-  index_answers : (ts : Tokens) → is s.OpenBracket (sign_of (ahead ts)) ≡ true → Answers (Low Index d) (Low Index (wide d)) ts (index d ts)
+  index_answers : (ts : Tokens) → is s.OpenBracket (class_of (ahead ts)) ≡ true → Answers (Low Index d) (Low Index (wide d)) ts (index d ts)
   unfolding index
-  index_answers ts e = into (to_index d) (to_index (wide d)) (after s.OpenBracket (spelled s.OpenBracket (λ e. cc)) ts (same_is (sign_of (ahead ts)) s.OpenBracket e) (λ _. seq (expression_rule d pos) (λ e. seq (want_rule s.CloseBracket (spelled s.CloseBracket (λ e. cc))) (λ _. done e))))
+  index_answers ts e = into (to_index d) (to_index (wide d)) (after s.OpenBracket (spelled s.OpenBracket (λ e. cc)) ts (same_is (class_of (ahead ts)) s.OpenBracket e) (λ _. seq (expression_rule d pos) (λ e. seq (want_rule s.CloseBracket (spelled s.CloseBracket (λ e. cc))) (λ _. done e))))
 
   indices_rule : Rule (Low (Row Index) d) (Low (Row Index) (wide d)) (indices d)
   unfolding indices
@@ -97,7 +97,7 @@ module _ (d : ℕ) where
   call_up p x u y (through m i a) = through m i (applied_up p _ _ _ a)
   call_up p x u y (direct w i) = direct (low_wide (Enclosed Expression) d _ _ w) i
 
-  guard_up : (word : Sign) (u : Tokens) (x : Place × Expr) → Guarded d word u x → Guarded (wide d) word u x
+  guard_up : (word : TokenClass) (u : Tokens) (x : Place × Expr) → Guarded d word u x → Guarded (wide d) word u x
   guard_up word u x (guarded i j w k) = guarded i j (low_wide Expression d _ _ w) k
 
   call_begins : (p : Place) (x : Text) → Begins (CallFrom d p x) []
@@ -118,12 +118,12 @@ module _ (limit d : ℕ) (lim : 1 ≤ limit) (pos : 1 ≤ d) where
   invariant_rule = record {
     least = begins_map (StatedInvariant limit d false) (Low (InvariantLine limit) d) (λ x. x) [] (to_checked limit d) (stated_rule false).least;
     up = lift_low (invariant_more (omega arith)) d;
-    answers = λ ts. by_sign ts (sign_of (ahead ts)) refl;
+    answers = λ ts. by_class ts (class_of (ahead ts)) refl;
   }
     where
-      by_sign : (ts : Tokens) (x : Sign) → sign_of (ahead ts) ≡ x → Answers (Low (InvariantLine limit) d) (Low (InvariantLine (wide limit)) (wide d)) ts (invariant_by limit d x ts)
-      by_sign ts s.Free e = into (to_free limit d) (to_free (wide limit) (wide d)) (after s.Free (spelled s.Free (λ e. cc)) ts e (λ _. stated_rule true))
-      by_sign ts _ e = into (to_checked limit d) (to_checked (wide limit) (wide d)) ((stated_rule false).answers ts)
+      by_class : (ts : Tokens) (x : TokenClass) → class_of (ahead ts) ≡ x → Answers (Low (InvariantLine limit) d) (Low (InvariantLine (wide limit)) (wide d)) ts (invariant_by limit d x ts)
+      by_class ts s.Free e = into (to_free limit d) (to_free (wide limit) (wide d)) (after s.Free (spelled s.Free (λ e. cc)) ts e (λ _. stated_rule true))
+      by_class ts _ e = into (to_checked limit d) (to_checked (wide limit) (wide d)) ((stated_rule false).answers ts)
 
   invariants_rule : Rule (Low (Row (InvariantLine limit)) d) (Low (Row (InvariantLine (wide limit))) (wide d)) (invariants limit d)
   unfolding invariants
@@ -138,7 +138,7 @@ pub statement_wide : (limit d : ℕ) (u : Tokens) (x : Stmt) → Low (Statement 
 statement_wide limit d u x w = lift_low (λ u x h y. statement_more (omega arith) y) d u x w
 
 -- a statement after `else`
-as_branch : (limit d : ℕ) (i : Token) (u : Tokens) → sign_of (ahead (i ∷ u)) ≡ s.If → Begins (Low (Statement limit) d) (i ∷ u) → Begins (Branch limit d) (i ∷ u)
+as_branch : (limit d : ℕ) (i : Token) (u : Tokens) → class_of (ahead (i ∷ u)) ≡ s.If → Begins (Low (Statement limit) d) (i ∷ u) → Begins (Branch limit d) (i ∷ u)
 as_branch limit d i u e b = record { more = b.more; value = b.value ∷ []; spelt = of_if (if_statement (record { same = e }) b.spelt) }
 
 block_begins : (limit d : ℕ) → Begins (Low (Block limit) d) []
@@ -147,24 +147,24 @@ block_begins limit d = record { more = some_begin.token ∷ some_end.token ∷ [
 branch_begins : (limit d : ℕ) → Begins (Branch limit d) []
 branch_begins limit d = begins_map (Low (Block limit) d) (Branch limit d) (λ x. x) [] (λ u x w. of_block w) (block_begins limit d)
 
-if_branch : (limit d : ℕ) (ts : Tokens) (step : Step Stmt) → sign_of (ahead ts) ≡ s.If → Answers (Low (Statement limit) d) (Low (Statement (wide limit)) (wide d)) ts step
+if_branch : (limit d : ℕ) (ts : Tokens) (step : Step Stmt) → class_of (ahead ts) ≡ s.If → Answers (Low (Statement limit) d) (Low (Statement (wide limit)) (wide d)) ts step
     → Answers (Branch limit d) (Branch (wide limit) (wide d)) ts (and_then step (λ x ts. Got (x ∷ []) ts))
 if_branch limit d ts (Got x rest) e a = by_tokens a.fact.0 a.fact.1 a.fact.2
   where
     by_tokens : (u : Tokens) → ts ≡ u ++ rest → Low (Statement limit) d u x → Answers (Branch limit d) (Branch (wide limit) (wide d)) ts (Got (x ∷ []) rest)
     by_tokens [] split w = absurd (let z = some_tokens w.spelt in omega arith)
-    by_tokens (i ∷ u) split w = record { fact = (i ∷ u, split, of_if (if_statement (record { same = ap (λ z. sign_of (ahead z)) (sym split) ∙ e }) w)) }
+    by_tokens (i ∷ u) split w = record { fact = (i ∷ u, split, of_if (if_statement (record { same = ap (λ z. class_of (ahead z)) (sym split) ∙ e }) w)) }
 if_branch limit d ts (Bad Syntax rest) e a = by_tokens a.fact.0 a.fact.1 a.fact.2
   where
     by_tokens : (u : Tokens) → ts ≡ u ++ rest → Begins (Low (Statement limit) d) u → Answers (Branch limit d) (Branch (wide limit) (wide d)) ts (Bad Syntax rest)
     by_tokens [] split b = record { fact = ([], split, branch_begins limit d) }
-    by_tokens (i ∷ u) split b = record { fact = (i ∷ u, split, as_branch limit d i u (ap (λ z. sign_of (ahead z)) (sym split) ∙ e) b) }
+    by_tokens (i ∷ u) split b = record { fact = (i ∷ u, split, as_branch limit d i u (ap (λ z. class_of (ahead z)) (sym split) ∙ e) b) }
 if_branch limit d ts (Bad Deep rest) e a = by_tokens a.fact.0 a.fact.1 a.fact.2 a.fact.3 a.fact.4 a.fact.5 a.fact.6
   where
     by_tokens : (u : Tokens) → ts ≡ u ++ rest → Begins (Low (Statement limit) d) u → (t : Token) (r : Tokens) → rest ≡ t ∷ r → Begins (Low (Statement (wide limit)) (wide d)) (u ++ t ∷ []) → Answers (Branch limit d) (Branch (wide limit) (wide d)) ts (Bad Deep rest)
-    by_tokens [] split b t r f v = record { fact = ([], split, branch_begins limit d, t, r, f, as_branch (wide limit) (wide d) t [] (ap (λ z. sign_of (ahead z)) (sym (split ∙ f)) ∙ e) v) }
+    by_tokens [] split b t r f v = record { fact = ([], split, branch_begins limit d, t, r, f, as_branch (wide limit) (wide d) t [] (ap (λ z. class_of (ahead z)) (sym (split ∙ f)) ∙ e) v) }
     by_tokens (i ∷ u) split b t r f v =
-        let first : sign_of (ahead (i ∷ u)) ≡ s.If = ap (λ z. sign_of (ahead z)) (sym split) ∙ e in
+        let first : class_of (ahead (i ∷ u)) ≡ s.If = ap (λ z. class_of (ahead z)) (sym split) ∙ e in
         record { fact = (i ∷ u, split, as_branch limit d i u first b, t, r, f, as_branch (wide limit) (wide d) i (u ++ t ∷ []) first v) }
 
 module _ (limit d : ℕ) (lim : 1 ≤ limit) (inner : Reader Stmt) (law : 1 ≤ d → Rule (Low (Statement limit) d) (Low (Statement (wide limit)) (wide d)) inner) where
@@ -175,13 +175,13 @@ module _ (limit d : ℕ) (lim : 1 ≤ limit) (inner : Reader Stmt) (law : 1 ≤ 
   least : Begins (Low (Statement limit) (suc d)) []
   least = statement_begins limit (suc d) (omega arith)
 
-  asserted_answers : (ts : Tokens) → sign_of (ahead ts) ≡ s.Assert → Here ts (asserted limit d inner ts)
+  asserted_answers : (ts : Tokens) → class_of (ahead ts) ≡ s.Assert → Here ts (asserted limit d inner ts)
   unfolding asserted
   asserted_answers ts e = deeper_answers s.Assert (spelled s.Assert (λ e. cc)) d (λ ts. and_then (claim limit d s.Assert ts) (λ k ts. Got (stated k.0 (Assert k.1)) ts)) ts e least
       (λ t i. begins_map (Low (Claim (wide limit) s.Assert) (suc (suc d))) (Low (Statement (wide limit)) (wide (suc d))) (λ k. stated k.0 (Assert k.1)) (t ∷ []) (λ u k w. record { height = suc w.height; spelt = st.asserted w.spelt; low = let z = w.low in omega arith }) (claim_begins (wide limit) (suc (suc d)) s.Assert (omega arith) t i))
       (λ pos. into (to_asserted limit d) (to_asserted (wide limit) (wide d)) ((seq (claim_rule limit d s.Assert lim pos (spelled s.Assert (λ e. cc))) (λ k. done (stated k.0 (Assert k.1)))).answers ts))
 
-  assumed_answers : (ts : Tokens) → sign_of (ahead ts) ≡ s.Assume → Here ts (assumed limit d inner ts)
+  assumed_answers : (ts : Tokens) → class_of (ahead ts) ≡ s.Assume → Here ts (assumed limit d inner ts)
   unfolding assumed
   assumed_answers ts e = deeper_answers s.Assume (spelled s.Assume (λ e. cc)) d (λ ts. and_then (claim limit d s.Assume ts) (λ k ts. Got (stated k.0 (Assume k.1)) ts)) ts e least
       (λ t i. begins_map (Low (Claim (wide limit) s.Assume) (suc (suc d))) (Low (Statement (wide limit)) (wide (suc d))) (λ k. stated k.0 (Assume k.1)) (t ∷ []) (λ u k w. record { height = suc w.height; spelt = st.assumed w.spelt; low = let z = w.low in omega arith }) (claim_begins (wide limit) (suc (suc d)) s.Assume (omega arith) t i))
@@ -195,7 +195,7 @@ module _ (limit d : ℕ) (lim : 1 ≤ limit) (inner : Reader Stmt) (law : 1 ≤ 
       let left_text : LeftSide (t ∷ []) l 0 = st.left y.1 w.none in
       record { more = some_becomes.token ∷ filler ∷ some_semi.token ∷ []; value = stated t.at (Assign (l ∷ []) (truth ∷ [])); spelt = record { height = 2; spelt = st.assigned (w.one left_text) some_becomes.is (w.one (c.whole (filled Whole))) some_semi.is; low = omega arith } }
 
-  assigned_answers : (ts : Tokens) → sign_of (ahead ts) ≡ s.Name → Here ts (assigned limit d inner ts)
+  assigned_answers : (ts : Tokens) → class_of (ahead ts) ≡ s.Name → Here ts (assigned limit d inner ts)
   unfolding assigned
   assigned_answers ts e = deeper_answers s.Name (spelled s.Name (λ e. cc)) d
       (λ ts. and_then (left d ts) (λ l ts. and_then (reading.more (plain_left d) (l.0 ∷ []) ts) (λ ls ts. and_then (want s.Becomes ts) (λ _ ts. and_then (reading.commas (expression d) ts) (λ es ts. and_then (want s.Semi ts) (λ _ ts. Got (stated l.1 (Assign ls es)) ts)))))) ts e least assigned_begins
@@ -217,14 +217,14 @@ module _ (limit d : ℕ) (lim : 1 ≤ limit) (inner : Reader Stmt) (law : 1 ≤ 
 
   call_from_rule : (p : Place) (x : Text) → Rule (CallFrom d p x) (CallFrom (wide d) p x) (call_from limit d inner p x)
   unfolding call_from
-  call_from_rule p x = record { least = call_begins d p x; up = call_up d p x; answers = λ ts. by_sign ts (sign_of (ahead ts)) }
+  call_from_rule p x = record { least = call_begins d p x; up = call_up d p x; answers = λ ts. by_class ts (class_of (ahead ts)) }
     where
-      by_sign : (ts : Tokens) (y : Sign) → Answers (CallFrom d p x) (CallFrom (wide d) p x) ts (call_by limit d inner p x y ts)
-      by_sign ts s.Comma = received_answers p x ts
-      by_sign ts s.Becomes = received_answers p x ts
-      by_sign ts _ = direct_answers p x ts
+      by_class : (ts : Tokens) (y : TokenClass) → Answers (CallFrom d p x) (CallFrom (wide d) p x) ts (call_by limit d inner p x y ts)
+      by_class ts s.Comma = received_answers p x ts
+      by_class ts s.Becomes = received_answers p x ts
+      by_class ts _ = direct_answers p x ts
 
-  called_answers : (ts : Tokens) → sign_of (ahead ts) ≡ s.Call → Here ts (called limit d inner ts)
+  called_answers : (ts : Tokens) → class_of (ahead ts) ≡ s.Call → Here ts (called limit d inner ts)
   unfolding called
   called_answers ts e = into (to_called limit d) (to_called (wide limit) (wide d)) (after s.Call (spelled s.Call (λ e. cc)) ts e (λ p. seq (attributes_rule limit lim) (λ _. seq name_rule (λ y. call_from_rule p y.0))))
 
@@ -248,21 +248,21 @@ module _ (limit d : ℕ) (lim : 1 ≤ limit) (inner : Reader Stmt) (law : 1 ≤ 
 
   branch_rule : 1 ≤ d → Rule (Branch limit d) (Branch (wide limit) (wide d)) (branch limit d inner)
   unfolding branch
-  branch_rule pos = record { least = branch_begins limit d; up = branch_up; answers = λ ts. by_sign ts (sign_of (ahead ts)) refl }
+  branch_rule pos = record { least = branch_begins limit d; up = branch_up; answers = λ ts. by_class ts (class_of (ahead ts)) refl }
     where
-      by_sign : (ts : Tokens) (x : Sign) → sign_of (ahead ts) ≡ x → Answers (Branch limit d) (Branch (wide limit) (wide d)) ts (branch_by limit d inner x ts)
-      by_sign ts s.If e = if_branch limit d ts (inner ts) e ((law pos).answers ts)
-      by_sign ts _ e = into (λ u xs w. of_block w) (λ u xs w. of_block w) ((block_rule pos).answers ts)
+      by_class : (ts : Tokens) (x : TokenClass) → class_of (ahead ts) ≡ x → Answers (Branch limit d) (Branch (wide limit) (wide d)) ts (branch_by limit d inner x ts)
+      by_class ts s.If e = if_branch limit d ts (inner ts) e ((law pos).answers ts)
+      by_class ts _ e = into (λ u xs w. of_block w) (λ u xs w. of_block w) ((block_rule pos).answers ts)
 
   otherwise_rule : 1 ≤ d → Rule (Low (Otherwise limit) d) (Low (Otherwise (wide limit)) (wide d)) (otherwise limit d inner)
   unfolding otherwise
-  otherwise_rule pos = record { least = record { more = []; value = []; spelt = record { height = 0; spelt = st.nothing; low = omega arith } }; up = lift_low (λ u x h y. otherwise_more (omega arith) y) d; answers = λ ts. by_sign ts (sign_of (ahead ts)) refl }
+  otherwise_rule pos = record { least = record { more = []; value = []; spelt = record { height = 0; spelt = st.nothing; low = omega arith } }; up = lift_low (λ u x h y. otherwise_more (omega arith) y) d; answers = λ ts. by_class ts (class_of (ahead ts)) refl }
     where
-      by_sign : (ts : Tokens) (x : Sign) → sign_of (ahead ts) ≡ x → Answers (Low (Otherwise limit) d) (Low (Otherwise (wide limit)) (wide d)) ts (otherwise_by limit d inner x ts)
-      by_sign ts s.Else e = into (to_otherwise limit d) (to_otherwise (wide limit) (wide d)) (after s.Else (spelled s.Else (λ e. cc)) ts e (λ _. branch_rule pos))
-      by_sign ts _ e = record { fact = ([], refl, record { height = 0; spelt = st.nothing; low = omega arith }) }
+      by_class : (ts : Tokens) (x : TokenClass) → class_of (ahead ts) ≡ x → Answers (Low (Otherwise limit) d) (Low (Otherwise (wide limit)) (wide d)) ts (otherwise_by limit d inner x ts)
+      by_class ts s.Else e = into (to_otherwise limit d) (to_otherwise (wide limit) (wide d)) (after s.Else (spelled s.Else (λ e. cc)) ts e (λ _. branch_rule pos))
+      by_class ts _ e = record { fact = ([], refl, record { height = 0; spelt = st.nothing; low = omega arith }) }
 
-  guard_answers : (word : Sign) → Spelled word → 1 ≤ d → (ts : Tokens) → sign_of (ahead ts) ≡ word → Answers (Guarded d word) (Guarded (wide d) word) ts (guard limit d inner ts)
+  guard_answers : (word : TokenClass) → Spelled word → 1 ≤ d → (ts : Tokens) → class_of (ahead ts) ≡ word → Answers (Guarded d word) (Guarded (wide d) word) ts (guard limit d inner ts)
   unfolding guard
   guard_answers word some pos ts e = into (to_guard d word) (to_guard (wide d) word) (after word some ts e (λ p. seq (want_rule s.Open some_open) (λ _. seq (expression_rule d pos) (λ e. seq (want_rule s.Close some_close) (λ _. done (p, e))))))
 
@@ -275,7 +275,7 @@ module _ (limit d : ℕ) (lim : 1 ≤ limit) (inner : Reader Stmt) (law : 1 ≤ 
         spelt = record { height = 2; spelt = st.conditional i some_open.is (c.whole (filled Whole)) some_close.is (st.braces some_begin.is st.none some_end.is) st.nothing; low = omega arith };
       }
 
-  conditional_answers : (ts : Tokens) → sign_of (ahead ts) ≡ s.If → Here ts (conditional limit d inner ts)
+  conditional_answers : (ts : Tokens) → class_of (ahead ts) ≡ s.If → Here ts (conditional limit d inner ts)
   unfolding conditional
   conditional_answers ts e = deeper_answers s.If (spelled s.If (λ e. cc)) d
       (λ ts. and_then (guard limit d inner ts) (λ g ts. and_then (block limit d inner ts) (λ a ts. and_then (otherwise limit d inner ts) (λ b ts. Got (stated g.0 (If g.1 a b)) ts)))) ts e least conditional_begins
@@ -290,34 +290,34 @@ module _ (limit d : ℕ) (lim : 1 ≤ limit) (inner : Reader Stmt) (law : 1 ≤ 
         spelt = record { height = 2; spelt = st.loop i some_open.is (c.whole (filled Whole)) some_close.is w.none (st.braces some_begin.is st.none some_end.is); low = omega arith };
       }
 
-  loop_answers : (ts : Tokens) → sign_of (ahead ts) ≡ s.While → Here ts (looped limit d inner ts)
+  loop_answers : (ts : Tokens) → class_of (ahead ts) ≡ s.While → Here ts (looped limit d inner ts)
   unfolding looped
   loop_answers ts e = deeper_answers s.While (spelled s.While (λ e. cc)) d
       (λ ts. and_then (guard limit d inner ts) (λ g ts. and_then (invariants limit d ts) (λ a ts. and_then (block limit d inner ts) (λ b ts. Got (stated g.0 (While g.1 a b)) ts)))) ts e least loop_begins
       (λ pos. into (to_loop limit d) (to_loop (wide limit) (wide d)) (seq_at (guard_up d s.While) (guard_answers s.While (spelled s.While (λ e. cc)) pos ts e) (λ g. seq (invariants_rule limit d lim pos) (λ a. seq (block_rule pos) (λ b. done (stated g.0 (While g.1 a b)))))))
 
-  broken_answers : (ts : Tokens) → sign_of (ahead ts) ≡ s.Break → Here ts (broken limit d inner ts)
+  broken_answers : (ts : Tokens) → class_of (ahead ts) ≡ s.Break → Here ts (broken limit d inner ts)
   unfolding broken
   broken_answers ts e = into (to_broken limit d) (to_broken (wide limit) (wide d)) (after s.Break (spelled s.Break (λ e. cc)) ts e (λ p. seq (want_rule s.Semi some_semi) (λ _. done (stated p Break))))
 
-  returned_answers : (ts : Tokens) → sign_of (ahead ts) ≡ s.Return → Here ts (returned limit d inner ts)
+  returned_answers : (ts : Tokens) → class_of (ahead ts) ≡ s.Return → Here ts (returned limit d inner ts)
   unfolding returned
   returned_answers ts e = into (to_returned limit d) (to_returned (wide limit) (wide d)) (after s.Return some_return ts e (λ p. seq (want_rule s.Semi some_semi) (λ _. done (stated p Return))))
 
   layer_answers : (ts : Tokens) → Here ts (statement_layer limit d inner ts)
   unfolding statement_layer
-  layer_answers ts = by_sign (sign_of (ahead ts)) refl
+  layer_answers ts = by_class (class_of (ahead ts)) refl
     where
-      by_sign : (x : Sign) → sign_of (ahead ts) ≡ x → Here ts (statement_by limit d inner x ts)
-      by_sign s.Assert e = asserted_answers ts e
-      by_sign s.Assume e = assumed_answers ts e
-      by_sign s.Name e = assigned_answers ts e
-      by_sign s.Call e = called_answers ts e
-      by_sign s.If e = conditional_answers ts e
-      by_sign s.While e = loop_answers ts e
-      by_sign s.Break e = broken_answers ts e
-      by_sign s.Return e = returned_answers ts e
-      by_sign _ e = fails least
+      by_class : (x : TokenClass) → class_of (ahead ts) ≡ x → Here ts (statement_by limit d inner x ts)
+      by_class s.Assert e = asserted_answers ts e
+      by_class s.Assume e = assumed_answers ts e
+      by_class s.Name e = assigned_answers ts e
+      by_class s.Call e = called_answers ts e
+      by_class s.If e = conditional_answers ts e
+      by_class s.While e = loop_answers ts e
+      by_class s.Break e = broken_answers ts e
+      by_class s.Return e = returned_answers ts e
+      by_class _ e = fails least
 
 statement_answers : (limit d : ℕ) (ts : Tokens) → 1 ≤ limit → 1 ≤ d → Answers (Low (Statement limit) d) (Low (Statement (wide limit)) (wide d)) ts (statement limit d ts)
 unfolding statement

@@ -3,12 +3,12 @@ use Rattle.std.proofs.Common.{◌≡◌, ℕ, zero, suc, ◌≤◌, [], ◌∷�
 use Rattle.sd_base.specs.declared.Sort.{Sort}
 use Rattle.sd_base.specs.declared.Sort.TheVariants as sort
 use Rattle.sd_lex.specs.declared.Token.{Token}
-use Rattle.sd_parse.specs.declared.sign.Sign.{Sign}
-use Rattle.sd_parse.specs.declared.sign.Sign.TheVariants as s
+use Rattle.sd_parse.specs.declared.class.TokenClass.{TokenClass}
+use Rattle.sd_parse.specs.declared.class.TokenClass.TheVariants as s
 use Rattle.sd_parse.specs.Grammar.{Tokens, Is}
 use Rattle.sd_parse.specs.Types as ty
 use Rattle.sd_parse.specs.Types.{TypeText}
-use Rattle.sd_parse.specs.Reading.{Got, Reader, and_then, ahead, sign_of, skip, want}
+use Rattle.sd_parse.specs.Reading.{Got, Reader, and_then, ahead, class_of, skip, want}
 use Rattle.sd_parse.specs.ReadingTypes.{map_type, type_by, type_layer, type_of}
 use Rattle.sd_parse.proofs.Spelling.{Spelled, spelled}
 use Rattle.sd_parse.proofs.Algebra.{Begins, Answers, Rule, into, fails, seq, done, want_rule, name_rule, after, deeper_answers, wide}
@@ -29,7 +29,7 @@ module _ (d : ℕ) (inner : Reader Sort) (law : 1 ≤ d → Rule (Low TypeText d
   map_begins : (t : Token) → Is s.OpenBracket t → Begins (Low TypeText (wide (suc d))) (t ∷ [])
   map_begins t i = record { more = some_int.token ∷ some_bracket.token ∷ some_int.token ∷ []; value = sort.Map sort.Int sort.Int; spelt = record { height = 2; spelt = ty.map i (ty.int some_int.is) some_bracket.is (ty.int some_int.is); low = omega arith } }
 
-  map_answers : (ts : Tokens) → sign_of (ahead ts) ≡ s.OpenBracket → Answers (Low TypeText (suc d)) (Low TypeText (wide (suc d))) ts (map_type d inner ts)
+  map_answers : (ts : Tokens) → class_of (ahead ts) ≡ s.OpenBracket → Answers (Low TypeText (suc d)) (Low TypeText (wide (suc d))) ts (map_type d inner ts)
   unfolding map_type
   map_answers ts e = deeper_answers s.OpenBracket (spelled s.OpenBracket (λ e. cc)) d (λ ts. and_then (skip ts) (λ _ ts. and_then (inner ts) (λ a ts. and_then (want s.CloseBracket ts) (λ _ ts. and_then (inner ts) (λ b ts. Got (sort.Map a b) ts))))) ts e
       (begins_type_text (suc d) (omega arith)) map_begins
@@ -37,14 +37,14 @@ module _ (d : ℕ) (inner : Reader Sort) (law : 1 ≤ d → Rule (Low TypeText d
 
   layer_answers : (ts : Tokens) → Answers (Low TypeText (suc d)) (Low TypeText (wide (suc d))) ts (type_layer d inner ts)
   unfolding type_layer
-  layer_answers ts = by_sign (sign_of (ahead ts)) refl
+  layer_answers ts = by_class (class_of (ahead ts)) refl
     where
-      by_sign : (x : Sign) → sign_of (ahead ts) ≡ x → Answers (Low TypeText (suc d)) (Low TypeText (wide (suc d))) ts (type_by d inner x ts)
-      by_sign s.Int e = into (to_int d) (to_int (wide d)) (after s.Int some_int ts e (λ _. done sort.Int))
-      by_sign s.Bool e = into (to_bool d) (to_bool (wide d)) (after s.Bool (spelled s.Bool (λ e. cc)) ts e (λ _. done sort.Bool))
-      by_sign s.Name e = into (to_named d) (to_named (wide d)) ((seq name_rule (λ y. done (sort.Named y.0))).answers ts)
-      by_sign s.OpenBracket e = map_answers ts e
-      by_sign _ e = fails (begins_type_text (suc d) (omega arith))
+      by_class : (x : TokenClass) → class_of (ahead ts) ≡ x → Answers (Low TypeText (suc d)) (Low TypeText (wide (suc d))) ts (type_by d inner x ts)
+      by_class s.Int e = into (to_int d) (to_int (wide d)) (after s.Int some_int ts e (λ _. done sort.Int))
+      by_class s.Bool e = into (to_bool d) (to_bool (wide d)) (after s.Bool (spelled s.Bool (λ e. cc)) ts e (λ _. done sort.Bool))
+      by_class s.Name e = into (to_named d) (to_named (wide d)) ((seq name_rule (λ y. done (sort.Named y.0))).answers ts)
+      by_class s.OpenBracket e = map_answers ts e
+      by_class _ e = fails (begins_type_text (suc d) (omega arith))
 
 type_answers : (d : ℕ) (ts : Tokens) → 1 ≤ d → Answers (Low TypeText d) (Low TypeText (wide d)) ts (type_of d ts)
 unfolding type_of

@@ -4,26 +4,26 @@ use Rattle.std.specs.Prelude.{Bool}
 use Rattle.std.proofs.lemmas.List.{append-nil}
 use Rattle.sd_base.specs.declared.Sort.{Sort}
 use Rattle.sd_base.specs.declared.Sort.TheVariants as sort
-use Rattle.sd_parse.specs.declared.sign.Sign.{Sign}
-use Rattle.sd_parse.specs.declared.sign.Sign.TheVariants as s
+use Rattle.sd_parse.specs.declared.class.TokenClass.{TokenClass}
+use Rattle.sd_parse.specs.declared.class.TokenClass.TheVariants as s
 use Rattle.sd_parse.specs.Grammar.{Tokens}
 use Rattle.sd_parse.specs.Types as ty
 use Rattle.sd_parse.specs.Types.{TypeText}
-use Rattle.sd_parse.specs.Reading.{Syntax, Deep, Got, Bad, Reader, and_then, ahead, sign_of, skip, want, deeper}
+use Rattle.sd_parse.specs.Reading.{Syntax, Deep, Got, Bad, Reader, and_then, ahead, class_of, skip, want, deeper}
 use Rattle.sd_parse.specs.ReadingTypes.{begins_type, map_type, type_by, type_layer, type_of}
-use Rattle.sd_parse.proofs.Sound.{Sound, Wanted, wanted, Named, named, Nothing, settle, Both, both, seq, done, into, deeper_sound, skip_sound, want_sound, name_sound}
-use Rattle.sd_parse.proofs.ExpressionComplete.{want_goes, name_goes, name_sign}
+use Rattle.sd_parse.proofs.Texts.{Wanted, wanted, Named, named, Nothing, settle, Both, both}
+use Rattle.sd_parse.proofs.ExpressionComplete.{want_reads, name_reads, name_class}
 use Rattle.sd_parse.proofs.Rows.{Low}
 
 -- what asks for more height has it
-pub deeper_goes : {A : Type 0} (n : ℕ) (p : Reader A) (x : A) (ts rest : Tokens) → 1 ≤ n → p ts ≡ Got x rest → deeper n p ts ≡ Got x rest
-deeper_goes zero p x ts rest low e = absurd (omega arith)
-deeper_goes (suc n) p x ts rest low e = e
+pub deeper_reads : {A : Type 0} (n : ℕ) (p : Reader A) (x : A) (ts rest : Tokens) → 1 ≤ n → p ts ≡ Got x rest → deeper n p ts ≡ Got x rest
+deeper_reads zero p x ts rest low e = absurd (omega arith)
+deeper_reads (suc n) p x ts rest low e = e
 
-pub type_first : {u : Tokens} {T : Sort} {h : ℕ} (rest : Tokens) → TypeText u T h → begins_type (sign_of (ahead (u ++ rest))) ≡ true
+pub type_first : {u : Tokens} {T : Sort} {h : ℕ} (rest : Tokens) → TypeText u T h → begins_type (class_of (ahead (u ++ rest))) ≡ true
 type_first rest (ty.int i) = ap begins_type i.same
 type_first rest (ty.bool i) = ap begins_type i.same
-type_first rest (ty.named {t = t} {x = x} i) = ap begins_type (name_sign x t i)
+type_first rest (ty.named {t = t} {x = x} i) = ap begins_type (name_class x t i)
 type_first rest (ty.map i a j b) = ap begins_type i.same
 
 pub type_high : {u : Tokens} {T : Sort} {h : ℕ} → TypeText u T h → 1 ≤ h
@@ -49,46 +49,19 @@ module _ (d : ℕ) where
       (subst (λ z. Low TypeText (suc d) (o ∷ (v ++ c ∷ z)) (sort.Map a b)) (sym (append-nil q)) (record { height = suc (max w.height y.height); spelt = ty.map i w.spelt j y.spelt; low = let l = w.low in let m = y.low in omega arith }))
 
 module _ (d : ℕ) (inner : Reader Sort) where
-  module _ (law : (ts : Tokens) → Sound (Low TypeText d) ts (inner ts)) where
-    map_sound : (ts : Tokens) → sign_of (ahead ts) ≡ s.OpenBracket → Sound (Low TypeText (suc d)) ts (map_type d inner ts)
-    unfolding map_type
-    map_sound ts e = deeper_sound (Low TypeText (suc d)) d (λ ts. and_then (skip ts) (λ _ ts. and_then (inner ts) (λ a ts. and_then (want s.CloseBracket ts) (λ _ ts. and_then (inner ts) (λ b ts. Got (sort.Map a b) ts))))) ts
-        (into (to_map d) (seq (skip_sound s.OpenBracket ts e) (λ _ ts. seq (law ts) (λ a ts. seq (want_sound s.CloseBracket ts) (λ _ ts. seq (law ts) (λ b ts. done (sort.Map a b) ts))))))
-
-    layer_sound : (ts : Tokens) → Sound (Low TypeText (suc d)) ts (type_layer d inner ts)
-    unfolding type_layer
-    layer_sound ts = by_sign (sign_of (ahead ts)) refl
-      where
-        by_sign : (x : Sign) → sign_of (ahead ts) ≡ x → Sound (Low TypeText (suc d)) ts (type_by d inner x ts)
-        by_sign s.Int e = into (to_int d) (seq (skip_sound s.Int ts e) (λ _ ts. done sort.Int ts))
-        by_sign s.Bool e = into (to_bool d) (seq (skip_sound s.Bool ts e) (λ _ ts. done sort.Bool ts))
-        by_sign s.Name e = into (to_named d) (seq (name_sound ts) (λ y ts. done (sort.Named y.0) ts))
-        by_sign s.OpenBracket e = map_sound ts e
-        by_sign _ e = record { fact = tt }
-
   module _ (completes : (u : Tokens) (T : Sort) (h : ℕ) (rest : Tokens) → TypeText u T h → h ≤ d → inner (u ++ rest) ≡ Got T rest) where
     layer_complete : {u : Tokens} {T : Sort} {h : ℕ} (rest : Tokens) → TypeText u T h → h ≤ suc d → type_layer d inner (u ++ rest) ≡ Got T rest
     unfolding type_layer map_type
     layer_complete rest (ty.int {t = t} i) low = ap (λ x. type_by d inner x (t ∷ rest)) i.same
     layer_complete rest (ty.bool {t = t} i) low = ap (λ x. type_by d inner x (t ∷ rest)) i.same
-    layer_complete rest (ty.named {t = t} {x = x} i) low = ap (λ x. type_by d inner x (t ∷ rest)) (name_sign x t i) ∙ rw (name_goes x t rest i) refl
+    layer_complete rest (ty.named {t = t} {x = x} i) low = ap (λ x. type_by d inner x (t ∷ rest)) (name_class x t i) ∙ rw (name_reads x t rest i) refl
     layer_complete rest (ty.map {o = o} {c = c} {u = u} {v = v} {a = a} {b = b} {h = h} {k = k} i f j g) low =
         ap (λ x. type_by d inner x (o ∷ (u ++ c ∷ v) ++ rest)) i.same ∙ ap (λ ts. map_type d inner (o ∷ ts)) (append_assoc u (c ∷ v) rest)
-        ∙ deeper_goes d (λ ts. and_then (skip ts) (λ _ ts. and_then (inner ts) (λ a ts. and_then (want s.CloseBracket ts) (λ _ ts. and_then (inner ts) (λ b ts. Got (sort.Map a b) ts))))) (sort.Map a b) (o ∷ (u ++ c ∷ (v ++ rest))) rest
+        ∙ deeper_reads d (λ ts. and_then (skip ts) (λ _ ts. and_then (inner ts) (λ a ts. and_then (want s.CloseBracket ts) (λ _ ts. and_then (inner ts) (λ b ts. Got (sort.Map a b) ts))))) (sort.Map a b) (o ∷ (u ++ c ∷ (v ++ rest))) rest
         (let z = type_high f in omega arith)
         (let first : inner (u ++ c ∷ (v ++ rest)) ≡ Got a (c ∷ (v ++ rest)) = completes u a h (c ∷ (v ++ rest)) f (omega arith) in
         let second : inner (v ++ rest) ≡ Got b rest = completes v b k rest g (omega arith) in
-        rw (first, want_goes s.CloseBracket c (v ++ rest) j, second) refl)
-
--- What is read is a type.
-pub type_sound : (d : ℕ) (ts : Tokens) → Sound (Low TypeText d) ts (type_of d ts)
-unfolding type_of
-type_sound zero ts = by_test (begins_type (sign_of (ahead ts)))
-  where
-    by_test : (b : Bool) → Sound (Low TypeText zero) ts (cond {A = Reader Sort} b (λ ts. Bad Deep ts) (λ ts. Bad Syntax ts) ts)
-    by_test true = record { fact = tt }
-    by_test false = record { fact = tt }
-type_sound (suc d) ts = layer_sound d (type_of d) (type_sound d) ts
+        rw (first, want_reads s.CloseBracket c (v ++ rest) j, second) refl)
 
 -- What is spelled is read.
 pub type_complete : (d : ℕ) (u : Tokens) (T : Sort) (h : ℕ) (rest : Tokens) → TypeText u T h → h ≤ d → type_of d (u ++ rest) ≡ Got T rest

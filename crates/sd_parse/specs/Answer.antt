@@ -1,29 +1,30 @@
 -- Which answer a text has: its program, or the one refusal that is its own.
-use Rattle.std.specs.Prelude.{◌≡◌, ◌≢◌, ℕ, suc, ◌≤◌, ◌<◌, Bool, true, false, ◌&&◌, [], ◌∷◌, ◌++◌, length, drop, Result, Ok, Err}
+use Rattle.std.specs.Prelude.{◌≡◌, ℕ, suc, ◌≤◌, ◌<◌, Bool, true, false, ◌&&◌, [], ◌∷◌, ◌++◌, length, drop, Result, Ok, Err}
 use Rattle.sd_base.specs.declared.Place.{Place}
 use Rattle.sd_lex.specs.Pieces.{Bytes}
 use Rattle.sd_lex.specs.Tokens as lex
 use Rattle.sd_lex.specs.declared.Token.{Token}
 use Rattle.sd_ast.specs.declared.Program.{Program}
-use Rattle.sd_parse.specs.declared.sign.Sign.{Sign}
-use Rattle.sd_parse.specs.declared.sign.Sign.TheVariants as s
+use Rattle.sd_parse.specs.declared.class.TokenClass.{TokenClass}
+use Rattle.sd_parse.specs.declared.class.TokenClass.TheVariants as s
 use Rattle.sd_parse.specs.declared.answer.ReadError.{ReadError}
 use Rattle.sd_parse.specs.declared.answer.ReadError.TheVariants.{NoMemory, TooLong, Lex, Star, Syntax, Deep, TooMany}
-use Rattle.sd_parse.specs.Signs.{sign, same_sign}
+use Rattle.sd_parse.specs.TokenClasses.{class, same_class}
 use Rattle.sd_parse.specs.Grammar.{Tokens}
 use Rattle.sd_parse.specs.Programs.{Spells}
 use Rattle.sd_parse.specs.Refusals.{IsSyntax, IsDeep}
 use Rattle.sd_parse.specs.Counts.{procedures}
 
 -- the words before a guard
-abbrev pub guards : Sign → Bool
+abbrev pub guards : TokenClass → Bool
 guards s.If = true
 guards s.While = true
 guards _ = false
 
 -- At the place stands a `*` directly after `if (` or `while (`.
 pub data IsStar (ts : Tokens) : Place → Type 0 where
-  star : (u : Tokens) (word o t : Token) (r : Tokens) → ts ≡ u ++ (word ∷ o ∷ t ∷ r) → guards (sign word) ≡ true → sign o ≡ s.Open → sign t ≡ s.Star → IsStar ts t.at
+  star : (u : Tokens) (word o t : Token) (r : Tokens) → ts ≡ u ++ (word ∷ o ∷ t ∷ r) → guards (class word) ≡ true
+      → class o ≡ s.Open → class t ≡ s.Star → IsStar ts t.at
 
 -- the place after the last byte
 abbrev pub end_of : Bytes → Place
@@ -52,10 +53,6 @@ IsReading bytes (Err TooLong) = 16777216 < length bytes
 IsReading bytes (Err (Lex e)) = (length bytes ≤ 16777216) × lex.Refused 0 bytes e
 IsReading bytes r = IsParsed bytes r
 
--- A text has one answer, unless memory runs out.
-abbrev pub OneAnswer : Type 0
-OneAnswer = (bytes : Bytes) (r q : Result Program ReadError) → IsReading bytes r → IsReading bytes q → r ≢ Err NoMemory → q ≢ Err NoMemory → r ≡ q
-
 -- ---- where tokens stand
 
 -- Each token stands before the next, from the first place on and before the second.
@@ -65,7 +62,7 @@ Rising from (t ∷ ts) to = (from ≤ t.at.byte) × Rising (suc t.at.byte) ts to
 
 -- whether these tokens begin with the word before a guard, a parenthesis and a star
 abbrev pub guarded : Tokens → Bool
-guarded (word ∷ o ∷ t ∷ r) = (guards (sign word) && same_sign (sign o) s.Open) && same_sign (sign t) s.Star
+guarded (word ∷ o ∷ t ∷ r) = (guards (class word) && same_class (class o) s.Open) && same_class (class t) s.Star
 guarded _ = false
 
 -- the same of the tokens from the second before this one on

@@ -4,8 +4,8 @@ use Rattle.sd_base.specs.declared.Place.{Place}
 use Rattle.sd_base.specs.Value.{Text}
 use Rattle.sd_lex.specs.declared.Token.{Token}
 use Rattle.sd_ast.specs.declared.Expr.{Expr}
-use Rattle.sd_parse.specs.declared.sign.Sign.{Sign}
-use Rattle.sd_parse.specs.declared.sign.Sign.TheVariants as s
+use Rattle.sd_parse.specs.declared.class.TokenClass.{TokenClass}
+use Rattle.sd_parse.specs.declared.class.TokenClass.TheVariants as s
 use Rattle.sd_parse.specs.Grammar.{Tokens, Whole, Phrase, Is, IsName}
 
 -- a whole expression, wherever it begins
@@ -24,8 +24,10 @@ pub data Data : Tokens → ℕ → Type 0 where
   more : {c : Token} {u v : Tokens} {h k : ℕ} → Datum u h → Is s.Comma c → Data v k → Data (u ++ c ∷ v) (max h k)
 
 pub data Attribute : Tokens → ℕ → Type 0 where
-  bare : {o n c : Token} {x : Text} → Is s.OpenAttribute o → IsName x n → Is s.CloseBrace c → Attribute (o ∷ n ∷ c ∷ []) 0
-  full : {o n c : Token} {x : Text} {u : Tokens} {h : ℕ} → Is s.OpenAttribute o → IsName x n → Data u h → Is s.CloseBrace c → Attribute (o ∷ n ∷ u ++ c ∷ []) h
+  bare : {o n c : Token} {x : Text}
+      → Is s.OpenAttribute o → IsName x n → Is s.CloseBrace c → Attribute (o ∷ n ∷ c ∷ []) 0
+  full : {o n c : Token} {x : Text} {u : Tokens} {h : ℕ}
+      → Is s.OpenAttribute o → IsName x n → Data u h → Is s.CloseBrace c → Attribute (o ∷ n ∷ u ++ c ∷ []) h
 
 -- attributes one after another, each held to the limit by itself
 pub data Attributes (limit : ℕ) : Tokens → Type 0 where
@@ -34,10 +36,13 @@ pub data Attributes (limit : ℕ) : Tokens → Type 0 where
 
 -- ---- a word, attributes, an expression and a semicolon, at the word's place
 
-pub data Claim (limit : ℕ) (word : Sign) : Tokens → Place × Expr → ℕ → Type 0 where
-  claim : {t c : Token} {a u : Tokens} {e : Expr} {h : ℕ} → Is word t → Attributes limit a → Expression u e h → Is s.Semi c → Claim limit word (t ∷ a ++ (u ++ c ∷ [])) (t.at, e) h
+pub data Claim (limit : ℕ) (word : TokenClass) : Tokens → Place × Expr → ℕ → Type 0 where
+  claim : {t c : Token} {a u : Tokens} {e : Expr} {h : ℕ}
+      → Is word t → Attributes limit a → Expression u e h → Is s.Semi c
+      → Claim limit word (t ∷ a ++ (u ++ c ∷ [])) (t.at, e) h
 
 -- a claim that may be free
-pub data Clause (limit : ℕ) (word : Sign) : Tokens → Bool → Expr → ℕ → Type 0 where
+pub data Clause (limit : ℕ) (word : TokenClass) : Tokens → Bool → Expr → ℕ → Type 0 where
   checked : {p : Place} {e : Expr} {u : Tokens} {h : ℕ} → Claim limit word u (p, e) h → Clause limit word u false e h
-  free : {f : Token} {p : Place} {e : Expr} {u : Tokens} {h : ℕ} → Is s.Free f → Claim limit word u (p, e) h → Clause limit word (f ∷ u) true e h
+  free : {f : Token} {p : Place} {e : Expr} {u : Tokens} {h : ℕ}
+      → Is s.Free f → Claim limit word u (p, e) h → Clause limit word (f ∷ u) true e h

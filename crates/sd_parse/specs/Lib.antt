@@ -1,4 +1,4 @@
-pub mod Signs
+pub mod TokenClasses
 pub mod Grammar
 pub mod Rows
 pub mod Types
@@ -14,3 +14,4 @@ pub mod ReadingClauses
 pub mod ReadingStatements
 pub mod ReadingPrograms
 pub mod Answer
+pub mod Laws

@@ -1,10 +1,10 @@
 -- What the readers of lists give.
 use Rattle.std.specs.Prelude.{Bool, List, [], ◌∷◌, ◌++◌}
 use Rattle.sd_base.specs.Value.{Text}
-use Rattle.sd_parse.specs.declared.sign.Sign.{Sign}
-use Rattle.sd_parse.specs.declared.sign.Sign.TheVariants as s
-use Rattle.sd_parse.specs.Signs.{same_sign}
-use Rattle.sd_parse.specs.Reading.{Reader, ◌>>=◌, pure, look, skip, sign_of, want, name, all}
+use Rattle.sd_parse.specs.declared.class.TokenClass.{TokenClass}
+use Rattle.sd_parse.specs.declared.class.TokenClass.TheVariants as s
+use Rattle.sd_parse.specs.TokenClasses.{same_class}
+use Rattle.sd_parse.specs.Reading.{Reader, ◌>>=◌, pure, look, skip, class_of, want, name, all}
 
 -- one more at the end
 abbrev pub push : {A : Type 0} → List A → A → List A
@@ -17,9 +17,9 @@ join_lists xs ys = xs ++ ys
 abbrev pub keep : {A B : Type 0} → B → A → B
 keep y x = y
 
--- whether the second sign is the first
-abbrev pub is : Sign → Sign → Bool
-is x y = same_sign y x
+-- whether the second class is the first
+abbrev pub is : TokenClass → TokenClass → Bool
+is x y = same_class y x
 
 module _ {A : Type 0} (item : Reader A) where
   -- an item after a comma
@@ -34,13 +34,13 @@ module _ {A : Type 0} (item : Reader A) where
   unfoldable pub commas : Reader (List A)
   commas = item >>= λ x. more (x ∷ [])
 
-  abbrev pub listed_by : Sign → Reader (List A)
+  abbrev pub listed_by : TokenClass → Reader (List A)
   listed_by s.Close = skip >>= λ _. pure []
   listed_by _ = commas >>= λ xs. want s.Close >>= λ _. pure xs
 
   -- items up to the parenthesis that closes
   unfoldable pub listed : Reader (List A)
-  listed = look (λ t. listed_by (sign_of t))
+  listed = look (λ t. listed_by (class_of t))
 
   unfoldable pub enclosed : Reader (List A)
   enclosed = want s.Open >>= λ _. listed

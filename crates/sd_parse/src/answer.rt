@@ -5,10 +5,10 @@ ghost use Rattle.sd_parse.specs.Refusals as refusals;
 ghost use Rattle.sd_parse.specs.Answer.{IsReading, IsParsing, Rising};
 ghost use Rattle.sd_lex.specs.Tokens as lex;
 
+use crate::class::{TokenClass, same_class, token_class};
 use crate::count::procedures;
 use crate::cursor::{Cursor, Fault};
 use crate::program::program;
-use crate::sign::{Sign, same_sign, token_sign};
 use sd_ast::Program;
 use sd_base::Place;
 use sd_base::limits::{HEIGHT, PROCEDURES, TEXT_BYTES};
@@ -30,7 +30,8 @@ pub enum ReadError {
     /// A `*` as the guard of an `if` or of a `while`.
     #[error("a guard is a star")]
     Star(Place),
-    /// The first token with which the text so far begins no program, or the end.
+    /// The first token with which the text so far begins no program; or the end of the text, where it begins one and is
+    /// none, so that a token is missing at the end, as the last `}`.
     #[error("a token goes on with no program")]
     Syntax(Place),
     /// The first token with which it begins a program, but none within height 200.
@@ -42,11 +43,11 @@ pub enum ReadError {
 }
 
 /// The words before a guard.
-fn guards(sign: Sign) -> bool
-    ensures { result ≡ spec.guards sign }
+fn guards(class: TokenClass) -> bool
+    ensures { result ≡ spec.guards class }
 {
-    match sign {
-        Sign::If | Sign::While => true,
+    match class {
+        TokenClass::If | TokenClass::While => true,
         _ => false,
     }
 }
@@ -57,9 +58,9 @@ fn guarded(tokens: &[Token]) -> bool
 {
     match tokens {
         [word, open, star, ..] => {
-            guards(token_sign(word))
-                && same_sign(token_sign(open), Sign::Open)
-                && same_sign(token_sign(star), Sign::Star)
+            guards(token_class(word))
+                && same_class(token_class(open), TokenClass::Open)
+                && same_class(token_class(star), TokenClass::Star)
         }
         _ => false,
     }
@@ -77,7 +78,8 @@ fn star_at(tokens: &[Token], at: usize) -> bool
     guarded(&tokens[at - 2..])
 }
 
-/// The place of the first token, or of the end.
+/// The place of the first token; or of the end of the text, where none is left, as where the last `}` is missing at the
+/// end.
 fn place_of(tokens: &[Token], end: Place) -> Place
     ensures { result ≡ refusals.place_of end tokens.now }
 {
@@ -101,6 +103,7 @@ fn parsed(alloc: Global, tokens: &[Token], end: Place) -> Result<Program, ReadEr
             Ok(Program { decls })
         }
         Err(Fault::NoMemory) => Err(ReadError::NoMemory),
+        // The cursor stands before the token that is refused, or past the last one where a token is missing at the end.
         Err(Fault::Syntax) => {
             let at = tokens.len() - cursor.left();
             let place = place_of(&tokens[at..], end);

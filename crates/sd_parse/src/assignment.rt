@@ -6,8 +6,8 @@ ghost use Rattle.sd_parse.specs.ReadingStatements as spec;
 ghost use Rattle.sd_parse.specs.Reading.{Gives};
 
 use crate::attribute::expression;
+use crate::class::{TokenClass, same_class};
 use crate::cursor::{Cursor, Fault};
-use crate::sign::{Sign, same_sign};
 use sd_ast::{Expr, Left};
 use sd_base::Place;
 use sqlite_items::Items;
@@ -20,7 +20,7 @@ fn index(alloc: Global, tokens: &mut Cursor<'_>, depth: u32) -> Result<Expr, Fau
 {
     tokens.skip()?;
     let found = expression(alloc, tokens, depth)?;
-    tokens.want(Sign::CloseBracket)?;
+    tokens.want(TokenClass::CloseBracket)?;
     Ok(found)
 }
 
@@ -30,8 +30,8 @@ fn indices(alloc: Global, tokens: &mut Cursor<'_>, depth: u32) -> Result<Items<E
 {
     let mut found = Items::new(alloc);
     for _turn in 0..tokens.turns() {
-        let goes_on = same_sign(tokens.peek(), Sign::OpenBracket);
-        if !goes_on {
+        let has_next = same_class(tokens.peek(), TokenClass::OpenBracket);
+        if !has_next {
             return Ok(found);
         }
         let next = index(alloc, tokens, depth)?;
@@ -80,8 +80,8 @@ pub fn more_lefts(
     ensures { Gives (rows.more (spec.plain_left depth) lefts tokens.old) result tokens.new }
 {
     for _turn in 0..tokens.turns() {
-        let goes_on = same_sign(tokens.peek(), Sign::Comma);
-        if !goes_on {
+        let has_next = same_class(tokens.peek(), TokenClass::Comma);
+        if !has_next {
             return Ok(lefts);
         }
         let next = next_left(alloc, tokens, depth)?;

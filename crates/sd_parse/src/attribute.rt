@@ -3,10 +3,10 @@ ghost use Rattle.std.specs.Prelude.{◌<◌, ◌^◌};
 ghost use Rattle.sd_parse.specs.ReadingClauses as spec;
 ghost use Rattle.sd_parse.specs.Reading.{Gives};
 
+use crate::class::{TokenClass, same_class};
 use crate::cursor::{Cursor, Fault};
 use crate::expression::read;
 use crate::level::Level;
-use crate::sign::{Sign, same_sign};
 use sd_ast::Expr;
 use sd_base::Place;
 use std::alloc::Global;
@@ -28,7 +28,7 @@ fn datum(alloc: Global, tokens: &mut Cursor<'_>, limit: u32) -> Result<(), Fault
     ensures { Gives (spec.datum limit tokens.old) result tokens.new }
 {
     match tokens.peek() {
-        Sign::Text => {
+        TokenClass::Text => {
             tokens.skip()?;
             Ok(())
         }
@@ -53,8 +53,8 @@ fn more_data(alloc: Global, tokens: &mut Cursor<'_>, limit: u32) -> Result<(), F
     ensures { Gives (spec.more_data limit tokens.old) result tokens.new }
 {
     for _turn in 0..tokens.turns() {
-        let goes_on = same_sign(tokens.peek(), Sign::Comma);
-        if !goes_on {
+        let has_next = same_class(tokens.peek(), TokenClass::Comma);
+        if !has_next {
             return Ok(());
         }
         next_datum(alloc, tokens, limit)?;
@@ -69,7 +69,7 @@ fn contents(alloc: Global, tokens: &mut Cursor<'_>, limit: u32) -> Result<(), Fa
     ensures { Gives (spec.contents limit tokens.old) result tokens.new }
 {
     match tokens.peek() {
-        Sign::CloseBrace => Ok(()),
+        TokenClass::CloseBrace => Ok(()),
         _ => {
             datum(alloc, tokens, limit)?;
             more_data(alloc, tokens, limit)
@@ -85,7 +85,7 @@ fn attribute(alloc: Global, tokens: &mut Cursor<'_>, limit: u32) -> Result<(), F
     tokens.skip()?;
     tokens.name(alloc)?;
     contents(alloc, tokens, limit)?;
-    tokens.want(Sign::CloseBrace)?;
+    tokens.want(TokenClass::CloseBrace)?;
     Ok(())
 }
 
@@ -95,8 +95,8 @@ pub fn attributes(alloc: Global, tokens: &mut Cursor<'_>, limit: u32) -> Result<
     ensures { Gives (spec.attributes limit tokens.old) result tokens.new }
 {
     for _turn in 0..tokens.turns() {
-        let goes_on = same_sign(tokens.peek(), Sign::OpenAttribute);
-        if !goes_on {
+        let has_next = same_class(tokens.peek(), TokenClass::OpenAttribute);
+        if !has_next {
             return Ok(());
         }
         attribute(alloc, tokens, limit)?;
@@ -104,14 +104,15 @@ pub fn attributes(alloc: Global, tokens: &mut Cursor<'_>, limit: u32) -> Result<
     Err(Fault::Syntax)
 }
 
-/// This word, attributes, an expression of the height `depth` at most and a semicolon. It gives the word's place and the expression.
+/// This word, attributes, an expression of the height `depth` at most and a semicolon. It gives the word's place and
+/// the expression.
 #[tactic(auto, unfolding(crate::specs::ReadingClauses::claim))]
 pub fn claim(
     alloc: Global,
     tokens: &mut Cursor<'_>,
     limit: u32,
     depth: u32,
-    word: Sign,
+    word: TokenClass,
 ) -> Result<(Place, Expr), Fault>
     requires low { limit < 2 ^ 31 }
     requires small { depth < 2 ^ 31 }
@@ -120,6 +121,6 @@ pub fn claim(
     let at = tokens.want(word)?;
     attributes(alloc, tokens, limit)?;
     let claimed = expression(alloc, tokens, depth)?;
-    tokens.want(Sign::Semi)?;
+    tokens.want(TokenClass::Semi)?;
     Ok((at, claimed))
 }

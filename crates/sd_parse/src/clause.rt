@@ -4,19 +4,20 @@ ghost use Rattle.sd_parse.specs.ReadingPrograms as spec;
 ghost use Rattle.sd_parse.specs.Reading.{Gives};
 
 use crate::attribute::claim;
+use crate::class::TokenClass;
 use crate::cursor::{Cursor, Fault};
 use crate::names::names;
-use crate::sign::Sign;
 use sd_ast::Spec;
 use sd_base::Name;
 use sqlite_items::Items;
 use std::alloc::Global;
 
-fn begins_spec(sign: Sign) -> bool
-    ensures { result ≡ spec.begins_spec sign }
+fn begins_spec(class: TokenClass) -> bool
+    ensures { result ≡ spec.begins_spec class }
 {
-    match sign {
-        Sign::Modifies | Sign::Free | Sign::Requires | Sign::Ensures => true,
+    match class {
+        TokenClass::Modifies | TokenClass::Free | TokenClass::Requires | TokenClass::Ensures =>
+            true,
         _ => false,
     }
 }
@@ -26,7 +27,7 @@ fn modified(alloc: Global, tokens: &mut Cursor<'_>) -> Result<Items<Name>, Fault
     ensures { Gives (spec.modified tokens.old) result tokens.new }
 {
     match tokens.peek() {
-        Sign::Semi => Ok(Items::new(alloc)),
+        TokenClass::Semi => Ok(Items::new(alloc)),
         _ => names(alloc, tokens),
     }
 }
@@ -37,7 +38,7 @@ fn modifies(alloc: Global, tokens: &mut Cursor<'_>) -> Result<Spec, Fault>
 {
     tokens.skip()?;
     let names = modified(alloc, tokens)?;
-    tokens.want(Sign::Semi)?;
+    tokens.want(TokenClass::Semi)?;
     Ok(Spec::Modifies(names))
 }
 
@@ -46,7 +47,7 @@ fn required(alloc: Global, tokens: &mut Cursor<'_>, limit: u32, free: bool) -> R
     requires { limit < 2 ^ 31 }
     ensures { Gives (spec.required limit free tokens.old) result tokens.new }
 {
-    let (_, condition) = claim(alloc, tokens, limit, limit, Sign::Requires)?;
+    let (_, condition) = claim(alloc, tokens, limit, limit, TokenClass::Requires)?;
     Ok(Spec::Requires(free, condition))
 }
 
@@ -55,7 +56,7 @@ fn ensured(alloc: Global, tokens: &mut Cursor<'_>, limit: u32, free: bool) -> Re
     requires { limit < 2 ^ 31 }
     ensures { Gives (spec.ensured limit free tokens.old) result tokens.new }
 {
-    let (_, condition) = claim(alloc, tokens, limit, limit, Sign::Ensures)?;
+    let (_, condition) = claim(alloc, tokens, limit, limit, TokenClass::Ensures)?;
     Ok(Spec::Ensures(free, condition))
 }
 
@@ -66,8 +67,8 @@ fn condition(alloc: Global, tokens: &mut Cursor<'_>, limit: u32, free: bool) -> 
     ensures { Gives (spec.condition limit free tokens.old) result tokens.new }
 {
     match tokens.peek() {
-        Sign::Requires => required(alloc, tokens, limit, free),
-        Sign::Ensures => ensured(alloc, tokens, limit, free),
+        TokenClass::Requires => required(alloc, tokens, limit, free),
+        TokenClass::Ensures => ensured(alloc, tokens, limit, free),
         _ => Err(Fault::Syntax),
     }
 }
@@ -87,8 +88,8 @@ fn clause(alloc: Global, tokens: &mut Cursor<'_>, limit: u32) -> Result<Spec, Fa
     ensures { Gives (spec.clause limit tokens.old) result tokens.new }
 {
     match tokens.peek() {
-        Sign::Modifies => modifies(alloc, tokens),
-        Sign::Free => free_condition(alloc, tokens, limit),
+        TokenClass::Modifies => modifies(alloc, tokens),
+        TokenClass::Free => free_condition(alloc, tokens, limit),
         _ => condition(alloc, tokens, limit, false),
     }
 }

@@ -3,7 +3,7 @@ ghost use Rattle.std.specs.Prelude.{◌≡◌, length, suc};
 ghost use Rattle.sd_parse.specs.Reading as spec;
 ghost use Rattle.sd_parse.specs.Reading.{Gives};
 
-use crate::sign::{Sign, same_sign, token_sign};
+use crate::class::{TokenClass, same_class, token_class};
 use sd_base::{CloneOf, Name, NoMemory, Place};
 use sd_lex::{Token, TokenKind};
 use std::alloc::{AllocError, Global};
@@ -77,13 +77,13 @@ impl<'a> Cursor<'a> {
         self.rest.len() + 1
     }
 
-    /// The sign of the next token, and `Other` at the end.
-    pub fn peek(&self) -> Sign
-        ensures { result ≡ spec.sign_of (spec.ahead self.now) }
+    /// The class of the next token, and `Other` at the end.
+    pub fn peek(&self) -> TokenClass
+        ensures { result ≡ spec.class_of (spec.ahead self.now) }
     {
         match self.rest {
-            [] => Sign::Other,
-            [token, ..] => token_sign(token),
+            [] => TokenClass::Other,
+            [token, ..] => token_class(token),
         }
     }
 
@@ -101,12 +101,13 @@ impl<'a> Cursor<'a> {
         }
     }
 
-    /// Reads a token of this sign, and gives its place.
+    /// Reads a token of this class, and gives its place. Where it is missing at the end of the text, the cursor stays
+    /// at the end.
     #[tactic(auto, unfolding(crate::specs::Reading::want))]
-    pub fn want(&mut self, wanted: Sign) -> Result<Place, Fault>
+    pub fn want(&mut self, wanted: TokenClass) -> Result<Place, Fault>
         ensures { Gives (spec.want wanted self.old) result self.new }
     {
-        if same_sign(self.peek(), wanted) {
+        if same_class(self.peek(), wanted) {
             self.skip()
         } else {
             Err(Fault::Syntax)

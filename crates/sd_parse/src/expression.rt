@@ -1,4 +1,5 @@
-//! The rules for expressions. They take the reader of the expressions below as a parameter, so that each is proved by itself.
+//! The rules for expressions. They take the reader of the expressions below as a parameter, so that each is proved by
+//! itself.
 
 ghost use Rattle.std.specs.Prelude.{◌≡◌, ◌<◌, ◌≤◌, ◌+◌, ◌^◌, ◌∷◌, [], IfOk, suc};
 ghost use Rattle.sd_ast.specs.declared.BinOp.TheVariants as op;
@@ -8,32 +9,32 @@ ghost use Rattle.sd_parse.specs.Grammar.{Right};
 ghost use Rattle.sd_parse.specs.Reading as spec;
 ghost use Rattle.sd_parse.specs.Reading.{Gives, Reads, ReadsGroup, Nests};
 
+use crate::class::TokenClass;
 use crate::cursor::{Cursor, Fault};
 use crate::level::Level;
-use crate::sign::Sign;
 use sd_ast::{BinOp, Expr, ExprKind, UnOp};
 use sd_base::{Name, Place};
 use sqlite_items::{Boxed, Items};
 use std::alloc::{AllocError, Global};
 
 /// An expression, its height, and the place where its phrase begins.
-pub type Tall = (Expr, u32, Place);
+pub type MeasuredExpr = (Expr, u32, Place);
 
 /// Expressions, and the height of the highest.
 pub type Group = (Items<Expr>, u32);
 
 /// The operators that are repeated at a level.
-fn repeated(level: Level, sign: Sign) -> Option<BinOp>
-    ensures { result ≡ grammar.repeated level sign }
+fn repeated(level: Level, class: TokenClass) -> Option<BinOp>
+    ensures { result ≡ grammar.repeated level class }
 {
-    match (level, sign) {
-        (Level::Whole, Sign::Iff) => Some(BinOp::Iff),
-        (Level::Explied, Sign::Explies) => Some(BinOp::Explies),
-        (Level::Conjunction, Sign::And) => Some(BinOp::And),
-        (Level::Disjunction, Sign::Or) => Some(BinOp::Or),
-        (Level::Sum, Sign::Plus) => Some(BinOp::Add),
-        (Level::Sum, Sign::Minus) => Some(BinOp::Sub),
-        (Level::Product, Sign::Star) => Some(BinOp::Mul),
+    match (level, class) {
+        (Level::Whole, TokenClass::Iff) => Some(BinOp::Iff),
+        (Level::Explied, TokenClass::Explies) => Some(BinOp::Explies),
+        (Level::Conjunction, TokenClass::And) => Some(BinOp::And),
+        (Level::Disjunction, TokenClass::Or) => Some(BinOp::Or),
+        (Level::Sum, TokenClass::Plus) => Some(BinOp::Add),
+        (Level::Sum, TokenClass::Minus) => Some(BinOp::Sub),
+        (Level::Product, TokenClass::Star) => Some(BinOp::Mul),
         _ => None,
     }
 }
@@ -52,60 +53,60 @@ fn operand(level: Level) -> Level
     }
 }
 
-fn compares(sign: Sign) -> Option<BinOp>
-    ensures { result ≡ grammar.compares sign }
+fn compares(class: TokenClass) -> Option<BinOp>
+    ensures { result ≡ grammar.compares class }
 {
-    match sign {
-        Sign::Equal => Some(BinOp::Eq),
-        Sign::Unequal => Some(BinOp::Ne),
-        Sign::Less => Some(BinOp::Lt),
-        Sign::AtMost => Some(BinOp::Le),
-        Sign::Greater => Some(BinOp::Gt),
-        Sign::AtLeast => Some(BinOp::Ge),
+    match class {
+        TokenClass::Equal => Some(BinOp::Eq),
+        TokenClass::Unequal => Some(BinOp::Ne),
+        TokenClass::Less => Some(BinOp::Lt),
+        TokenClass::AtMost => Some(BinOp::Le),
+        TokenClass::Greater => Some(BinOp::Gt),
+        TokenClass::AtLeast => Some(BinOp::Ge),
         _ => None,
     }
 }
 
-fn prefixes(sign: Sign) -> Option<UnOp>
-    ensures { result ≡ grammar.prefixes sign }
+fn prefixes(class: TokenClass) -> Option<UnOp>
+    ensures { result ≡ grammar.prefixes class }
 {
-    match sign {
-        Sign::Not => Some(UnOp::Not),
-        Sign::Minus => Some(UnOp::Neg),
+    match class {
+        TokenClass::Not => Some(UnOp::Not),
+        TokenClass::Minus => Some(UnOp::Neg),
         _ => None,
     }
 }
 
-fn begins(sign: Sign) -> bool
-    ensures { result ≡ spec.begins sign }
+fn begins(class: TokenClass) -> bool
+    ensures { result ≡ spec.begins class }
 {
-    match sign {
-        Sign::Number
-        | Sign::True
-        | Sign::False
-        | Sign::Name
-        | Sign::Old
-        | Sign::Open
-        | Sign::Not
-        | Sign::Minus => true,
+    match class {
+        TokenClass::Number
+        | TokenClass::True
+        | TokenClass::False
+        | TokenClass::Name
+        | TokenClass::Old
+        | TokenClass::Open
+        | TokenClass::Not
+        | TokenClass::Minus => true,
         _ => false,
     }
 }
 
-fn comma(sign: Sign) -> bool
-    ensures { result ≡ spec.comma sign }
+fn comma(class: TokenClass) -> bool
+    ensures { result ≡ spec.comma class }
 {
-    match sign {
-        Sign::Comma => true,
+    match class {
+        TokenClass::Comma => true,
         _ => false,
     }
 }
 
-fn opens_bracket(sign: Sign) -> bool
-    ensures { result ≡ spec.opens_bracket sign }
+fn opens_bracket(class: TokenClass) -> bool
+    ensures { result ≡ spec.opens_bracket class }
 {
-    match sign {
-        Sign::OpenBracket => true,
+    match class {
+        TokenClass::OpenBracket => true,
         _ => false,
     }
 }
@@ -117,7 +118,7 @@ fn placed(at: Place, kind: ExprKind) -> Expr
 }
 
 /// A prefix operator that stands at this place, with what follows it.
-fn unary(alloc: Global, at: Place, op: UnOp, x: Tall) -> Result<Tall, AllocError>
+fn unary(alloc: Global, at: Place, op: UnOp, x: MeasuredExpr) -> Result<MeasuredExpr, AllocError>
     requires { x.1 < 2 ^ 31 }
     ensures { IfOk result (λ y. y ≡ (grammar.placed at (ast.Unary op x.0), suc x.1, at)) }
 {
@@ -127,7 +128,7 @@ fn unary(alloc: Global, at: Place, op: UnOp, x: Tall) -> Result<Tall, AllocError
 }
 
 /// `old` of what follows it.
-fn old_value(alloc: Global, at: Place, x: Tall) -> Result<Tall, AllocError>
+fn old_value(alloc: Global, at: Place, x: MeasuredExpr) -> Result<MeasuredExpr, AllocError>
     requires { x.1 < 2 ^ 31 }
     ensures { IfOk result (λ y. y ≡ (grammar.placed at (ast.Old x.0), suc x.1, at)) }
 {
@@ -137,7 +138,12 @@ fn old_value(alloc: Global, at: Place, x: Tall) -> Result<Tall, AllocError>
 }
 
 /// A binary operator between two phrases. It stands where the first one begins.
-fn join(alloc: Global, op: BinOp, x: Tall, y: Tall) -> Result<Tall, AllocError>
+fn join(
+    alloc: Global,
+    op: BinOp,
+    x: MeasuredExpr,
+    y: MeasuredExpr,
+) -> Result<MeasuredExpr, AllocError>
     requires left { x.1 < 2 ^ 31 }
     requires right { y.1 < 2 ^ 31 }
     ensures { IfOk result (λ z. z ≡ spec.join op x y) }
@@ -150,7 +156,7 @@ fn join(alloc: Global, op: BinOp, x: Tall, y: Tall) -> Result<Tall, AllocError>
 }
 
 /// An index of a map. It stands where the map begins.
-fn select(alloc: Global, map: Tall, index: Tall) -> Result<Tall, AllocError>
+fn select(alloc: Global, map: MeasuredExpr, index: MeasuredExpr) -> Result<MeasuredExpr, AllocError>
     requires left { map.1 < 2 ^ 31 }
     requires right { index.1 < 2 ^ 31 }
     ensures { IfOk result (λ x. x ≡ spec.select map index) }
@@ -163,7 +169,12 @@ fn select(alloc: Global, map: Tall, index: Tall) -> Result<Tall, AllocError>
 }
 
 /// A map with a value written to an index.
-fn store(alloc: Global, map: Tall, index: Tall, value: Tall) -> Result<Tall, AllocError>
+fn store(
+    alloc: Global,
+    map: MeasuredExpr,
+    index: MeasuredExpr,
+    value: MeasuredExpr,
+) -> Result<MeasuredExpr, AllocError>
     requires left { map.1 < 2 ^ 31 }
     requires middle { index.1 < 2 ^ 31 }
     requires right { value.1 < 2 ^ 31 }
@@ -180,7 +191,7 @@ fn store(alloc: Global, map: Tall, index: Tall, value: Tall) -> Result<Tall, All
 }
 
 /// The first expression of a group.
-fn first(alloc: Global, x: Tall) -> Result<Group, AllocError>
+fn first(alloc: Global, x: MeasuredExpr) -> Result<Group, AllocError>
     ensures { IfOk result (λ group. group ≡ (x.0 ∷ [], x.1)) }
 {
     let (tree, height, _) = x;
@@ -190,7 +201,7 @@ fn first(alloc: Global, x: Tall) -> Result<Group, AllocError>
 }
 
 /// One expression more in a group.
-fn add(group: Group, x: Tall) -> Result<Group, AllocError>
+fn add(group: Group, x: MeasuredExpr) -> Result<Group, AllocError>
     ensures { IfOk result (λ more. more ≡ spec.add group x) }
 {
     let (mut trees, highest) = group;
@@ -207,8 +218,8 @@ pub struct Grammar<F> {
     inner: F,
 }
 
-impl<F: Fn(Global, &mut Cursor<'_>, u32, Level) -> Result<Tall, Fault>> Grammar<F> {
-    fn inner(&self, tokens: &mut Cursor<'_>, level: Level) -> Result<Tall, Fault>
+impl<F: Fn(Global, &mut Cursor<'_>, u32, Level) -> Result<MeasuredExpr, Fault>> Grammar<F> {
+    fn inner(&self, tokens: &mut Cursor<'_>, level: Level) -> Result<MeasuredExpr, Fault>
         requires { Nests self.now.depth (F.pre self.now.inner) (F.post self.now.inner) }
         ensures { Reads self.now.depth (spec.read self.now.depth level tokens.old) result tokens.new }
     {
@@ -216,40 +227,43 @@ impl<F: Fn(Global, &mut Cursor<'_>, u32, Level) -> Result<Tall, Fault>> Grammar<
     }
 
     #[tactic(auto, unfolding(crate::specs::Reading::parenthesized))]
-    fn parenthesized(&self, tokens: &mut Cursor<'_>) -> Result<Tall, Fault>
+    fn parenthesized(&self, tokens: &mut Cursor<'_>) -> Result<MeasuredExpr, Fault>
         requires nests { Nests self.now.depth (F.pre self.now.inner) (F.post self.now.inner) }
         requires small { self.now.depth < 2 ^ 31 }
-        ensures { Reads (suc self.now.depth) (spec.parenthesized self.now.depth (spec.read self.now.depth) tokens.old) result tokens.new }
+        ensures { Reads (suc self.now.depth) (spec.parenthesized self.now.depth (spec.read self.now.depth) tokens.old)
+            result tokens.new }
     {
         if self.depth == 0 {
             return Err(Fault::Deep);
         }
         let at = tokens.skip()?;
         let (tree, height, _) = self.inner(tokens, Level::Whole)?;
-        tokens.want(Sign::Close)?;
+        tokens.want(TokenClass::Close)?;
         Ok((tree, height + 1, at))
     }
 
     #[tactic(auto, unfolding(crate::specs::Reading::old))]
-    fn old(&self, tokens: &mut Cursor<'_>) -> Result<Tall, Fault>
+    fn old(&self, tokens: &mut Cursor<'_>) -> Result<MeasuredExpr, Fault>
         requires nests { Nests self.now.depth (F.pre self.now.inner) (F.post self.now.inner) }
         requires small { self.now.depth < 2 ^ 31 }
-        ensures { Reads (suc self.now.depth) (spec.old self.now.depth (spec.read self.now.depth) tokens.old) result tokens.new }
+        ensures { Reads (suc self.now.depth) (spec.old self.now.depth (spec.read self.now.depth) tokens.old)
+            result tokens.new }
     {
         if self.depth == 0 {
             return Err(Fault::Deep);
         }
         let at = tokens.skip()?;
-        tokens.want(Sign::Open)?;
+        tokens.want(TokenClass::Open)?;
         let below = self.inner(tokens, Level::Whole)?;
-        tokens.want(Sign::Close)?;
+        tokens.want(TokenClass::Close)?;
         Ok(old_value(self.alloc, at, below)?)
     }
 
     #[tactic(auto, unfolding(crate::specs::Reading::next_expression))]
-    fn next_expression(&self, tokens: &mut Cursor<'_>) -> Result<Tall, Fault>
+    fn next_expression(&self, tokens: &mut Cursor<'_>) -> Result<MeasuredExpr, Fault>
         requires nests { Nests self.now.depth (F.pre self.now.inner) (F.post self.now.inner) }
-        ensures { Reads self.now.depth (spec.next_expression self.now.depth (spec.read self.now.depth) tokens.old) result tokens.new }
+        ensures { Reads self.now.depth (spec.next_expression self.now.depth (spec.read self.now.depth) tokens.old)
+            result tokens.new }
     {
         tokens.skip()?;
         self.inner(tokens, Level::Whole)
@@ -260,12 +274,13 @@ impl<F: Fn(Global, &mut Cursor<'_>, u32, Level) -> Result<Tall, Fault>> Grammar<
         requires nests { Nests self.now.depth (F.pre self.now.inner) (F.post self.now.inner) }
         requires small { self.now.depth < 2 ^ 31 }
         requires low { first.1 ≤ self.now.depth }
-        ensures { ReadsGroup self.now.depth (spec.more_expressions self.now.depth (spec.read self.now.depth) first tokens.old) result tokens.new }
+        ensures { ReadsGroup self.now.depth
+            (spec.more_expressions self.now.depth (spec.read self.now.depth) first tokens.old) result tokens.new }
     {
         let mut group = first;
         for _turn in 0..tokens.turns() {
-            let goes_on = comma(tokens.peek());
-            if !goes_on {
+            let has_next = comma(tokens.peek());
+            if !has_next {
                 return Ok(group);
             }
             let next = self.next_expression(tokens)?;
@@ -278,7 +293,8 @@ impl<F: Fn(Global, &mut Cursor<'_>, u32, Level) -> Result<Tall, Fault>> Grammar<
     fn expressions(&self, tokens: &mut Cursor<'_>) -> Result<Group, Fault>
         requires nests { Nests self.now.depth (F.pre self.now.inner) (F.post self.now.inner) }
         requires small { self.now.depth < 2 ^ 31 }
-        ensures { ReadsGroup self.now.depth (spec.expressions self.now.depth (spec.read self.now.depth) tokens.old) result tokens.new }
+        ensures { ReadsGroup self.now.depth (spec.expressions self.now.depth (spec.read self.now.depth) tokens.old)
+            result tokens.new }
     {
         let x = self.inner(tokens, Level::Whole)?;
         let group = first(self.alloc, x)?;
@@ -289,85 +305,99 @@ impl<F: Fn(Global, &mut Cursor<'_>, u32, Level) -> Result<Tall, Fault>> Grammar<
     fn arguments(&self, tokens: &mut Cursor<'_>) -> Result<Group, Fault>
         requires nests { Nests self.now.depth (F.pre self.now.inner) (F.post self.now.inner) }
         requires small { self.now.depth < 2 ^ 31 }
-        ensures { ReadsGroup self.now.depth (spec.arguments self.now.depth (spec.read self.now.depth) tokens.old) result tokens.new }
+        ensures { ReadsGroup self.now.depth (spec.arguments self.now.depth (spec.read self.now.depth) tokens.old)
+            result tokens.new }
     {
         match tokens.peek() {
-            Sign::Close => Ok((Items::new(self.alloc), 0)),
+            TokenClass::Close => Ok((Items::new(self.alloc), 0)),
             _ => self.expressions(tokens),
         }
     }
 
     /// An application of the function of this name, from its parenthesis on.
     #[tactic(auto, unfolding(crate::specs::Reading::application))]
-    fn application(&self, tokens: &mut Cursor<'_>, function: (Name, Place)) -> Result<Tall, Fault>
+    fn application(
+        &self,
+        tokens: &mut Cursor<'_>,
+        function: (Name, Place),
+    ) -> Result<MeasuredExpr, Fault>
         requires nests { Nests self.now.depth (F.pre self.now.inner) (F.post self.now.inner) }
         requires small { self.now.depth < 2 ^ 31 }
-        ensures { Reads (suc self.now.depth) (spec.application self.now.depth (spec.read self.now.depth) function tokens.old) result tokens.new }
+        ensures { Reads (suc self.now.depth)
+            (spec.application self.now.depth (spec.read self.now.depth) function tokens.old) result tokens.new }
     {
         tokens.skip()?;
         let (trees, height) = self.arguments(tokens)?;
-        tokens.want(Sign::Close)?;
+        tokens.want(TokenClass::Close)?;
         let (name, at) = function;
         Ok((placed(at, ExprKind::Apply(name, trees)), height + 1, at))
     }
 
     #[tactic(auto, unfolding(crate::specs::Reading::named))]
-    fn named(&self, tokens: &mut Cursor<'_>) -> Result<Tall, Fault>
+    fn named(&self, tokens: &mut Cursor<'_>) -> Result<MeasuredExpr, Fault>
         requires nests { Nests self.now.depth (F.pre self.now.inner) (F.post self.now.inner) }
         requires small { self.now.depth < 2 ^ 31 }
-        ensures { Reads (suc self.now.depth) (spec.named self.now.depth (spec.read self.now.depth) tokens.old) result tokens.new }
+        ensures { Reads (suc self.now.depth) (spec.named self.now.depth (spec.read self.now.depth) tokens.old)
+            result tokens.new }
     {
         let (name, at) = tokens.name(self.alloc)?;
         match tokens.peek() {
-            Sign::Open => self.application(tokens, (name, at)),
+            TokenClass::Open => self.application(tokens, (name, at)),
             _ => Ok((placed(at, ExprKind::Var(name)), 1, at)),
         }
     }
 
     #[tactic(auto, unfolding(crate::specs::Reading::atom))]
-    fn atom(&self, tokens: &mut Cursor<'_>) -> Result<Tall, Fault>
+    fn atom(&self, tokens: &mut Cursor<'_>) -> Result<MeasuredExpr, Fault>
         requires nests { Nests self.now.depth (F.pre self.now.inner) (F.post self.now.inner) }
         requires small { self.now.depth < 2 ^ 31 }
-        ensures { Reads (suc self.now.depth) (spec.atom self.now.depth (spec.read self.now.depth) tokens.old) result tokens.new }
+        ensures { Reads (suc self.now.depth) (spec.atom self.now.depth (spec.read self.now.depth) tokens.old)
+            result tokens.new }
     {
         match tokens.peek() {
-            Sign::Number => {
+            TokenClass::Number => {
                 let (number, at) = tokens.number()?;
                 Ok((placed(at, ExprKind::Num(number)), 1, at))
             }
-            Sign::True => {
+            TokenClass::True => {
                 let at = tokens.skip()?;
                 Ok((placed(at, ExprKind::Truth(true)), 1, at))
             }
-            Sign::False => {
+            TokenClass::False => {
                 let at = tokens.skip()?;
                 Ok((placed(at, ExprKind::Truth(false)), 1, at))
             }
-            Sign::Name => self.named(tokens),
-            Sign::Old => self.old(tokens),
-            Sign::Open => self.parenthesized(tokens),
+            TokenClass::Name => self.named(tokens),
+            TokenClass::Old => self.old(tokens),
+            TokenClass::Open => self.parenthesized(tokens),
             _ => Err(Fault::Syntax),
         }
     }
 
     /// After an index: a value and the bracket, or the bracket alone.
     #[tactic(auto, unfolding(crate::specs::Reading::indexed))]
-    fn indexed(&self, tokens: &mut Cursor<'_>, map: Tall, index: Tall) -> Result<Tall, Fault>
+    fn indexed(
+        &self,
+        tokens: &mut Cursor<'_>,
+        map: MeasuredExpr,
+        index: MeasuredExpr,
+    ) -> Result<MeasuredExpr, Fault>
         requires nests { Nests self.now.depth (F.pre self.now.inner) (F.post self.now.inner) }
         requires small { self.now.depth < 2 ^ 31 }
         requires left { map.1 ≤ self.now.depth }
         requires right { index.1 ≤ self.now.depth }
-        ensures { Reads (suc self.now.depth) (spec.indexed self.now.depth (spec.read self.now.depth) map index tokens.old) result tokens.new }
+        ensures { Reads (suc self.now.depth)
+            (spec.indexed self.now.depth (spec.read self.now.depth) map index tokens.old) result tokens.new }
     {
         match tokens.peek() {
-            Sign::Becomes => {
+            TokenClass::Becomes => {
                 tokens.skip()?;
                 let value = self.inner(tokens, Level::Whole)?;
-                tokens.want(Sign::CloseBracket)?;
+                tokens.want(TokenClass::CloseBracket)?;
                 Ok(store(self.alloc, map, index, value)?)
             }
             _ => {
-                tokens.want(Sign::CloseBracket)?;
+                tokens.want(TokenClass::CloseBracket)?;
                 Ok(select(self.alloc, map, index)?)
             }
         }
@@ -375,11 +405,12 @@ impl<F: Fn(Global, &mut Cursor<'_>, u32, Level) -> Result<Tall, Fault>> Grammar<
 
     /// What stands in brackets after `map`.
     #[tactic(auto, unfolding(crate::specs::Reading::bracket))]
-    fn bracket(&self, tokens: &mut Cursor<'_>, map: Tall) -> Result<Tall, Fault>
+    fn bracket(&self, tokens: &mut Cursor<'_>, map: MeasuredExpr) -> Result<MeasuredExpr, Fault>
         requires nests { Nests self.now.depth (F.pre self.now.inner) (F.post self.now.inner) }
         requires small { self.now.depth < 2 ^ 31 }
         requires low { map.1 ≤ suc self.now.depth }
-        ensures { Reads (suc self.now.depth) (spec.bracket self.now.depth (spec.read self.now.depth) map tokens.old) result tokens.new }
+        ensures { Reads (suc self.now.depth) (spec.bracket self.now.depth (spec.read self.now.depth) map tokens.old)
+            result tokens.new }
     {
         if map.1 > self.depth {
             return Err(Fault::Deep);
@@ -390,16 +421,18 @@ impl<F: Fn(Global, &mut Cursor<'_>, u32, Level) -> Result<Tall, Fault>> Grammar<
     }
 
     /// The brackets that follow `first`.
-    fn brackets(&self, tokens: &mut Cursor<'_>, first: Tall) -> Result<Tall, Fault>
+    fn brackets(&self, tokens: &mut Cursor<'_>, first: MeasuredExpr) -> Result<MeasuredExpr, Fault>
         requires nests { Nests self.now.depth (F.pre self.now.inner) (F.post self.now.inner) }
         requires small { self.now.depth < 2 ^ 31 }
         requires low { first.1 ≤ suc self.now.depth }
-        ensures { Reads (suc self.now.depth) (spec.brackets self.now.depth (spec.read self.now.depth) (suc self.now.depth) first tokens.old) result tokens.new }
+        ensures { Reads (suc self.now.depth)
+            (spec.brackets self.now.depth (spec.read self.now.depth) (suc self.now.depth) first tokens.old)
+            result tokens.new }
     {
         let mut x = first;
         for _turn in 0..self.depth + 1 {
-            let goes_on = opens_bracket(tokens.peek());
-            if !goes_on {
+            let has_next = opens_bracket(tokens.peek());
+            if !has_next {
                 return Ok(x);
             }
             x = self.bracket(tokens, x)?;
@@ -408,20 +441,22 @@ impl<F: Fn(Global, &mut Cursor<'_>, u32, Level) -> Result<Tall, Fault>> Grammar<
     }
 
     #[tactic(auto, unfolding(crate::specs::Reading::postfix))]
-    fn postfix(&self, tokens: &mut Cursor<'_>) -> Result<Tall, Fault>
+    fn postfix(&self, tokens: &mut Cursor<'_>) -> Result<MeasuredExpr, Fault>
         requires nests { Nests self.now.depth (F.pre self.now.inner) (F.post self.now.inner) }
         requires small { self.now.depth < 2 ^ 31 }
-        ensures { Reads (suc self.now.depth) (spec.postfix self.now.depth (spec.read self.now.depth) tokens.old) result tokens.new }
+        ensures { Reads (suc self.now.depth) (spec.postfix self.now.depth (spec.read self.now.depth) tokens.old)
+            result tokens.new }
     {
         let first = self.atom(tokens)?;
         self.brackets(tokens, first)
     }
 
     #[tactic(auto, unfolding(crate::specs::Reading::prefixed))]
-    fn prefixed(&self, tokens: &mut Cursor<'_>, op: UnOp) -> Result<Tall, Fault>
+    fn prefixed(&self, tokens: &mut Cursor<'_>, op: UnOp) -> Result<MeasuredExpr, Fault>
         requires nests { Nests self.now.depth (F.pre self.now.inner) (F.post self.now.inner) }
         requires small { self.now.depth < 2 ^ 31 }
-        ensures { Reads (suc self.now.depth) (spec.prefixed self.now.depth (spec.read self.now.depth) op tokens.old) result tokens.new }
+        ensures { Reads (suc self.now.depth) (spec.prefixed self.now.depth (spec.read self.now.depth) op tokens.old)
+            result tokens.new }
     {
         if self.depth == 0 {
             return Err(Fault::Deep);
@@ -432,10 +467,11 @@ impl<F: Fn(Global, &mut Cursor<'_>, u32, Level) -> Result<Tall, Fault>> Grammar<
     }
 
     #[tactic(auto, unfolding(crate::specs::Reading::prefix))]
-    fn prefix(&self, tokens: &mut Cursor<'_>) -> Result<Tall, Fault>
+    fn prefix(&self, tokens: &mut Cursor<'_>) -> Result<MeasuredExpr, Fault>
         requires nests { Nests self.now.depth (F.pre self.now.inner) (F.post self.now.inner) }
         requires small { self.now.depth < 2 ^ 31 }
-        ensures { Reads (suc self.now.depth) (spec.prefix self.now.depth (spec.read self.now.depth) tokens.old) result tokens.new }
+        ensures { Reads (suc self.now.depth) (spec.prefix self.now.depth (spec.read self.now.depth) tokens.old)
+            result tokens.new }
     {
         match prefixes(tokens.peek()) {
             None => self.postfix(tokens),
@@ -449,13 +485,15 @@ impl<F: Fn(Global, &mut Cursor<'_>, u32, Level) -> Result<Tall, Fault>> Grammar<
         &self,
         tokens: &mut Cursor<'_>,
         level: Level,
-        x: Tall,
+        x: MeasuredExpr,
         op: BinOp,
-    ) -> Result<Tall, Fault>
+    ) -> Result<MeasuredExpr, Fault>
         requires nests { Nests self.now.depth (F.pre self.now.inner) (F.post self.now.inner) }
         requires small { self.now.depth < 2 ^ 31 }
         requires low { x.1 ≤ suc self.now.depth }
-        ensures { Reads (suc self.now.depth) (spec.operation self.now.depth (spec.read self.now.depth) level spec.pure x op tokens.old) result tokens.new }
+        ensures { Reads (suc self.now.depth)
+            (spec.operation self.now.depth (spec.read self.now.depth) level spec.pure x op tokens.old)
+            result tokens.new }
     {
         if x.1 > self.depth {
             return Err(Fault::Deep);
@@ -466,11 +504,18 @@ impl<F: Fn(Global, &mut Cursor<'_>, u32, Level) -> Result<Tall, Fault>> Grammar<
     }
 
     /// The operators of the level that follow `first`.
-    fn turns(&self, tokens: &mut Cursor<'_>, level: Level, first: Tall) -> Result<Tall, Fault>
+    fn turns(
+        &self,
+        tokens: &mut Cursor<'_>,
+        level: Level,
+        first: MeasuredExpr,
+    ) -> Result<MeasuredExpr, Fault>
         requires nests { Nests self.now.depth (F.pre self.now.inner) (F.post self.now.inner) }
         requires small { self.now.depth < 2 ^ 31 }
         requires low { first.1 ≤ suc self.now.depth }
-        ensures { Reads (suc self.now.depth) (spec.turns self.now.depth (spec.read self.now.depth) (suc self.now.depth) level first tokens.old) result tokens.new }
+        ensures { Reads (suc self.now.depth)
+            (spec.turns self.now.depth (spec.read self.now.depth) (suc self.now.depth) level first tokens.old)
+            result tokens.new }
     {
         let mut x = first;
         for _turn in 0..self.depth + 1 {
@@ -483,30 +528,33 @@ impl<F: Fn(Global, &mut Cursor<'_>, u32, Level) -> Result<Tall, Fault>> Grammar<
     }
 
     #[tactic(auto, unfolding(crate::specs::Reading::product))]
-    fn product(&self, tokens: &mut Cursor<'_>) -> Result<Tall, Fault>
+    fn product(&self, tokens: &mut Cursor<'_>) -> Result<MeasuredExpr, Fault>
         requires nests { Nests self.now.depth (F.pre self.now.inner) (F.post self.now.inner) }
         requires small { self.now.depth < 2 ^ 31 }
-        ensures { Reads (suc self.now.depth) (spec.product self.now.depth (spec.read self.now.depth) tokens.old) result tokens.new }
+        ensures { Reads (suc self.now.depth) (spec.product self.now.depth (spec.read self.now.depth) tokens.old)
+            result tokens.new }
     {
         let first = self.prefix(tokens)?;
         self.turns(tokens, Level::Product, first)
     }
 
     #[tactic(auto, unfolding(crate::specs::Reading::sum))]
-    fn sum(&self, tokens: &mut Cursor<'_>) -> Result<Tall, Fault>
+    fn sum(&self, tokens: &mut Cursor<'_>) -> Result<MeasuredExpr, Fault>
         requires nests { Nests self.now.depth (F.pre self.now.inner) (F.post self.now.inner) }
         requires small { self.now.depth < 2 ^ 31 }
-        ensures { Reads (suc self.now.depth) (spec.sum self.now.depth (spec.read self.now.depth) tokens.old) result tokens.new }
+        ensures { Reads (suc self.now.depth) (spec.sum self.now.depth (spec.read self.now.depth) tokens.old)
+            result tokens.new }
     {
         let first = self.product(tokens)?;
         self.turns(tokens, Level::Sum, first)
     }
 
     #[tactic(auto, unfolding(crate::specs::Reading::relation))]
-    fn relation(&self, tokens: &mut Cursor<'_>) -> Result<Tall, Fault>
+    fn relation(&self, tokens: &mut Cursor<'_>) -> Result<MeasuredExpr, Fault>
         requires nests { Nests self.now.depth (F.pre self.now.inner) (F.post self.now.inner) }
         requires small { self.now.depth < 2 ^ 31 }
-        ensures { Reads (suc self.now.depth) (spec.relation self.now.depth (spec.read self.now.depth) tokens.old) result tokens.new }
+        ensures { Reads (suc self.now.depth) (spec.relation self.now.depth (spec.read self.now.depth) tokens.old)
+            result tokens.new }
     {
         let first = self.sum(tokens)?;
         match compares(tokens.peek()) {
@@ -516,68 +564,75 @@ impl<F: Fn(Global, &mut Cursor<'_>, u32, Level) -> Result<Tall, Fault>> Grammar<
     }
 
     #[tactic(auto, unfolding(crate::specs::Reading::junction))]
-    fn junction(&self, tokens: &mut Cursor<'_>) -> Result<Tall, Fault>
+    fn junction(&self, tokens: &mut Cursor<'_>) -> Result<MeasuredExpr, Fault>
         requires nests { Nests self.now.depth (F.pre self.now.inner) (F.post self.now.inner) }
         requires small { self.now.depth < 2 ^ 31 }
-        ensures { Reads (suc self.now.depth) (spec.junction self.now.depth (spec.read self.now.depth) tokens.old) result tokens.new }
+        ensures { Reads (suc self.now.depth) (spec.junction self.now.depth (spec.read self.now.depth) tokens.old)
+            result tokens.new }
     {
         let first = self.relation(tokens)?;
         match tokens.peek() {
-            Sign::And => self.turns(tokens, Level::Conjunction, first),
+            TokenClass::And => self.turns(tokens, Level::Conjunction, first),
             _ => self.turns(tokens, Level::Disjunction, first),
         }
     }
 
     /// `==>` after `x`, and its right side, which may have `==>` again.
-    fn implied(&self, tokens: &mut Cursor<'_>, x: Tall) -> Result<Tall, Fault>
+    fn implied(&self, tokens: &mut Cursor<'_>, x: MeasuredExpr) -> Result<MeasuredExpr, Fault>
         requires nests { Nests self.now.depth (F.pre self.now.inner) (F.post self.now.inner) }
         requires small { self.now.depth < 2 ^ 31 }
         requires low { x.1 ≤ suc self.now.depth }
-        ensures { Reads (suc self.now.depth) (spec.operation self.now.depth (spec.read self.now.depth) Right spec.pure x op.Implies tokens.old) result tokens.new }
+        ensures { Reads (suc self.now.depth)
+            (spec.operation self.now.depth (spec.read self.now.depth) Right spec.pure x op.Implies tokens.old)
+            result tokens.new }
     {
         self.operation(tokens, Level::Right, x, BinOp::Implies)
     }
 
     #[tactic(auto, unfolding(crate::specs::Reading::right))]
-    fn right(&self, tokens: &mut Cursor<'_>) -> Result<Tall, Fault>
+    fn right(&self, tokens: &mut Cursor<'_>) -> Result<MeasuredExpr, Fault>
         requires nests { Nests self.now.depth (F.pre self.now.inner) (F.post self.now.inner) }
         requires small { self.now.depth < 2 ^ 31 }
-        ensures { Reads (suc self.now.depth) (spec.right self.now.depth (spec.read self.now.depth) tokens.old) result tokens.new }
+        ensures { Reads (suc self.now.depth) (spec.right self.now.depth (spec.read self.now.depth) tokens.old)
+            result tokens.new }
     {
         let first = self.junction(tokens)?;
         match tokens.peek() {
-            Sign::Implies => self.implied(tokens, first),
+            TokenClass::Implies => self.implied(tokens, first),
             _ => Ok(first),
         }
     }
 
     #[tactic(auto, unfolding(crate::specs::Reading::implication))]
-    fn implication(&self, tokens: &mut Cursor<'_>) -> Result<Tall, Fault>
+    fn implication(&self, tokens: &mut Cursor<'_>) -> Result<MeasuredExpr, Fault>
         requires nests { Nests self.now.depth (F.pre self.now.inner) (F.post self.now.inner) }
         requires small { self.now.depth < 2 ^ 31 }
-        ensures { Reads (suc self.now.depth) (spec.implication self.now.depth (spec.read self.now.depth) tokens.old) result tokens.new }
+        ensures { Reads (suc self.now.depth) (spec.implication self.now.depth (spec.read self.now.depth) tokens.old)
+            result tokens.new }
     {
         let first = self.junction(tokens)?;
         match tokens.peek() {
-            Sign::Implies => self.implied(tokens, first),
+            TokenClass::Implies => self.implied(tokens, first),
             _ => self.turns(tokens, Level::Explied, first),
         }
     }
 
     #[tactic(auto, unfolding(crate::specs::Reading::whole))]
-    fn whole(&self, tokens: &mut Cursor<'_>) -> Result<Tall, Fault>
+    fn whole(&self, tokens: &mut Cursor<'_>) -> Result<MeasuredExpr, Fault>
         requires nests { Nests self.now.depth (F.pre self.now.inner) (F.post self.now.inner) }
         requires small { self.now.depth < 2 ^ 31 }
-        ensures { Reads (suc self.now.depth) (spec.whole self.now.depth (spec.read self.now.depth) tokens.old) result tokens.new }
+        ensures { Reads (suc self.now.depth) (spec.whole self.now.depth (spec.read self.now.depth) tokens.old)
+            result tokens.new }
     {
         let first = self.implication(tokens)?;
         self.turns(tokens, Level::Whole, first)
     }
 
-    fn layer(&self, tokens: &mut Cursor<'_>, level: Level) -> Result<Tall, Fault>
+    fn layer(&self, tokens: &mut Cursor<'_>, level: Level) -> Result<MeasuredExpr, Fault>
         requires nests { Nests self.now.depth (F.pre self.now.inner) (F.post self.now.inner) }
         requires small { self.now.depth < 2 ^ 31 }
-        ensures { Reads (suc self.now.depth) (spec.layer self.now.depth (spec.read self.now.depth) level tokens.old) result tokens.new }
+        ensures { Reads (suc self.now.depth) (spec.layer self.now.depth (spec.read self.now.depth) level tokens.old)
+            result tokens.new }
     {
         match level {
             Level::Whole => self.whole(tokens),
@@ -608,7 +663,7 @@ impl<F: Fn(Global, &mut Cursor<'_>, u32, Level) -> Result<Tall, Fault>> Grammar<
 
 /// No expression has height 0.
 #[tactic(auto, unfolding(crate::specs::Reading::read))]
-fn none(tokens: &mut Cursor<'_>, level: Level) -> Result<Tall, Fault>
+fn none(tokens: &mut Cursor<'_>, level: Level) -> Result<MeasuredExpr, Fault>
     ensures { Reads 0 (spec.read 0 level tokens.old) result tokens.new }
 {
     if begins(tokens.peek()) {
@@ -619,7 +674,12 @@ fn none(tokens: &mut Cursor<'_>, level: Level) -> Result<Tall, Fault>
 }
 
 /// The expression of this height at most that the tokens begin with.
-pub fn read(alloc: Global, tokens: &mut Cursor<'_>, depth: u32, level: Level) -> Result<Tall, Fault>
+pub fn read(
+    alloc: Global,
+    tokens: &mut Cursor<'_>,
+    depth: u32,
+    level: Level,
+) -> Result<MeasuredExpr, Fault>
     requires { depth < 2 ^ 31 }
     ensures { Reads depth (spec.read depth level tokens.old) result tokens.new }
 {

@@ -5,9 +5,9 @@ ghost use Rattle.sd_parse.specs.ReadingPrograms as spec;
 ghost use Rattle.sd_parse.specs.Reading.{Gives};
 
 use crate::attribute::attributes;
+use crate::class::{TokenClass, same_class};
 use crate::cursor::{Cursor, Fault};
 use crate::names::single;
-use crate::sign::{Sign, same_sign};
 use crate::types::type_of;
 use sd_ast::Decl;
 use sd_base::{Name, Sort};
@@ -20,7 +20,7 @@ fn after_name(alloc: Global, tokens: &mut Cursor<'_>, limit: u32, name: Name) ->
     ensures { Gives (spec.after_name limit name tokens.old) result tokens.new }
 {
     match tokens.peek() {
-        Sign::Colon => {
+        TokenClass::Colon => {
             tokens.skip()?;
             type_of(alloc, tokens, limit)
         }
@@ -45,7 +45,7 @@ fn argument(alloc: Global, tokens: &mut Cursor<'_>, limit: u32) -> Result<Sort, 
     ensures { Gives (spec.argument limit tokens.old) result tokens.new }
 {
     match tokens.peek() {
-        Sign::Name => named_argument(alloc, tokens, limit),
+        TokenClass::Name => named_argument(alloc, tokens, limit),
         _ => type_of(alloc, tokens, limit),
     }
 }
@@ -67,8 +67,8 @@ fn more_arguments(
     ensures { Gives (rows.more (spec.argument limit) sorts tokens.old) result tokens.new }
 {
     for _turn in 0..tokens.turns() {
-        let goes_on = same_sign(tokens.peek(), Sign::Comma);
-        if !goes_on {
+        let has_next = same_class(tokens.peek(), TokenClass::Comma);
+        if !has_next {
             return Ok(sorts);
         }
         let next = next_argument(alloc, tokens, limit)?;
@@ -91,13 +91,13 @@ fn listed(alloc: Global, tokens: &mut Cursor<'_>, limit: u32) -> Result<Items<So
     ensures { Gives (rows.listed (spec.argument limit) tokens.old) result tokens.new }
 {
     match tokens.peek() {
-        Sign::Close => {
+        TokenClass::Close => {
             tokens.skip()?;
             Ok(Items::new(alloc))
         }
         _ => {
             let found = argument_sorts(alloc, tokens, limit)?;
-            tokens.want(Sign::Close)?;
+            tokens.want(TokenClass::Close)?;
             Ok(found)
         }
     }
@@ -107,7 +107,7 @@ fn listed(alloc: Global, tokens: &mut Cursor<'_>, limit: u32) -> Result<Items<So
 fn arguments(alloc: Global, tokens: &mut Cursor<'_>, limit: u32) -> Result<Items<Sort>, Fault>
     ensures { Gives (rows.enclosed (spec.argument limit) tokens.old) result tokens.new }
 {
-    tokens.want(Sign::Open)?;
+    tokens.want(TokenClass::Open)?;
     listed(alloc, tokens, limit)
 }
 
@@ -116,9 +116,9 @@ fn returned_type(alloc: Global, tokens: &mut Cursor<'_>, limit: u32) -> Result<S
     ensures { Gives (spec.returned_type limit tokens.old) result tokens.new }
 {
     tokens.skip()?;
-    tokens.want(Sign::Open)?;
+    tokens.want(TokenClass::Open)?;
     let sort = argument(alloc, tokens, limit)?;
-    tokens.want(Sign::Close)?;
+    tokens.want(TokenClass::Close)?;
     Ok(sort)
 }
 
@@ -126,7 +126,7 @@ fn returned_type(alloc: Global, tokens: &mut Cursor<'_>, limit: u32) -> Result<S
 fn colon_type(alloc: Global, tokens: &mut Cursor<'_>, limit: u32) -> Result<Sort, Fault>
     ensures { Gives (spec.colon_type limit tokens.old) result tokens.new }
 {
-    tokens.want(Sign::Colon)?;
+    tokens.want(TokenClass::Colon)?;
     type_of(alloc, tokens, limit)
 }
 
@@ -135,7 +135,7 @@ fn result_type(alloc: Global, tokens: &mut Cursor<'_>, limit: u32) -> Result<Sor
     ensures { Gives (spec.result_type limit tokens.old) result tokens.new }
 {
     match tokens.peek() {
-        Sign::Returns => returned_type(alloc, tokens, limit),
+        TokenClass::Returns => returned_type(alloc, tokens, limit),
         _ => colon_type(alloc, tokens, limit),
     }
 }
@@ -151,6 +151,6 @@ pub fn function(alloc: Global, tokens: &mut Cursor<'_>, limit: u32) -> Result<De
     let (name, _) = tokens.name(alloc)?;
     let args = arguments(alloc, tokens, limit)?;
     let result = result_type(alloc, tokens, limit)?;
-    tokens.want(Sign::Semi)?;
+    tokens.want(TokenClass::Semi)?;
     Ok(Decl::Function { name, args, result })
 }

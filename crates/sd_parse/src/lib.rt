@@ -4,6 +4,7 @@
 mod answer;
 mod assignment;
 mod attribute;
+mod class;
 mod clause;
 mod count;
 mod cursor;
@@ -15,7 +16,6 @@ mod loops;
 mod names;
 mod procedure;
 mod program;
-mod sign;
 mod statement;
 mod types;
 mod values;

@@ -4,17 +4,17 @@ ghost use Rattle.sd_parse.specs.ReadingStatements as spec;
 ghost use Rattle.sd_parse.specs.Reading.{Gives};
 
 use crate::attribute::claim;
+use crate::class::TokenClass;
 use crate::cursor::{Cursor, Fault};
-use crate::sign::Sign;
 use sd_ast::Invariant;
 use sqlite_items::Items;
 use std::alloc::Global;
 
-fn begins_invariant(sign: Sign) -> bool
-    ensures { result ≡ spec.begins_invariant sign }
+fn begins_invariant(class: TokenClass) -> bool
+    ensures { result ≡ spec.begins_invariant class }
 {
-    match sign {
-        Sign::Free | Sign::Invariant => true,
+    match class {
+        TokenClass::Free | TokenClass::Invariant => true,
         _ => false,
     }
 }
@@ -32,7 +32,7 @@ fn stated_invariant(
     requires small { depth < 2 ^ 31 }
     ensures { Gives (spec.stated_invariant limit depth free tokens.old) result tokens.new }
 {
-    let (_, expr) = claim(alloc, tokens, limit, depth, Sign::Invariant)?;
+    let (_, expr) = claim(alloc, tokens, limit, depth, TokenClass::Invariant)?;
     Ok(Invariant { free, expr })
 }
 
@@ -48,7 +48,7 @@ fn invariant(
     ensures { Gives (spec.loop_invariant limit depth tokens.old) result tokens.new }
 {
     match tokens.peek() {
-        Sign::Free => {
+        TokenClass::Free => {
             tokens.skip()?;
             stated_invariant(alloc, tokens, limit, depth, true)
         }

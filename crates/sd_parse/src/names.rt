@@ -3,8 +3,8 @@ ghost use Rattle.std.specs.Prelude.{◌≡◌, ◌∷◌, [], IfOk};
 ghost use Rattle.sd_parse.specs.ReadingRows as spec;
 ghost use Rattle.sd_parse.specs.Reading.{Gives};
 
+use crate::class::{TokenClass, same_class};
 use crate::cursor::{Cursor, Fault};
-use crate::sign::{Sign, same_sign};
 use sd_base::Name;
 use sqlite_items::Items;
 use std::alloc::{AllocError, Global};
@@ -44,8 +44,8 @@ pub fn more_names(
     ensures { Gives (spec.more spec.plain_name names tokens.old) result tokens.new }
 {
     for _turn in 0..tokens.turns() {
-        let goes_on = same_sign(tokens.peek(), Sign::Comma);
-        if !goes_on {
+        let has_next = same_class(tokens.peek(), TokenClass::Comma);
+        if !has_next {
             return Ok(names);
         }
         let next = next_name(alloc, tokens)?;

@@ -4,9 +4,9 @@ ghost use Rattle.sd_parse.specs.ReadingPrograms as spec;
 ghost use Rattle.sd_parse.specs.Reading.{Gives};
 
 use crate::attribute::attributes;
+use crate::class::TokenClass;
 use crate::clause::clauses;
 use crate::cursor::{Cursor, Fault};
-use crate::sign::Sign;
 use crate::statement::statements;
 use crate::variables::{locals, vars};
 use sd_ast::{Body, Decl, Head, Impl, Proc};
@@ -20,13 +20,13 @@ fn listed(alloc: Global, tokens: &mut Cursor<'_>, limit: u32) -> Result<Items<Va
     ensures { Gives (spec.listed_parameters limit tokens.old) result tokens.new }
 {
     match tokens.peek() {
-        Sign::Close => {
+        TokenClass::Close => {
             tokens.skip()?;
             Ok(Items::new(alloc))
         }
         _ => {
             let found = vars(alloc, tokens, limit)?;
-            tokens.want(Sign::Close)?;
+            tokens.want(TokenClass::Close)?;
             Ok(found)
         }
     }
@@ -36,7 +36,7 @@ fn listed(alloc: Global, tokens: &mut Cursor<'_>, limit: u32) -> Result<Items<Va
 fn parameters(alloc: Global, tokens: &mut Cursor<'_>, limit: u32) -> Result<Items<Var>, Fault>
     ensures { Gives (spec.parameters limit tokens.old) result tokens.new }
 {
-    tokens.want(Sign::Open)?;
+    tokens.want(TokenClass::Open)?;
     listed(alloc, tokens, limit)
 }
 
@@ -45,7 +45,7 @@ fn results(alloc: Global, tokens: &mut Cursor<'_>, limit: u32) -> Result<Items<V
     ensures { Gives (spec.results limit tokens.old) result tokens.new }
 {
     match tokens.peek() {
-        Sign::Returns => {
+        TokenClass::Returns => {
             tokens.skip()?;
             parameters(alloc, tokens, limit)
         }
@@ -73,10 +73,10 @@ fn body(alloc: Global, tokens: &mut Cursor<'_>, limit: u32) -> Result<Body, Faul
     requires { limit < 2 ^ 31 }
     ensures { Gives (spec.body limit tokens.old) result tokens.new }
 {
-    tokens.want(Sign::OpenBrace)?;
+    tokens.want(TokenClass::OpenBrace)?;
     let locals = locals(alloc, tokens, limit)?;
     let stmts = statements(alloc, tokens, limit)?;
-    tokens.want(Sign::CloseBrace)?;
+    tokens.want(TokenClass::CloseBrace)?;
     Ok(Body { locals, stmts })
 }
 
@@ -122,7 +122,7 @@ fn procedure_from(
     ensures { Gives (spec.procedure_from limit head tokens.old) result tokens.new }
 {
     match tokens.peek() {
-        Sign::Semi => declared(alloc, tokens, limit, head),
+        TokenClass::Semi => declared(alloc, tokens, limit, head),
         _ => defined(alloc, tokens, limit, head),
     }
 }

@@ -4,27 +4,27 @@ ghost use Rattle.sd_parse.specs.ReadingPrograms as spec;
 ghost use Rattle.sd_parse.specs.Reading.{Gives};
 
 use crate::attribute::{attributes, claim};
+use crate::class::TokenClass;
 use crate::cursor::{Cursor, Fault};
 use crate::function::function;
 use crate::names::names;
 use crate::procedure::{implementation, procedure};
-use crate::sign::Sign;
 use crate::variables::{typed, var_line};
 use sd_ast::Decl;
 use sqlite_items::Items;
 use std::alloc::Global;
 
-fn begins_declaration(sign: Sign) -> bool
-    ensures { result ≡ spec.begins_declaration sign }
+fn begins_declaration(class: TokenClass) -> bool
+    ensures { result ≡ spec.begins_declaration class }
 {
-    match sign {
-        Sign::Type
-        | Sign::Const
-        | Sign::Function
-        | Sign::Axiom
-        | Sign::Var
-        | Sign::Procedure
-        | Sign::Implementation => true,
+    match class {
+        TokenClass::Type
+        | TokenClass::Const
+        | TokenClass::Function
+        | TokenClass::Axiom
+        | TokenClass::Var
+        | TokenClass::Procedure
+        | TokenClass::Implementation => true,
         _ => false,
     }
 }
@@ -37,7 +37,7 @@ fn types(alloc: Global, tokens: &mut Cursor<'_>, limit: u32) -> Result<Decl, Fau
     tokens.skip()?;
     attributes(alloc, tokens, limit)?;
     let names = names(alloc, tokens)?;
-    tokens.want(Sign::Semi)?;
+    tokens.want(TokenClass::Semi)?;
     Ok(Decl::Types(names))
 }
 
@@ -46,7 +46,7 @@ fn uniqueness(tokens: &mut Cursor<'_>) -> Result<bool, Fault>
     ensures { Gives (spec.uniqueness tokens.old) result tokens.new }
 {
     match tokens.peek() {
-        Sign::Unique => {
+        TokenClass::Unique => {
             tokens.skip()?;
             Ok(true)
         }
@@ -63,7 +63,7 @@ fn constants(alloc: Global, tokens: &mut Cursor<'_>, limit: u32) -> Result<Decl,
     attributes(alloc, tokens, limit)?;
     let unique = uniqueness(tokens)?;
     let (names, sort) = typed(alloc, tokens, limit)?;
-    tokens.want(Sign::Semi)?;
+    tokens.want(TokenClass::Semi)?;
     Ok(Decl::Const {
         unique,
         names,
@@ -76,7 +76,7 @@ fn axiom(alloc: Global, tokens: &mut Cursor<'_>, limit: u32) -> Result<Decl, Fau
     requires { limit < 2 ^ 31 }
     ensures { Gives (spec.axiom_line limit tokens.old) result tokens.new }
 {
-    let (_, claimed) = claim(alloc, tokens, limit, limit, Sign::Axiom)?;
+    let (_, claimed) = claim(alloc, tokens, limit, limit, TokenClass::Axiom)?;
     Ok(Decl::Axiom(claimed))
 }
 
@@ -95,13 +95,13 @@ fn declaration(alloc: Global, tokens: &mut Cursor<'_>, limit: u32) -> Result<Dec
     ensures { Gives (spec.declaration limit tokens.old) result tokens.new }
 {
     match tokens.peek() {
-        Sign::Type => types(alloc, tokens, limit),
-        Sign::Const => constants(alloc, tokens, limit),
-        Sign::Function => function(alloc, tokens, limit),
-        Sign::Axiom => axiom(alloc, tokens, limit),
-        Sign::Var => globals(alloc, tokens, limit),
-        Sign::Procedure => procedure(alloc, tokens, limit),
-        Sign::Implementation => implementation(alloc, tokens, limit),
+        TokenClass::Type => types(alloc, tokens, limit),
+        TokenClass::Const => constants(alloc, tokens, limit),
+        TokenClass::Function => function(alloc, tokens, limit),
+        TokenClass::Axiom => axiom(alloc, tokens, limit),
+        TokenClass::Var => globals(alloc, tokens, limit),
+        TokenClass::Procedure => procedure(alloc, tokens, limit),
+        TokenClass::Implementation => implementation(alloc, tokens, limit),
         _ => Err(Fault::Syntax),
     }
 }

@@ -1,4 +1,5 @@
-//! The rules for statements. They take the reader of the statements below as a parameter, so that each is proved by itself.
+//! The rules for statements. They take the reader of the statements below as a parameter, so that each is proved by
+//! itself.
 ghost use Rattle.std.specs.Prelude.{◌≡◌, ◌<◌, ◌^◌};
 ghost use Rattle.sd_parse.specs.Statements as grammar;
 ghost use Rattle.sd_parse.specs.ReadingStatements as spec;
@@ -7,28 +8,28 @@ ghost use Rattle.sd_parse.specs.Reading.{Gives};
 
 use crate::assignment::{left, more_lefts};
 use crate::attribute::{attributes, claim, expression};
+use crate::class::TokenClass;
 use crate::cursor::{Cursor, Fault};
 use crate::loops::invariants;
 use crate::names::{more_names, single};
-use crate::sign::Sign;
 use crate::values::{arguments, values};
 use sd_ast::{Expr, Stmt, StmtKind};
 use sd_base::{Name, Place};
 use sqlite_items::Items;
 use std::alloc::Global;
 
-fn begins_statement(sign: Sign) -> bool
-    ensures { result ≡ spec.begins_statement sign }
+fn begins_statement(class: TokenClass) -> bool
+    ensures { result ≡ spec.begins_statement class }
 {
-    match sign {
-        Sign::Assert
-        | Sign::Assume
-        | Sign::Name
-        | Sign::Call
-        | Sign::If
-        | Sign::While
-        | Sign::Break
-        | Sign::Return => true,
+    match class {
+        TokenClass::Assert
+        | TokenClass::Assume
+        | TokenClass::Name
+        | TokenClass::Call
+        | TokenClass::If
+        | TokenClass::While
+        | TokenClass::Break
+        | TokenClass::Return => true,
         _ => false,
     }
 }
@@ -61,12 +62,20 @@ impl<F: Fn(Global, &mut Cursor<'_>, u32, u32) -> Result<Stmt, Fault>> Nested<F> 
     fn asserted(&self, tokens: &mut Cursor<'_>) -> Result<Stmt, Fault>
         requires low { self.now.limit < 2 ^ 31 }
         requires small { self.now.depth < 2 ^ 31 }
-        ensures { Gives (spec.asserted self.now.limit self.now.depth (spec.statement self.now.limit self.now.depth) tokens.old) result tokens.new }
+        ensures { Gives
+            (spec.asserted self.now.limit self.now.depth (spec.statement self.now.limit self.now.depth) tokens.old)
+            result tokens.new }
     {
         if self.depth == 0 {
             return Err(Fault::Deep);
         }
-        let (at, claimed) = claim(self.alloc, tokens, self.limit, self.depth, Sign::Assert)?;
+        let (at, claimed) = claim(
+            self.alloc,
+            tokens,
+            self.limit,
+            self.depth,
+            TokenClass::Assert,
+        )?;
         Ok(stated(at, StmtKind::Assert(claimed)))
     }
 
@@ -74,19 +83,29 @@ impl<F: Fn(Global, &mut Cursor<'_>, u32, u32) -> Result<Stmt, Fault>> Nested<F> 
     fn assumed(&self, tokens: &mut Cursor<'_>) -> Result<Stmt, Fault>
         requires low { self.now.limit < 2 ^ 31 }
         requires small { self.now.depth < 2 ^ 31 }
-        ensures { Gives (spec.assumed self.now.limit self.now.depth (spec.statement self.now.limit self.now.depth) tokens.old) result tokens.new }
+        ensures { Gives
+            (spec.assumed self.now.limit self.now.depth (spec.statement self.now.limit self.now.depth) tokens.old)
+            result tokens.new }
     {
         if self.depth == 0 {
             return Err(Fault::Deep);
         }
-        let (at, claimed) = claim(self.alloc, tokens, self.limit, self.depth, Sign::Assume)?;
+        let (at, claimed) = claim(
+            self.alloc,
+            tokens,
+            self.limit,
+            self.depth,
+            TokenClass::Assume,
+        )?;
         Ok(stated(at, StmtKind::Assume(claimed)))
     }
 
     #[tactic(auto, unfolding(crate::specs::ReadingStatements::assigned))]
     fn assigned(&self, tokens: &mut Cursor<'_>) -> Result<Stmt, Fault>
         requires { self.now.depth < 2 ^ 31 }
-        ensures { Gives (spec.assigned self.now.limit self.now.depth (spec.statement self.now.limit self.now.depth) tokens.old) result tokens.new }
+        ensures { Gives
+            (spec.assigned self.now.limit self.now.depth (spec.statement self.now.limit self.now.depth) tokens.old)
+            result tokens.new }
     {
         if self.depth == 0 {
             return Err(Fault::Deep);
@@ -94,9 +113,9 @@ impl<F: Fn(Global, &mut Cursor<'_>, u32, u32) -> Result<Stmt, Fault>> Nested<F> 
         let (first, at) = left(self.alloc, tokens, self.depth)?;
         let first = single(self.alloc, first)?;
         let lefts = more_lefts(self.alloc, tokens, self.depth, first)?;
-        tokens.want(Sign::Becomes)?;
+        tokens.want(TokenClass::Becomes)?;
         let values = values(self.alloc, tokens, self.depth)?;
-        tokens.want(Sign::Semi)?;
+        tokens.want(TokenClass::Semi)?;
         Ok(stated(at, StmtKind::Assign(lefts, values)))
     }
 
@@ -109,11 +128,14 @@ impl<F: Fn(Global, &mut Cursor<'_>, u32, u32) -> Result<Stmt, Fault>> Nested<F> 
         receivers: Items<Name>,
     ) -> Result<Stmt, Fault>
         requires { self.now.depth < 2 ^ 31 }
-        ensures { Gives (spec.applied self.now.limit self.now.depth (spec.statement self.now.limit self.now.depth) at receivers tokens.old) result tokens.new }
+        ensures { Gives
+            (spec.applied self.now.limit self.now.depth (spec.statement self.now.limit self.now.depth)
+            at receivers tokens.old)
+            result tokens.new }
     {
         let (callee, _) = tokens.name(self.alloc)?;
         let arguments = arguments(self.alloc, tokens, self.depth)?;
-        tokens.want(Sign::Semi)?;
+        tokens.want(TokenClass::Semi)?;
         Ok(stated(at, StmtKind::Call(receivers, callee, arguments)))
     }
 
@@ -121,10 +143,13 @@ impl<F: Fn(Global, &mut Cursor<'_>, u32, u32) -> Result<Stmt, Fault>> Nested<F> 
     #[tactic(auto, unfolding(crate::specs::ReadingStatements::applied_to))]
     fn applied_to(&self, tokens: &mut Cursor<'_>, at: Place, callee: Name) -> Result<Stmt, Fault>
         requires { self.now.depth < 2 ^ 31 }
-        ensures { Gives (spec.applied_to self.now.limit self.now.depth (spec.statement self.now.limit self.now.depth) at callee tokens.old) result tokens.new }
+        ensures { Gives
+            (spec.applied_to self.now.limit self.now.depth (spec.statement self.now.limit self.now.depth)
+            at callee tokens.old)
+            result tokens.new }
     {
         let arguments = arguments(self.alloc, tokens, self.depth)?;
-        tokens.want(Sign::Semi)?;
+        tokens.want(TokenClass::Semi)?;
         let receivers = Items::new(self.alloc);
         Ok(stated(at, StmtKind::Call(receivers, callee, arguments)))
     }
@@ -133,11 +158,14 @@ impl<F: Fn(Global, &mut Cursor<'_>, u32, u32) -> Result<Stmt, Fault>> Nested<F> 
     #[tactic(auto, unfolding(crate::specs::ReadingStatements::received))]
     fn received(&self, tokens: &mut Cursor<'_>, at: Place, first: Name) -> Result<Stmt, Fault>
         requires { self.now.depth < 2 ^ 31 }
-        ensures { Gives (spec.received self.now.limit self.now.depth (spec.statement self.now.limit self.now.depth) at first tokens.old) result tokens.new }
+        ensures { Gives
+            (spec.received self.now.limit self.now.depth (spec.statement self.now.limit self.now.depth)
+            at first tokens.old)
+            result tokens.new }
     {
         let first = single(self.alloc, first)?;
         let receivers = more_names(self.alloc, tokens, first)?;
-        tokens.want(Sign::Becomes)?;
+        tokens.want(TokenClass::Becomes)?;
         self.applied(tokens, at, receivers)
     }
 
@@ -145,10 +173,13 @@ impl<F: Fn(Global, &mut Cursor<'_>, u32, u32) -> Result<Stmt, Fault>> Nested<F> 
     #[tactic(auto, unfolding(crate::specs::ReadingStatements::call_from))]
     fn call_from(&self, tokens: &mut Cursor<'_>, at: Place, first: Name) -> Result<Stmt, Fault>
         requires { self.now.depth < 2 ^ 31 }
-        ensures { Gives (spec.call_from self.now.limit self.now.depth (spec.statement self.now.limit self.now.depth) at first tokens.old) result tokens.new }
+        ensures { Gives
+            (spec.call_from self.now.limit self.now.depth (spec.statement self.now.limit self.now.depth)
+            at first tokens.old)
+            result tokens.new }
     {
         match tokens.peek() {
-            Sign::Comma | Sign::Becomes => self.received(tokens, at, first),
+            TokenClass::Comma | TokenClass::Becomes => self.received(tokens, at, first),
             _ => self.applied_to(tokens, at, first),
         }
     }
@@ -157,7 +188,9 @@ impl<F: Fn(Global, &mut Cursor<'_>, u32, u32) -> Result<Stmt, Fault>> Nested<F> 
     fn called(&self, tokens: &mut Cursor<'_>) -> Result<Stmt, Fault>
         requires low { self.now.limit < 2 ^ 31 }
         requires small { self.now.depth < 2 ^ 31 }
-        ensures { Gives (spec.called self.now.limit self.now.depth (spec.statement self.now.limit self.now.depth) tokens.old) result tokens.new }
+        ensures { Gives
+            (spec.called self.now.limit self.now.depth (spec.statement self.now.limit self.now.depth) tokens.old)
+            result tokens.new }
     {
         let at = tokens.skip()?;
         attributes(self.alloc, tokens, self.limit)?;
@@ -167,7 +200,9 @@ impl<F: Fn(Global, &mut Cursor<'_>, u32, u32) -> Result<Stmt, Fault>> Nested<F> 
 
     fn statements(&self, tokens: &mut Cursor<'_>) -> Result<Items<Stmt>, Fault>
         requires { NestsStatements self.now.limit self.now.depth (F.pre self.now.inner) (F.post self.now.inner) }
-        ensures { Gives (spec.statements self.now.limit self.now.depth (spec.statement self.now.limit self.now.depth) tokens.old) result tokens.new }
+        ensures { Gives
+            (spec.statements self.now.limit self.now.depth (spec.statement self.now.limit self.now.depth) tokens.old)
+            result tokens.new }
     {
         let mut found = Items::new(self.alloc);
         for _turn in 0..tokens.turns() {
@@ -184,11 +219,13 @@ impl<F: Fn(Global, &mut Cursor<'_>, u32, u32) -> Result<Stmt, Fault>> Nested<F> 
     #[tactic(auto, unfolding(crate::specs::ReadingStatements::block))]
     fn block(&self, tokens: &mut Cursor<'_>) -> Result<Items<Stmt>, Fault>
         requires { NestsStatements self.now.limit self.now.depth (F.pre self.now.inner) (F.post self.now.inner) }
-        ensures { Gives (spec.block self.now.limit self.now.depth (spec.statement self.now.limit self.now.depth) tokens.old) result tokens.new }
+        ensures { Gives
+            (spec.block self.now.limit self.now.depth (spec.statement self.now.limit self.now.depth) tokens.old)
+            result tokens.new }
     {
-        tokens.want(Sign::OpenBrace)?;
+        tokens.want(TokenClass::OpenBrace)?;
         let found = self.statements(tokens)?;
-        tokens.want(Sign::CloseBrace)?;
+        tokens.want(TokenClass::CloseBrace)?;
         Ok(found)
     }
 
@@ -196,10 +233,12 @@ impl<F: Fn(Global, &mut Cursor<'_>, u32, u32) -> Result<Stmt, Fault>> Nested<F> 
     #[tactic(auto, unfolding(crate::specs::ReadingStatements::branch))]
     fn branch(&self, tokens: &mut Cursor<'_>) -> Result<Items<Stmt>, Fault>
         requires { NestsStatements self.now.limit self.now.depth (F.pre self.now.inner) (F.post self.now.inner) }
-        ensures { Gives (spec.branch self.now.limit self.now.depth (spec.statement self.now.limit self.now.depth) tokens.old) result tokens.new }
+        ensures { Gives
+            (spec.branch self.now.limit self.now.depth (spec.statement self.now.limit self.now.depth) tokens.old)
+            result tokens.new }
     {
         match tokens.peek() {
-            Sign::If => {
+            TokenClass::If => {
                 let next = self.inner(tokens)?;
                 Ok(single(self.alloc, next)?)
             }
@@ -210,10 +249,12 @@ impl<F: Fn(Global, &mut Cursor<'_>, u32, u32) -> Result<Stmt, Fault>> Nested<F> 
     #[tactic(auto, unfolding(crate::specs::ReadingStatements::otherwise))]
     fn otherwise(&self, tokens: &mut Cursor<'_>) -> Result<Items<Stmt>, Fault>
         requires { NestsStatements self.now.limit self.now.depth (F.pre self.now.inner) (F.post self.now.inner) }
-        ensures { Gives (spec.otherwise self.now.limit self.now.depth (spec.statement self.now.limit self.now.depth) tokens.old) result tokens.new }
+        ensures { Gives
+            (spec.otherwise self.now.limit self.now.depth (spec.statement self.now.limit self.now.depth) tokens.old)
+            result tokens.new }
     {
         match tokens.peek() {
-            Sign::Else => {
+            TokenClass::Else => {
                 tokens.skip()?;
                 self.branch(tokens)
             }
@@ -225,12 +266,14 @@ impl<F: Fn(Global, &mut Cursor<'_>, u32, u32) -> Result<Stmt, Fault>> Nested<F> 
     #[tactic(auto, unfolding(crate::specs::ReadingStatements::guard))]
     fn guard(&self, tokens: &mut Cursor<'_>) -> Result<(Place, Expr), Fault>
         requires { self.now.depth < 2 ^ 31 }
-        ensures { Gives (spec.guard self.now.limit self.now.depth (spec.statement self.now.limit self.now.depth) tokens.old) result tokens.new }
+        ensures { Gives
+            (spec.guard self.now.limit self.now.depth (spec.statement self.now.limit self.now.depth) tokens.old)
+            result tokens.new }
     {
         let at = tokens.skip()?;
-        tokens.want(Sign::Open)?;
+        tokens.want(TokenClass::Open)?;
         let condition = expression(self.alloc, tokens, self.depth)?;
-        tokens.want(Sign::Close)?;
+        tokens.want(TokenClass::Close)?;
         Ok((at, condition))
     }
 
@@ -238,7 +281,9 @@ impl<F: Fn(Global, &mut Cursor<'_>, u32, u32) -> Result<Stmt, Fault>> Nested<F> 
     fn conditional(&self, tokens: &mut Cursor<'_>) -> Result<Stmt, Fault>
         requires nests { NestsStatements self.now.limit self.now.depth (F.pre self.now.inner) (F.post self.now.inner) }
         requires small { self.now.depth < 2 ^ 31 }
-        ensures { Gives (spec.conditional self.now.limit self.now.depth (spec.statement self.now.limit self.now.depth) tokens.old) result tokens.new }
+        ensures { Gives
+            (spec.conditional self.now.limit self.now.depth (spec.statement self.now.limit self.now.depth) tokens.old)
+            result tokens.new }
     {
         if self.depth == 0 {
             return Err(Fault::Deep);
@@ -254,7 +299,9 @@ impl<F: Fn(Global, &mut Cursor<'_>, u32, u32) -> Result<Stmt, Fault>> Nested<F> 
         requires nests { NestsStatements self.now.limit self.now.depth (F.pre self.now.inner) (F.post self.now.inner) }
         requires low { self.now.limit < 2 ^ 31 }
         requires small { self.now.depth < 2 ^ 31 }
-        ensures { Gives (spec.looped self.now.limit self.now.depth (spec.statement self.now.limit self.now.depth) tokens.old) result tokens.new }
+        ensures { Gives
+            (spec.looped self.now.limit self.now.depth (spec.statement self.now.limit self.now.depth) tokens.old)
+            result tokens.new }
     {
         if self.depth == 0 {
             return Err(Fault::Deep);
@@ -267,19 +314,23 @@ impl<F: Fn(Global, &mut Cursor<'_>, u32, u32) -> Result<Stmt, Fault>> Nested<F> 
 
     #[tactic(auto, unfolding(crate::specs::ReadingStatements::broken))]
     fn broken(&self, tokens: &mut Cursor<'_>) -> Result<Stmt, Fault>
-        ensures { Gives (spec.broken self.now.limit self.now.depth (spec.statement self.now.limit self.now.depth) tokens.old) result tokens.new }
+        ensures { Gives
+            (spec.broken self.now.limit self.now.depth (spec.statement self.now.limit self.now.depth) tokens.old)
+            result tokens.new }
     {
         let at = tokens.skip()?;
-        tokens.want(Sign::Semi)?;
+        tokens.want(TokenClass::Semi)?;
         Ok(stated(at, StmtKind::Break))
     }
 
     #[tactic(auto, unfolding(crate::specs::ReadingStatements::returned))]
     fn returned(&self, tokens: &mut Cursor<'_>) -> Result<Stmt, Fault>
-        ensures { Gives (spec.returned self.now.limit self.now.depth (spec.statement self.now.limit self.now.depth) tokens.old) result tokens.new }
+        ensures { Gives
+            (spec.returned self.now.limit self.now.depth (spec.statement self.now.limit self.now.depth) tokens.old)
+            result tokens.new }
     {
         let at = tokens.skip()?;
-        tokens.want(Sign::Semi)?;
+        tokens.want(TokenClass::Semi)?;
         Ok(stated(at, StmtKind::Return))
     }
 
@@ -288,17 +339,20 @@ impl<F: Fn(Global, &mut Cursor<'_>, u32, u32) -> Result<Stmt, Fault>> Nested<F> 
         requires nests { NestsStatements self.now.limit self.now.depth (F.pre self.now.inner) (F.post self.now.inner) }
         requires low { self.now.limit < 2 ^ 31 }
         requires small { self.now.depth < 2 ^ 31 }
-        ensures { Gives (spec.statement_layer self.now.limit self.now.depth (spec.statement self.now.limit self.now.depth) tokens.old) result tokens.new }
+        ensures { Gives
+            (spec.statement_layer self.now.limit self.now.depth (spec.statement self.now.limit self.now.depth)
+            tokens.old)
+            result tokens.new }
     {
         match tokens.peek() {
-            Sign::Assert => self.asserted(tokens),
-            Sign::Assume => self.assumed(tokens),
-            Sign::Name => self.assigned(tokens),
-            Sign::Call => self.called(tokens),
-            Sign::If => self.conditional(tokens),
-            Sign::While => self.looped(tokens),
-            Sign::Break => self.broken(tokens),
-            Sign::Return => self.returned(tokens),
+            TokenClass::Assert => self.asserted(tokens),
+            TokenClass::Assume => self.assumed(tokens),
+            TokenClass::Name => self.assigned(tokens),
+            TokenClass::Call => self.called(tokens),
+            TokenClass::If => self.conditional(tokens),
+            TokenClass::While => self.looped(tokens),
+            TokenClass::Break => self.broken(tokens),
+            TokenClass::Return => self.returned(tokens),
             _ => Err(Fault::Syntax),
         }
     }
@@ -316,7 +370,8 @@ pub fn none(tokens: &mut Cursor<'_>, limit: u32) -> Result<Stmt, Fault>
     }
 }
 
-/// The statement of the height `depth` at most that the tokens begin with. No expression in its attributes is higher than `limit`.
+/// The statement of the height `depth` at most that the tokens begin with. No expression in its attributes is higher
+/// than `limit`.
 pub fn statement(
     alloc: Global,
     tokens: &mut Cursor<'_>,

@@ -5,17 +5,17 @@ ghost use Rattle.sd_parse.specs.ReadingTypes as spec;
 ghost use Rattle.sd_parse.specs.ReadingTypes.{NestsTypes};
 ghost use Rattle.sd_parse.specs.Reading.{Gives};
 
+use crate::class::TokenClass;
 use crate::cursor::{Cursor, Fault};
-use crate::sign::Sign;
 use sd_base::Sort;
 use sqlite_items::Boxed;
 use std::alloc::{AllocError, Global};
 
-fn begins_type(sign: Sign) -> bool
-    ensures { result ≡ spec.begins_type sign }
+fn begins_type(class: TokenClass) -> bool
+    ensures { result ≡ spec.begins_type class }
 {
-    match sign {
-        Sign::Int | Sign::Bool | Sign::Name | Sign::OpenBracket => true,
+    match class {
+        TokenClass::Int | TokenClass::Bool | TokenClass::Name | TokenClass::OpenBracket => true,
         _ => false,
     }
 }
@@ -55,7 +55,7 @@ impl<F: Fn(Global, &mut Cursor<'_>, u32) -> Result<Sort, Fault>> Nested<F> {
         }
         tokens.skip()?;
         let index = self.inner(tokens)?;
-        tokens.want(Sign::CloseBracket)?;
+        tokens.want(TokenClass::CloseBracket)?;
         let value = self.inner(tokens)?;
         Ok(map(self.alloc, index, value)?)
     }
@@ -66,19 +66,19 @@ impl<F: Fn(Global, &mut Cursor<'_>, u32) -> Result<Sort, Fault>> Nested<F> {
         ensures { Gives (spec.type_layer self.now.depth (spec.type_of self.now.depth) tokens.old) result tokens.new }
     {
         match tokens.peek() {
-            Sign::Int => {
+            TokenClass::Int => {
                 tokens.skip()?;
                 Ok(Sort::Int)
             }
-            Sign::Bool => {
+            TokenClass::Bool => {
                 tokens.skip()?;
                 Ok(Sort::Bool)
             }
-            Sign::Name => {
+            TokenClass::Name => {
                 let (name, _) = tokens.name(self.alloc)?;
                 Ok(Sort::Named(name))
             }
-            Sign::OpenBracket => self.map(tokens),
+            TokenClass::OpenBracket => self.map(tokens),
             _ => Err(Fault::Syntax),
         }
     }

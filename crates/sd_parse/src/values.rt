@@ -5,9 +5,9 @@ ghost use Rattle.sd_parse.specs.ReadingClauses as spec;
 ghost use Rattle.sd_parse.specs.Reading.{Gives};
 
 use crate::attribute::expression;
+use crate::class::{TokenClass, same_class};
 use crate::cursor::{Cursor, Fault};
 use crate::names::single;
-use crate::sign::{Sign, same_sign};
 use sd_ast::Expr;
 use sqlite_items::Items;
 use std::alloc::Global;
@@ -31,8 +31,8 @@ fn more_values(
     ensures { Gives (rows.more (spec.expression depth) values tokens.old) result tokens.new }
 {
     for _turn in 0..tokens.turns() {
-        let goes_on = same_sign(tokens.peek(), Sign::Comma);
-        if !goes_on {
+        let has_next = same_class(tokens.peek(), TokenClass::Comma);
+        if !has_next {
             return Ok(values);
         }
         let next = next_value(alloc, tokens, depth)?;
@@ -58,13 +58,13 @@ fn listed(alloc: Global, tokens: &mut Cursor<'_>, depth: u32) -> Result<Items<Ex
     ensures { Gives (rows.listed (spec.expression depth) tokens.old) result tokens.new }
 {
     match tokens.peek() {
-        Sign::Close => {
+        TokenClass::Close => {
             tokens.skip()?;
             Ok(Items::new(alloc))
         }
         _ => {
             let found = values(alloc, tokens, depth)?;
-            tokens.want(Sign::Close)?;
+            tokens.want(TokenClass::Close)?;
             Ok(found)
         }
     }
@@ -76,6 +76,6 @@ pub fn arguments(alloc: Global, tokens: &mut Cursor<'_>, depth: u32) -> Result<I
     requires { depth < 2 ^ 31 }
     ensures { Gives (rows.enclosed (spec.expression depth) tokens.old) result tokens.new }
 {
-    tokens.want(Sign::Open)?;
+    tokens.want(TokenClass::Open)?;
     listed(alloc, tokens, depth)
 }

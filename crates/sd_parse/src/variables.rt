@@ -6,9 +6,9 @@ ghost use Rattle.sd_parse.specs.ReadingPrograms as spec;
 ghost use Rattle.sd_parse.specs.Reading.{Gives};
 
 use crate::attribute::attributes;
+use crate::class::{TokenClass, same_class};
 use crate::cursor::{Cursor, Fault};
 use crate::names::names;
-use crate::sign::{Sign, same_sign};
 use crate::types::type_of;
 use sd_base::{CloneOf, Name, NoMemory, Sort, Var};
 use sqlite_items::Items;
@@ -38,7 +38,7 @@ pub fn typed(
     ensures { Gives (spec.typed limit tokens.old) result tokens.new }
 {
     let names = names(alloc, tokens)?;
-    tokens.want(Sign::Colon)?;
+    tokens.want(TokenClass::Colon)?;
     let sort = type_of(alloc, tokens, limit)?;
     Ok((names, sort))
 }
@@ -68,8 +68,8 @@ fn more_groups(
     ensures { Gives (spec.more_groups limit vars tokens.old) result tokens.new }
 {
     for _turn in 0..tokens.turns() {
-        let goes_on = same_sign(tokens.peek(), Sign::Comma);
-        if !goes_on {
+        let has_next = same_class(tokens.peek(), TokenClass::Comma);
+        if !has_next {
             return Ok(vars);
         }
         let next = next_group(alloc, tokens, limit)?;
@@ -96,7 +96,7 @@ pub fn var_line(alloc: Global, tokens: &mut Cursor<'_>, limit: u32) -> Result<It
     tokens.skip()?;
     attributes(alloc, tokens, limit)?;
     let found = vars(alloc, tokens, limit)?;
-    tokens.want(Sign::Semi)?;
+    tokens.want(TokenClass::Semi)?;
     Ok(found)
 }
 
@@ -107,8 +107,8 @@ pub fn locals(alloc: Global, tokens: &mut Cursor<'_>, limit: u32) -> Result<Item
 {
     let mut vars = Items::new(alloc);
     for _turn in 0..tokens.turns() {
-        let goes_on = same_sign(tokens.peek(), Sign::Var);
-        if !goes_on {
+        let has_next = same_class(tokens.peek(), TokenClass::Var);
+        if !has_next {
             return Ok(vars);
         }
         let next = var_line(alloc, tokens, limit)?;

@@ -1,7 +1,8 @@
 use Rattle.std.proofs.Common.{sym, ◌∙◌, ap, subst, length, Some, true, false}
 use Rattle.sd_lex.specs.declared.token.Piece.TheVariants.{Whole, Unsupported}
 use Rattle.sd_lex.specs.declared.token.TokenKind.TheVariants.{Symbol}
-use Rattle.sd_lex.specs.Pieces.{BeginsWith, mark, marks}
+use Rattle.sd_lex.specs.Pieces.{BeginsWith, mark}
+use Rattle.sd_lex.specs.Tables.{marks}
 use Rattle.sd_lex.proofs.Marks.{mark_cut, none_cut}
 use Rattle.sd_lex.proofs.lex.mark_at.Goals as goal
 

@@ -2,21 +2,21 @@ use Rattle.std.proofs.Common.{◌≡◌, ◌-◌, ◌<◌, sym, ap, ◌∙◌, s
 use Rattle.sd_parse.specs.Counts.{procedures}
 use Rattle.sd_parse.specs.Reading.{Syntax, Deep}
 use Rattle.sd_parse.specs.ReadingPrograms.{program}
-use Rattle.sd_parse.proofs.TextLemmas.{read_is_spelled}
+use Rattle.sd_parse.proofs.ProgramExact.{program_spells}
 use Rattle.sd_parse.proofs.Refused.{fits, is_star, no_star, is_syntax, is_deep}
 use Rattle.sd_parse.proofs.answer.parsed.Goals as goal
 
 pub returns-then-procedures-gt-PROCEDURES : goal.returns-then-procedures-gt-PROCEDURES
 returns-then-procedures-gt-PROCEDURES c =
     let e = ap (program 200) (sym c.new-cursor.ensures) ∙ c.in-Ok.ensures in
-    (record { decls = c.in-Ok.decls }, read_is_spelled 200 c.args.tokens.now c.in-Ok.decls c.program.new.tokens e, subst (λ n. 4096 < n) (c.procedures.ensures ∙ ap procedures c.as_slice.ensures) c.if-procedures-gt-PROCEDURES.true)
+    (record { decls = c.in-Ok.decls }, program_spells 200 (omega arith) c.args.tokens.now c.in-Ok.decls c.program.new.tokens e, subst (λ n. 4096 < n) (c.procedures.ensures ∙ ap procedures c.as_slice.ensures) c.if-procedures-gt-PROCEDURES.true)
 
 pub returns-else-procedures-gt-PROCEDURES : goal.returns-else-procedures-gt-PROCEDURES
 returns-else-procedures-gt-PROCEDURES c =
     let e = ap (program 200) (sym c.new-cursor.ensures) ∙ c.in-Ok.ensures in
     let count : c.procedures.result ≡ procedures c.in-Ok.decls = c.procedures.ensures ∙ ap procedures c.as_slice.ensures in
     let few = c.if-procedures-gt-PROCEDURES.false in
-    (read_is_spelled 200 c.args.tokens.now c.in-Ok.decls c.program.new.tokens e, omega arith)
+    (program_spells 200 (omega arith) c.args.tokens.now c.in-Ok.decls c.program.new.tokens e, omega arith)
 
 pub overflow_sub-at : goal.overflow_sub-at
 overflow_sub-at c =

@@ -1,32 +1,32 @@
 use Rattle.std.proofs.Common.{◌≡◌, true, false, sym, ap, ◌∙◌, rules, arith}
 use Rattle.std.proofs.lemmas.Grind.{common_steps}
-use Rattle.sd_parse.specs.declared.sign.Sign.TheVariants as s
-use Rattle.sd_parse.specs.Signs.{same_sign}
-use Rattle.sd_parse.specs.Reading.{sign_of, ahead}
+use Rattle.sd_parse.specs.declared.class.TokenClass.TheVariants as s
+use Rattle.sd_parse.specs.TokenClasses.{same_class}
+use Rattle.sd_parse.specs.Reading.{class_of, ahead}
 use Rattle.sd_parse.specs.ReadingRows.{is, push, more}
 use Rattle.sd_parse.specs.ReadingRows as rows
 use Rattle.sd_parse.specs.ReadingPrograms.{argument}
-use Rattle.sd_parse.proofs.Many.{starts, ends, goes_on, next, runs_out}
+use Rattle.sd_parse.proofs.Many.{starts, ends, turn_at, next, runs_out}
 use Rattle.sd_parse.proofs.function.more_arguments.Goals as goal
 
 pub loop-turn-init : goal.loop-turn-init
 unfolding more
 loop-turn-init c = starts (is s.Comma) (rows.next (argument c.args.limit)) push c.args.sorts c.args.tokens.now c.turns-turn-end.result c.turns-turn-end.ensures
 
-pub returns-then-not-goes_on : goal.returns-then-not-goes_on
-returns-then-not-goes_on c =
-    let e : (is s.Comma) (sign_of (ahead c.loop-turn.tokens)) ≡ false = ap (λ x. same_sign x s.Comma) (sym c.peek.ensures) ∙ sym c.same_sign-goes_on.ensures ∙ c.if-not-goes_on.true in
+pub returns-then-not-has_next : goal.returns-then-not-has_next
+returns-then-not-has_next c =
+    let e : (is s.Comma) (class_of (ahead c.loop-turn.tokens)) ≡ false = ap (λ x. same_class x s.Comma) (sym c.peek.ensures) ∙ sym c.same_class-has_next.ensures ∙ c.if-not-has_next.true in
     ends (is s.Comma) (rows.next (argument c.args.limit)) push (more (argument c.args.limit) c.args.sorts c.args.tokens.now) c.turns-turn-end.result c.loop-turn._turn c.loop-turn.sorts c.loop-turn.tokens c.loop-turn.invariant c.loop-turn-test.true e
 
 pub returns-in_err-next : goal.returns-in_err-next
 returns-in_err-next c =
-    let e : (is s.Comma) (sign_of (ahead c.loop-turn.tokens)) ≡ true = ap (λ x. same_sign x s.Comma) (sym c.peek.ensures) ∙ sym c.same_sign-goes_on.ensures ∙ c.if-not-goes_on.false in
-    let turn = goes_on (is s.Comma) (rows.next (argument c.args.limit)) push (more (argument c.args.limit) c.args.sorts c.args.tokens.now) c.turns-turn-end.result c.loop-turn._turn c.loop-turn.sorts c.loop-turn.tokens c.loop-turn.invariant c.loop-turn-test.true e in
+    let e : (is s.Comma) (class_of (ahead c.loop-turn.tokens)) ≡ true = ap (λ x. same_class x s.Comma) (sym c.peek.ensures) ∙ sym c.same_class-has_next.ensures ∙ c.if-not-has_next.false in
+    let turn = turn_at (is s.Comma) (rows.next (argument c.args.limit)) push (more (argument c.args.limit) c.args.sorts c.args.tokens.now) c.turns-turn-end.result c.loop-turn._turn c.loop-turn.sorts c.loop-turn.tokens c.loop-turn.invariant c.loop-turn-test.true e in
     rw turn (first_of (search rules, grind (arith, common_steps)))
 
 pub loop-turn-preserved : goal.loop-turn-preserved
 loop-turn-preserved c =
-    let e : (is s.Comma) (sign_of (ahead c.loop-turn.tokens)) ≡ true = ap (λ x. same_sign x s.Comma) (sym c.peek.ensures) ∙ sym c.same_sign-goes_on.ensures ∙ c.if-not-goes_on.false in
+    let e : (is s.Comma) (class_of (ahead c.loop-turn.tokens)) ≡ true = ap (λ x. same_class x s.Comma) (sym c.peek.ensures) ∙ sym c.same_class-has_next.ensures ∙ c.if-not-has_next.false in
     next (is s.Comma) (rows.next (argument c.args.limit)) push (more (argument c.args.limit) c.args.sorts c.args.tokens.now) c.turns-turn-end.result c.loop-turn._turn c.loop-turn.sorts c.loop-turn.tokens c.loop-turn.invariant
     c.in_ok-next.next c.next_argument.new.tokens c.push.new.self c.loop-turn-test.true e c.in_ok-next.ensures c.in_ok-push.ensures.ok
 

@@ -1,9 +1,9 @@
 use Rattle.std.proofs.Common.{◌≡◌, ◌-◌, true, false, [], sym, ap, ◌∙◌, rules, arith}
 use Rattle.std.proofs.lemmas.Grind.{common_steps}
-use Rattle.sd_parse.specs.Reading.{sign_of, ahead, many}
+use Rattle.sd_parse.specs.Reading.{class_of, ahead, many}
 use Rattle.sd_parse.specs.ReadingRows.{push}
 use Rattle.sd_parse.specs.ReadingPrograms.{begins_declaration, declaration, declarations}
-use Rattle.sd_parse.proofs.Many.{starts, ends, goes_on, next, runs_out}
+use Rattle.sd_parse.proofs.Many.{starts, ends, turn_at, next, runs_out}
 use Rattle.sd_parse.proofs.program.declarations.Goals as goal
 
 pub loop-turn-init : goal.loop-turn-init
@@ -14,18 +14,18 @@ loop-turn-init c =
 
 pub returns-then-not-begins : goal.returns-then-not-begins
 returns-then-not-begins c =
-    let e : begins_declaration (sign_of (ahead c.loop-turn.tokens)) ≡ false = ap begins_declaration (sym c.peek.ensures) ∙ sym c.begins_declaration-begins.ensures ∙ c.if-not-begins.true in
+    let e : begins_declaration (class_of (ahead c.loop-turn.tokens)) ≡ false = ap begins_declaration (sym c.peek.ensures) ∙ sym c.begins_declaration-begins.ensures ∙ c.if-not-begins.true in
     ends begins_declaration (declaration c.args.limit) push (declarations c.args.limit c.args.tokens.now) c.turns-turn-end.result c.loop-turn._turn c.loop-turn.decls c.loop-turn.tokens c.loop-turn.invariant c.loop-turn-test.true e
 
 pub returns-in_err-next : goal.returns-in_err-next
 returns-in_err-next c =
-    let e : begins_declaration (sign_of (ahead c.loop-turn.tokens)) ≡ true = ap begins_declaration (sym c.peek.ensures) ∙ sym c.begins_declaration-begins.ensures ∙ c.if-not-begins.false in
-    let turn = goes_on begins_declaration (declaration c.args.limit) push (declarations c.args.limit c.args.tokens.now) c.turns-turn-end.result c.loop-turn._turn c.loop-turn.decls c.loop-turn.tokens c.loop-turn.invariant c.loop-turn-test.true e in
+    let e : begins_declaration (class_of (ahead c.loop-turn.tokens)) ≡ true = ap begins_declaration (sym c.peek.ensures) ∙ sym c.begins_declaration-begins.ensures ∙ c.if-not-begins.false in
+    let turn = turn_at begins_declaration (declaration c.args.limit) push (declarations c.args.limit c.args.tokens.now) c.turns-turn-end.result c.loop-turn._turn c.loop-turn.decls c.loop-turn.tokens c.loop-turn.invariant c.loop-turn-test.true e in
     rw turn (first_of (search rules, grind (arith, common_steps)))
 
 pub loop-turn-preserved : goal.loop-turn-preserved
 loop-turn-preserved c =
-    let e : begins_declaration (sign_of (ahead c.loop-turn.tokens)) ≡ true = ap begins_declaration (sym c.peek.ensures) ∙ sym c.begins_declaration-begins.ensures ∙ c.if-not-begins.false in
+    let e : begins_declaration (class_of (ahead c.loop-turn.tokens)) ≡ true = ap begins_declaration (sym c.peek.ensures) ∙ sym c.begins_declaration-begins.ensures ∙ c.if-not-begins.false in
     next begins_declaration (declaration c.args.limit) push (declarations c.args.limit c.args.tokens.now) c.turns-turn-end.result c.loop-turn._turn c.loop-turn.decls c.loop-turn.tokens c.loop-turn.invariant
     c.in_ok-next.next c.declaration.new.tokens c.push.new.self c.loop-turn-test.true e c.in_ok-next.ensures c.in_ok-push.ensures.ok
 

@@ -1,11 +1,11 @@
 use Rattle.std.proofs.Common.{◌≡◌, ◌-◌, true, false, [], sym, ap, ◌∙◌, rules, arith}
 use Rattle.std.proofs.lemmas.Grind.{common_steps}
-use Rattle.sd_parse.specs.declared.sign.Sign.TheVariants as s
-use Rattle.sd_parse.specs.Signs.{same_sign}
-use Rattle.sd_parse.specs.Reading.{sign_of, ahead, many}
+use Rattle.sd_parse.specs.declared.class.TokenClass.TheVariants as s
+use Rattle.sd_parse.specs.TokenClasses.{same_class}
+use Rattle.sd_parse.specs.Reading.{class_of, ahead, many}
 use Rattle.sd_parse.specs.ReadingRows.{is, join_lists}
 use Rattle.sd_parse.specs.ReadingPrograms.{var_line, locals}
-use Rattle.sd_parse.proofs.Many.{starts, ends, goes_on, next, runs_out}
+use Rattle.sd_parse.proofs.Many.{starts, ends, turn_at, next, runs_out}
 use Rattle.sd_parse.proofs.variables.locals.Goals as goal
 
 pub loop-turn-init : goal.loop-turn-init
@@ -14,20 +14,20 @@ loop-turn-init c =
     starts (is s.Var) (var_line c.args.limit) join_lists [] c.args.tokens.now c.turns-turn-end.result c.turns-turn-end.ensures
     ∙ ap (λ acc. many (is s.Var) (var_line c.args.limit) join_lists (c.turns-turn-end.result - 0) acc c.args.tokens.now) (sym c.new-vars.ensures)
 
-pub returns-then-not-goes_on : goal.returns-then-not-goes_on
-returns-then-not-goes_on c =
-    let e : (is s.Var) (sign_of (ahead c.loop-turn.tokens)) ≡ false = ap (λ x. same_sign x s.Var) (sym c.peek.ensures) ∙ sym c.same_sign-goes_on.ensures ∙ c.if-not-goes_on.true in
+pub returns-then-not-has_next : goal.returns-then-not-has_next
+returns-then-not-has_next c =
+    let e : (is s.Var) (class_of (ahead c.loop-turn.tokens)) ≡ false = ap (λ x. same_class x s.Var) (sym c.peek.ensures) ∙ sym c.same_class-has_next.ensures ∙ c.if-not-has_next.true in
     ends (is s.Var) (var_line c.args.limit) join_lists (locals c.args.limit c.args.tokens.now) c.turns-turn-end.result c.loop-turn._turn c.loop-turn.vars c.loop-turn.tokens c.loop-turn.invariant c.loop-turn-test.true e
 
 pub returns-in_err-next : goal.returns-in_err-next
 returns-in_err-next c =
-    let e : (is s.Var) (sign_of (ahead c.loop-turn.tokens)) ≡ true = ap (λ x. same_sign x s.Var) (sym c.peek.ensures) ∙ sym c.same_sign-goes_on.ensures ∙ c.if-not-goes_on.false in
-    let turn = goes_on (is s.Var) (var_line c.args.limit) join_lists (locals c.args.limit c.args.tokens.now) c.turns-turn-end.result c.loop-turn._turn c.loop-turn.vars c.loop-turn.tokens c.loop-turn.invariant c.loop-turn-test.true e in
+    let e : (is s.Var) (class_of (ahead c.loop-turn.tokens)) ≡ true = ap (λ x. same_class x s.Var) (sym c.peek.ensures) ∙ sym c.same_class-has_next.ensures ∙ c.if-not-has_next.false in
+    let turn = turn_at (is s.Var) (var_line c.args.limit) join_lists (locals c.args.limit c.args.tokens.now) c.turns-turn-end.result c.loop-turn._turn c.loop-turn.vars c.loop-turn.tokens c.loop-turn.invariant c.loop-turn-test.true e in
     rw turn (first_of (search rules, grind (arith, common_steps)))
 
 pub loop-turn-preserved : goal.loop-turn-preserved
 loop-turn-preserved c =
-    let e : (is s.Var) (sign_of (ahead c.loop-turn.tokens)) ≡ true = ap (λ x. same_sign x s.Var) (sym c.peek.ensures) ∙ sym c.same_sign-goes_on.ensures ∙ c.if-not-goes_on.false in
+    let e : (is s.Var) (class_of (ahead c.loop-turn.tokens)) ≡ true = ap (λ x. same_class x s.Var) (sym c.peek.ensures) ∙ sym c.same_class-has_next.ensures ∙ c.if-not-has_next.false in
     next (is s.Var) (var_line c.args.limit) join_lists (locals c.args.limit c.args.tokens.now) c.turns-turn-end.result c.loop-turn._turn c.loop-turn.vars c.loop-turn.tokens c.loop-turn.invariant
     c.in_ok-next.next c.var_line.new.tokens c.append.new.self c.loop-turn-test.true e c.in_ok-next.ensures c.in_ok-append.ensures
 

@@ -1,7 +1,7 @@
 use Rattle.std.proofs.Common.{◌≡◌, ◌≤◌, max, true, false, sym, ap, ◌∙◌, subst, rules, arith}
 use Rattle.std.proofs.lemmas.Grind.{common_steps}
-use Rattle.sd_parse.specs.Reading.{sign_of, ahead, comma, next_expression, add, more_expressions, read}
-use Rattle.sd_parse.proofs.Many.{starts, ends, goes_on, next, runs_out}
+use Rattle.sd_parse.specs.Reading.{class_of, ahead, comma, next_expression, add, more_expressions, read}
+use Rattle.sd_parse.proofs.Many.{starts, ends, turn_at, next, runs_out}
 use Rattle.sd_parse.proofs.expression.Grammar.more_expressions.Goals as goal
 
 pub loop-turn-init : goal.loop-turn-init
@@ -10,10 +10,10 @@ loop-turn-init g c =
     let d = c.args.self.now.depth in
     record { reads = starts comma (next_expression d (read d)) add c.args.first c.args.tokens.now c.turns-turn-end.result c.turns-turn-end.ensures; low = c.requires.low }
 
-pub returns-then-not-goes_on : goal.returns-then-not-goes_on
-returns-then-not-goes_on g c =
+pub returns-then-not-has_next : goal.returns-then-not-has_next
+returns-then-not-has_next g c =
     let d = c.args.self.now.depth in
-    let e : comma (sign_of (ahead c.loop-turn.tokens)) ≡ false = ap comma (sym c.peek.ensures) ∙ sym c.comma-goes_on.ensures ∙ c.if-not-goes_on.true in
+    let e : comma (class_of (ahead c.loop-turn.tokens)) ≡ false = ap comma (sym c.peek.ensures) ∙ sym c.comma-has_next.ensures ∙ c.if-not-has_next.true in
     record {
       gives = ends comma (next_expression d (read d)) add (more_expressions d (read d) c.args.first c.args.tokens.now) c.turns-turn-end.result c.loop-turn._turn c.loop-turn.group c.loop-turn.tokens c.loop-turn.invariant.reads c.loop-turn-test.true e;
       low = c.loop-turn.invariant.low;
@@ -22,14 +22,14 @@ returns-then-not-goes_on g c =
 pub returns-in_err-next : goal.returns-in_err-next
 returns-in_err-next g c =
     let d = c.args.self.now.depth in
-    let e : comma (sign_of (ahead c.loop-turn.tokens)) ≡ true = ap comma (sym c.peek.ensures) ∙ sym c.comma-goes_on.ensures ∙ c.if-not-goes_on.false in
-    let turn = goes_on comma (next_expression d (read d)) add (more_expressions d (read d) c.args.first c.args.tokens.now) c.turns-turn-end.result c.loop-turn._turn c.loop-turn.group c.loop-turn.tokens c.loop-turn.invariant.reads c.loop-turn-test.true e in
+    let e : comma (class_of (ahead c.loop-turn.tokens)) ≡ true = ap comma (sym c.peek.ensures) ∙ sym c.comma-has_next.ensures ∙ c.if-not-has_next.false in
+    let turn = turn_at comma (next_expression d (read d)) add (more_expressions d (read d) c.args.first c.args.tokens.now) c.turns-turn-end.result c.loop-turn._turn c.loop-turn.group c.loop-turn.tokens c.loop-turn.invariant.reads c.loop-turn-test.true e in
     rw turn (first_of (search rules, grind (arith, common_steps)))
 
 pub loop-turn-preserved : goal.loop-turn-preserved
 loop-turn-preserved g c =
     let d = c.args.self.now.depth in
-    let e : comma (sign_of (ahead c.loop-turn.tokens)) ≡ true = ap comma (sym c.peek.ensures) ∙ sym c.comma-goes_on.ensures ∙ c.if-not-goes_on.false in
+    let e : comma (class_of (ahead c.loop-turn.tokens)) ≡ true = ap comma (sym c.peek.ensures) ∙ sym c.comma-has_next.ensures ∙ c.if-not-has_next.false in
     let low : max c.loop-turn.group.1 c.in_ok-next.next.1 ≤ d = let z = c.loop-turn.invariant.low in let y = c.in_ok-next.ensures.low in omega arith in
     record {
       reads = next comma (next_expression d (read d)) add (more_expressions d (read d) c.args.first c.args.tokens.now) c.turns-turn-end.result c.loop-turn._turn c.loop-turn.group c.loop-turn.tokens c.loop-turn.invariant.reads

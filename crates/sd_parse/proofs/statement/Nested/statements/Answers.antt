@@ -1,9 +1,9 @@
 use Rattle.std.proofs.Common.{◌≡◌, ◌-◌, true, false, [], sym, ap, ◌∙◌, rules, arith}
 use Rattle.std.proofs.lemmas.Grind.{common_steps}
-use Rattle.sd_parse.specs.Reading.{sign_of, ahead, many}
+use Rattle.sd_parse.specs.Reading.{class_of, ahead, many}
 use Rattle.sd_parse.specs.ReadingRows.{push}
 use Rattle.sd_parse.specs.ReadingStatements.{begins_statement, statement, statements}
-use Rattle.sd_parse.proofs.Many.{starts, ends, goes_on, next, runs_out}
+use Rattle.sd_parse.proofs.Many.{starts, ends, turn_at, next, runs_out}
 use Rattle.sd_parse.proofs.statement.Nested.statements.Goals as goal
 
 pub loop-turn-init : goal.loop-turn-init
@@ -14,18 +14,18 @@ loop-turn-init g c =
 
 pub returns-then-not-begins : goal.returns-then-not-begins
 returns-then-not-begins g c =
-    let e : begins_statement (sign_of (ahead c.loop-turn.tokens)) ≡ false = ap begins_statement (sym c.peek.ensures) ∙ sym c.begins_statement-begins.ensures ∙ c.if-not-begins.true in
+    let e : begins_statement (class_of (ahead c.loop-turn.tokens)) ≡ false = ap begins_statement (sym c.peek.ensures) ∙ sym c.begins_statement-begins.ensures ∙ c.if-not-begins.true in
     ends begins_statement (statement c.args.self.now.limit c.args.self.now.depth) push (statements c.args.self.now.limit c.args.self.now.depth (statement c.args.self.now.limit c.args.self.now.depth) c.args.tokens.now) c.turns-turn-end.result c.loop-turn._turn c.loop-turn.found c.loop-turn.tokens c.loop-turn.invariant c.loop-turn-test.true e
 
 pub returns-in_err-next : goal.returns-in_err-next
 returns-in_err-next g c =
-    let e : begins_statement (sign_of (ahead c.loop-turn.tokens)) ≡ true = ap begins_statement (sym c.peek.ensures) ∙ sym c.begins_statement-begins.ensures ∙ c.if-not-begins.false in
-    let turn = goes_on begins_statement (statement c.args.self.now.limit c.args.self.now.depth) push (statements c.args.self.now.limit c.args.self.now.depth (statement c.args.self.now.limit c.args.self.now.depth) c.args.tokens.now) c.turns-turn-end.result c.loop-turn._turn c.loop-turn.found c.loop-turn.tokens c.loop-turn.invariant c.loop-turn-test.true e in
+    let e : begins_statement (class_of (ahead c.loop-turn.tokens)) ≡ true = ap begins_statement (sym c.peek.ensures) ∙ sym c.begins_statement-begins.ensures ∙ c.if-not-begins.false in
+    let turn = turn_at begins_statement (statement c.args.self.now.limit c.args.self.now.depth) push (statements c.args.self.now.limit c.args.self.now.depth (statement c.args.self.now.limit c.args.self.now.depth) c.args.tokens.now) c.turns-turn-end.result c.loop-turn._turn c.loop-turn.found c.loop-turn.tokens c.loop-turn.invariant c.loop-turn-test.true e in
     rw turn (first_of (search rules, grind (arith, common_steps)))
 
 pub loop-turn-preserved : goal.loop-turn-preserved
 loop-turn-preserved g c =
-    let e : begins_statement (sign_of (ahead c.loop-turn.tokens)) ≡ true = ap begins_statement (sym c.peek.ensures) ∙ sym c.begins_statement-begins.ensures ∙ c.if-not-begins.false in
+    let e : begins_statement (class_of (ahead c.loop-turn.tokens)) ≡ true = ap begins_statement (sym c.peek.ensures) ∙ sym c.begins_statement-begins.ensures ∙ c.if-not-begins.false in
     next begins_statement (statement c.args.self.now.limit c.args.self.now.depth) push (statements c.args.self.now.limit c.args.self.now.depth (statement c.args.self.now.limit c.args.self.now.depth) c.args.tokens.now) c.turns-turn-end.result c.loop-turn._turn c.loop-turn.found c.loop-turn.tokens c.loop-turn.invariant
     c.in_ok-next.next c.inner.new.tokens c.push.new.self c.loop-turn-test.true e c.in_ok-next.ensures c.in_ok-push.ensures.ok
 

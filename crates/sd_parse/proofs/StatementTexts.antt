@@ -10,24 +10,24 @@ use Rattle.sd_ast.specs.declared.Left.{Left}
 use Rattle.sd_ast.specs.declared.Invariant.{Invariant}
 use Rattle.sd_ast.specs.declared.Stmt.{Stmt}
 use Rattle.sd_ast.specs.declared.StmtKind.{Assert, Assume, Assign, Call, If, While, Break, Return}
-use Rattle.sd_parse.specs.declared.sign.Sign.{Sign}
-use Rattle.sd_parse.specs.declared.sign.Sign.TheVariants as s
+use Rattle.sd_parse.specs.declared.class.TokenClass.{TokenClass}
+use Rattle.sd_parse.specs.declared.class.TokenClass.TheVariants as s
 use Rattle.sd_parse.specs.Grammar.{Tokens, Is, IsName}
 use Rattle.sd_parse.specs.Rows.{Row, Commas, Enclosed}
 use Rattle.sd_parse.specs.Clauses as c
 use Rattle.sd_parse.specs.Clauses.{Expression, Attributes, Claim}
 use Rattle.sd_parse.specs.Statements as st
 use Rattle.sd_parse.specs.Statements.{Index, LeftSide, InvariantLine, Statement, Otherwise, Block, Statements, stated}
-use Rattle.sd_parse.specs.Reading.{Syntax, Deep, Step, Got, Bad, Reader, and_then, ahead, sign_of, want}
+use Rattle.sd_parse.specs.Reading.{Syntax, Deep, Step, Got, Bad, Reader, and_then, ahead, class_of, want}
 use Rattle.sd_parse.specs.ReadingRows.{is, push, plain_name}
 use Rattle.sd_parse.specs.ReadingRows as reading
 use Rattle.sd_parse.specs.ReadingClauses.{expression, claim}
 use Rattle.sd_parse.specs.ReadingStatements.{index, indices, left, plain_left, begins_invariant, stated_invariant, invariant_by, loop_invariant, invariants, begins_statement, asserted, assumed, assigned, applied, applied_to, received, call_by, call_from, called, statements, block, branch_by, branch, otherwise_by, otherwise, guard, conditional, looped, broken, returned, statement_by, statement_layer, statement}
-use Rattle.sd_parse.proofs.Sound.{Sound, Wanted, wanted, Named, named, Nothing, settle, Both, both, seq, done, into, deeper_sound, skip_sound, want_sound, name_sound, many_sound, same_is}
-use Rattle.sd_parse.proofs.Lists.{Many, Behind, none, more, pushed}
-use Rattle.sd_parse.proofs.Rows.{Low, Next, commas_of, row_sound, more_sound, commas_sound, enclosed_sound}
-use Rattle.sd_parse.proofs.NameLaws.{NextNames, more_names_sound, first_name}
-use Rattle.sd_parse.proofs.ClauseLaws.{AttributesText, expression_sound, attributes_sound, claim_sound, claim_some}
+use Rattle.sd_parse.proofs.Texts.{Wanted, wanted, Named, named, Nothing, settle, Both, both}
+use Rattle.sd_parse.proofs.Lists.{Many, Behind, none, more}
+use Rattle.sd_parse.proofs.Rows.{Low, Next, commas_of}
+use Rattle.sd_parse.proofs.NameLaws.{NextNames, first_name}
+use Rattle.sd_parse.proofs.ClauseLaws.{AttributesText, claim_some}
 
 pub low_statements : (limit d : ℕ) {u : Tokens} {xs : List Stmt} → Many (Low (Statement limit) d) u xs → Low (Statements limit) d u xs
 low_statements limit d none = record { height = 0; spelt = st.none; low = omega arith }
@@ -59,14 +59,6 @@ pub after_else : {limit d : ℕ} {l : Token} {u : Tokens} {xs : List Stmt} → I
 after_else i (of_block w) = record { height = w.height; spelt = st.block i w.spelt; low = w.low }
 after_else i (of_if w) = chained i w
 
-starts_if : (limit d : ℕ) (ts : Tokens) (step : Step Stmt) → sign_of (ahead ts) ≡ s.If → Sound (Low (Statement limit) d) ts step → Sound (IfStatement limit d) ts step
-starts_if limit d ts (Bad k rest) e a = record { fact = tt }
-starts_if limit d ts (Got x rest) e a = by_tokens a.fact.0 a.fact.1 a.fact.2
-  where
-    by_tokens : (u : Tokens) → ts ≡ u ++ rest → Low (Statement limit) d u x → Sound (IfStatement limit d) ts (Got x rest)
-    by_tokens [] split w = absurd (let z = some_tokens w.spelt in omega arith)
-    by_tokens (i ∷ u) split w = record { fact = (i ∷ u, split, if_statement (record { same = ap (λ z. sign_of (ahead z)) (sym split) ∙ e }) w) }
-
 -- ---- the parts of a statement
 
 -- a left side, with the place where it begins
@@ -77,40 +69,18 @@ module _ (d : ℕ) where
   pub to_index : (u : Tokens) (x : Expr) → Both (Wanted s.OpenBracket) (λ _. Both (Low Expression d) (λ e. Both (Wanted s.CloseBracket) (λ _. Nothing e))) u x → Low Index d u x
   to_index u x (both (wanted {t = o} i) (both {u = v} w (both (wanted {t = c} j) n))) = settle n (λ z x. Low Index d (o ∷ (v ++ c ∷ z)) x) (record { height = w.height; spelt = st.index i w.spelt j; low = w.low })
 
-  index_law : (ts : Tokens) → is s.OpenBracket (sign_of (ahead ts)) ≡ true → Sound (Low Index d) ts (index d ts)
-  unfolding index
-  index_law ts e = into to_index (seq (skip_sound s.OpenBracket ts (same_is (sign_of (ahead ts)) s.OpenBracket e)) (λ _ ts. seq (expression_sound d ts) (λ e ts. seq (want_sound s.CloseBracket ts) (λ _ ts. done e ts))))
-
-  indices_law : (ts : Tokens) → Sound (Low (Row Index) d) ts (indices d ts)
-  unfolding indices
-  indices_law ts = row_sound Index d (is s.OpenBracket) (index d) index_law ts
-
   pub to_left : (u : Tokens) (x : Left × Place) → Both Named (λ y. Both (Low (Row Index) d) (λ es. Nothing (record { name = y.0; indices = es }, y.1))) u x → PlacedLeft d u x
   to_left u x (both (named {t = t} {x = y} i) (both {u = v} {x = es} w n)) =
       settle n (λ z x. PlacedLeft d (t ∷ (v ++ z)) x) (subst (λ z. PlacedLeft d (t ∷ z) (record { name = y; indices = es }, t.at)) (sym (append-nil v)) (placed_left (record { height = w.height; spelt = st.left i w.spelt; low = w.low })))
 
-  left_law : (ts : Tokens) → Sound (PlacedLeft d) ts (left d ts)
-  unfolding left
-  left_law ts = into to_left (seq (name_sound ts) (λ y ts. seq (indices_law ts) (λ es ts. done (record { name = y.0; indices = es }, y.1) ts)))
-
   pub to_plain : (u : Tokens) (x : Left) → Both (PlacedLeft d) (λ l. Nothing l.0) u x → Low LeftSide d u x
   to_plain u x (both (placed_left {t = t} {u = v} {l = l} w) n) = settle n (λ z x. Low LeftSide d (t ∷ (v ++ z)) x) (subst (λ z. Low LeftSide d (t ∷ z) l) (sym (append-nil v)) w)
 
-  plain_law : (ts : Tokens) → Sound (Low LeftSide d) ts (plain_left d ts)
-  unfolding plain_left
-  plain_law ts = into to_plain (seq (left_law ts) (λ l ts. done l.0 ts))
-
-  values_law : (ts : Tokens) → Sound (Low (Commas Expression) d) ts (reading.commas (expression d) ts)
-  values_law ts = commas_sound Expression d (expression d) (expression_sound d) ts
-
-  arguments_law : (ts : Tokens) → Sound (Low (Enclosed Expression) d) ts (reading.enclosed (expression d) ts)
-  arguments_law ts = enclosed_sound Expression d (expression d) (expression_sound d) ts
-
   -- an expression in parentheses after a word
-  pub data Guarded (word : Sign) : Tokens → Place × Expr → Type 0 where
+  pub data Guarded (word : TokenClass) : Tokens → Place × Expr → Type 0 where
     guarded : {t o k : Token} {u : Tokens} {e : Expr} → Is word t → Is s.Open o → Low Expression d u e → Is s.Close k → Guarded word (t ∷ o ∷ u ++ k ∷ []) (t.at, e)
 
-  pub to_guard : (word : Sign) (u : Tokens) (x : Place × Expr) → Both (Wanted word) (λ p. Both (Wanted s.Open) (λ _. Both (Low Expression d) (λ e. Both (Wanted s.Close) (λ _. Nothing (p, e))))) u x → Guarded word u x
+  pub to_guard : (word : TokenClass) (u : Tokens) (x : Place × Expr) → Both (Wanted word) (λ p. Both (Wanted s.Open) (λ _. Both (Low Expression d) (λ e. Both (Wanted s.Close) (λ _. Nothing (p, e))))) u x → Guarded word u x
   to_guard word u x (both (wanted {t = t} i) (both (wanted {t = o} j) (both {u = v} w (both (wanted {t = k} l) n)))) = settle n (λ z x. Guarded word (t ∷ o ∷ (v ++ k ∷ z)) x) (guarded i j w l)
 
   -- a call from its procedure's name on
@@ -131,27 +101,11 @@ module _ (limit d : ℕ) where
   pub to_stated : (f : Bool) (u : Tokens) (x : Invariant) → Both (Low (Claim limit s.Invariant) d) (λ k. Nothing (record { free = f; expr = k.1 })) u x → StatedInvariant f u x
   to_stated f u x (both {u = v} {x = k} w n) = settle n (λ z x. StatedInvariant f (v ++ z) x) (subst (λ z. StatedInvariant f z (record { free = f; expr = k.1 })) (sym (append-nil v)) (stated_line w))
 
-  stated_law : (f : Bool) (ts : Tokens) → Sound (StatedInvariant f) ts (stated_invariant limit d f ts)
-  unfolding stated_invariant
-  stated_law f ts = into (to_stated f) (seq (claim_sound limit d s.Invariant ts) (λ k ts. done (record { free = f; expr = k.1 }) ts))
-
   pub to_free : (u : Tokens) (x : Invariant) → Both (Wanted s.Free) (λ _. StatedInvariant true) u x → Low (InvariantLine limit) d u x
   to_free u x (both (wanted i) (stated_line w)) = record { height = w.height; spelt = st.line (c.free i w.spelt); low = w.low }
 
   pub to_checked : (u : Tokens) (x : Invariant) → StatedInvariant false u x → Low (InvariantLine limit) d u x
   to_checked u x (stated_line w) = record { height = w.height; spelt = st.line (c.checked w.spelt); low = w.low }
-
-  pub invariant_law : (ts : Tokens) → Sound (Low (InvariantLine limit) d) ts (loop_invariant limit d ts)
-  unfolding loop_invariant
-  invariant_law ts = by_sign (sign_of (ahead ts)) refl
-    where
-      by_sign : (x : Sign) → sign_of (ahead ts) ≡ x → Sound (Low (InvariantLine limit) d) ts (invariant_by limit d x ts)
-      by_sign s.Free e = into to_free (seq (skip_sound s.Free ts e) (λ _ ts. stated_law true ts))
-      by_sign _ e = into to_checked (stated_law false ts)
-
-  invariants_law : (ts : Tokens) → Sound (Low (Row (InvariantLine limit)) d) ts (invariants limit d ts)
-  unfolding invariants
-  invariants_law ts = row_sound (InvariantLine limit) d begins_invariant (loop_invariant limit d) (λ ts e. invariant_law ts) ts
 
 -- ---- statements
 
@@ -238,123 +192,5 @@ module _ (limit d : ℕ) where
 
   pub to_returned : (u : Tokens) (x : Stmt) → Both (Wanted s.Return) (λ p. Both (Wanted s.Semi) (λ _. Nothing (stated p Return))) u x → Low (Statement limit) (suc d) u x
   to_returned u x (both (wanted {t = t} i) (both (wanted {t = k} j) n)) = settle n (λ z x. Low (Statement limit) (suc d) (t ∷ k ∷ z) x) (record { height = 1; spelt = st.returned i j; low = omega arith })
-
-module _ (limit d : ℕ) (inner : Reader Stmt) (law : (ts : Tokens) → Sound (Low (Statement limit) d) ts (inner ts)) where
-  asserted_law : (ts : Tokens) → Sound (Low (Statement limit) (suc d)) ts (asserted limit d inner ts)
-  unfolding asserted
-  asserted_law ts = deeper_sound (Low (Statement limit) (suc d)) d (λ ts. and_then (claim limit d s.Assert ts) (λ k ts. Got (stated k.0 (Assert k.1)) ts)) ts
-      (into (to_asserted limit d) (seq (claim_sound limit d s.Assert ts) (λ k ts. done (stated k.0 (Assert k.1)) ts)))
-
-  assumed_law : (ts : Tokens) → Sound (Low (Statement limit) (suc d)) ts (assumed limit d inner ts)
-  unfolding assumed
-  assumed_law ts = deeper_sound (Low (Statement limit) (suc d)) d (λ ts. and_then (claim limit d s.Assume ts) (λ k ts. Got (stated k.0 (Assume k.1)) ts)) ts
-      (into (to_assumed limit d) (seq (claim_sound limit d s.Assume ts) (λ k ts. done (stated k.0 (Assume k.1)) ts)))
-
-  assigned_law : (ts : Tokens) → Sound (Low (Statement limit) (suc d)) ts (assigned limit d inner ts)
-  unfolding assigned
-  assigned_law ts = deeper_sound (Low (Statement limit) (suc d)) d
-      (λ ts. and_then (left d ts) (λ l ts. and_then (reading.more (plain_left d) (l.0 ∷ []) ts) (λ ls ts. and_then (want s.Becomes ts) (λ _ ts. and_then (reading.commas (expression d) ts) (λ es ts. and_then (want s.Semi ts) (λ _ ts. Got (stated l.1 (Assign ls es)) ts)))))) ts
-      (into (to_assigned limit d) (seq (left_law d ts) (λ l ts. seq (more_sound (Low LeftSide d) (plain_left d) (plain_law d) (l.0 ∷ []) ts) (λ ls ts. seq (want_sound s.Becomes ts) (λ _ ts. seq (values_law d ts) (λ es ts. seq (want_sound s.Semi ts) (λ _ ts. done (stated l.1 (Assign ls es)) ts)))))))
-
   -- ---- calls
-
-  applied_law : (p : Place) (xs : List Text) (ts : Tokens) → Sound (Applied d p xs) ts (applied limit d inner p xs ts)
-  unfolding applied
-  applied_law p xs ts = into (to_applied limit d p xs) (seq (name_sound ts) (λ f ts. seq (arguments_law d ts) (λ es ts. seq (want_sound s.Semi ts) (λ _ ts. done (stated p (Call xs f.0 es)) ts))))
-
-  received_law : (p : Place) (x : Text) (ts : Tokens) → Sound (CallFrom d p x) ts (received limit d inner p x ts)
-  unfolding received
-  received_law p x ts = into (to_received limit d p x) (seq (more_names_sound (x ∷ []) ts) (λ ys ts. seq (want_sound s.Becomes ts) (λ _ ts. applied_law p ys ts)))
-
-  direct_law : (p : Place) (x : Text) (ts : Tokens) → Sound (CallFrom d p x) ts (applied_to limit d inner p x ts)
-  unfolding applied_to
-  direct_law p x ts = into (to_direct limit d p x) (seq (arguments_law d ts) (λ es ts. seq (want_sound s.Semi ts) (λ _ ts. done (stated p (Call [] x es)) ts)))
-
-  call_from_law : (p : Place) (x : Text) (ts : Tokens) → Sound (CallFrom d p x) ts (call_from limit d inner p x ts)
-  unfolding call_from
-  call_from_law p x ts = by_sign (sign_of (ahead ts))
-    where
-      by_sign : (y : Sign) → Sound (CallFrom d p x) ts (call_by limit d inner p x y ts)
-      by_sign s.Comma = received_law p x ts
-      by_sign s.Becomes = received_law p x ts
-      by_sign _ = direct_law p x ts
-
-  called_law : (ts : Tokens) → sign_of (ahead ts) ≡ s.Call → Sound (Low (Statement limit) (suc d)) ts (called limit d inner ts)
-  unfolding called
-  called_law ts e = into (to_called limit d) (seq (skip_sound s.Call ts e) (λ p ts. seq (attributes_sound limit ts) (λ _ ts. seq (name_sound ts) (λ y ts. call_from_law p y.0 ts))))
-
   -- ---- blocks
-
-  pub statements_law : (ts : Tokens) → Sound (Low (Statements limit) d) ts (statements limit d inner ts)
-  unfolding statements
-  statements_law ts = into (λ u y m. let w = pushed (Low (Statement limit) d) begins_statement m in subst (λ ys. Low (Statements limit) d u ys) (sym w.same) (low_statements limit d w.list))
-      (many_sound (Low (Statement limit) d) begins_statement inner push (λ ts e. law ts) (suc (length ts)) [] ts)
-
-  block_law : (ts : Tokens) → Sound (Low (Block limit) d) ts (block limit d inner ts)
-  unfolding block
-  block_law ts = into (to_block limit d) (seq (want_sound s.OpenBrace ts) (λ _ ts. seq (statements_law ts) (λ ys ts. seq (want_sound s.CloseBrace ts) (λ _ ts. done ys ts))))
-
-  branch_law : (ts : Tokens) → Sound (Branch limit d) ts (branch limit d inner ts)
-  unfolding branch
-  branch_law ts = by_sign (sign_of (ahead ts)) refl
-    where
-      by_sign : (x : Sign) → sign_of (ahead ts) ≡ x → Sound (Branch limit d) ts (branch_by limit d inner x ts)
-      by_sign s.If e = into (to_if limit d) (seq (starts_if limit d ts (inner ts) e (law ts)) (λ x ts. done (x ∷ []) ts))
-      by_sign _ e = into (λ u xs w. of_block w) (block_law ts)
-
-  otherwise_law : (ts : Tokens) → Sound (Low (Otherwise limit) d) ts (otherwise limit d inner ts)
-  unfolding otherwise
-  otherwise_law ts = by_sign (sign_of (ahead ts)) refl
-    where
-      by_sign : (x : Sign) → sign_of (ahead ts) ≡ x → Sound (Low (Otherwise limit) d) ts (otherwise_by limit d inner x ts)
-      by_sign s.Else e = into (to_otherwise limit d) (seq (skip_sound s.Else ts e) (λ _ ts. branch_law ts))
-      by_sign _ e = record { fact = ([], refl, record { height = 0; spelt = st.nothing; low = omega arith }) }
-
-  guard_law : (word : Sign) (ts : Tokens) → sign_of (ahead ts) ≡ word → Sound (Guarded d word) ts (guard limit d inner ts)
-  unfolding guard
-  guard_law word ts e = into (to_guard d word) (seq (skip_sound word ts e) (λ p ts. seq (want_sound s.Open ts) (λ _ ts. seq (expression_sound d ts) (λ e ts. seq (want_sound s.Close ts) (λ _ ts. done (p, e) ts)))))
-
-  conditional_law : (ts : Tokens) → sign_of (ahead ts) ≡ s.If → Sound (Low (Statement limit) (suc d)) ts (conditional limit d inner ts)
-  unfolding conditional
-  conditional_law ts e = deeper_sound (Low (Statement limit) (suc d)) d
-      (λ ts. and_then (guard limit d inner ts) (λ g ts. and_then (block limit d inner ts) (λ a ts. and_then (otherwise limit d inner ts) (λ b ts. Got (stated g.0 (If g.1 a b)) ts)))) ts
-      (into (to_conditional limit d) (seq (guard_law s.If ts e) (λ g ts. seq (block_law ts) (λ a ts. seq (otherwise_law ts) (λ b ts. done (stated g.0 (If g.1 a b)) ts)))))
-
-  loop_law : (ts : Tokens) → sign_of (ahead ts) ≡ s.While → Sound (Low (Statement limit) (suc d)) ts (looped limit d inner ts)
-  unfolding looped
-  loop_law ts e = deeper_sound (Low (Statement limit) (suc d)) d
-      (λ ts. and_then (guard limit d inner ts) (λ g ts. and_then (invariants limit d ts) (λ a ts. and_then (block limit d inner ts) (λ b ts. Got (stated g.0 (While g.1 a b)) ts)))) ts
-      (into (to_loop limit d) (seq (guard_law s.While ts e) (λ g ts. seq (invariants_law limit d ts) (λ a ts. seq (block_law ts) (λ b ts. done (stated g.0 (While g.1 a b)) ts)))))
-
-  broken_law : (ts : Tokens) → sign_of (ahead ts) ≡ s.Break → Sound (Low (Statement limit) (suc d)) ts (broken limit d inner ts)
-  unfolding broken
-  broken_law ts e = into (to_broken limit d) (seq (skip_sound s.Break ts e) (λ p ts. seq (want_sound s.Semi ts) (λ _ ts. done (stated p Break) ts)))
-
-  returned_law : (ts : Tokens) → sign_of (ahead ts) ≡ s.Return → Sound (Low (Statement limit) (suc d)) ts (returned limit d inner ts)
-  unfolding returned
-  returned_law ts e = into (to_returned limit d) (seq (skip_sound s.Return ts e) (λ p ts. seq (want_sound s.Semi ts) (λ _ ts. done (stated p Return) ts)))
-
-  layer_law : (ts : Tokens) → Sound (Low (Statement limit) (suc d)) ts (statement_layer limit d inner ts)
-  unfolding statement_layer
-  layer_law ts = by_sign (sign_of (ahead ts)) refl
-    where
-      by_sign : (x : Sign) → sign_of (ahead ts) ≡ x → Sound (Low (Statement limit) (suc d)) ts (statement_by limit d inner x ts)
-      by_sign s.Assert e = asserted_law ts
-      by_sign s.Assume e = assumed_law ts
-      by_sign s.Name e = assigned_law ts
-      by_sign s.Call e = called_law ts e
-      by_sign s.If e = conditional_law ts e
-      by_sign s.While e = loop_law ts e
-      by_sign s.Break e = broken_law ts e
-      by_sign s.Return e = returned_law ts e
-      by_sign _ e = record { fact = tt }
-
--- What is read is a statement.
-pub statement_law : (limit d : ℕ) (ts : Tokens) → Sound (Low (Statement limit) d) ts (statement limit d ts)
-unfolding statement
-statement_law limit zero ts = by_test (begins_statement (sign_of (ahead ts)))
-  where
-    by_test : (b : Bool) → Sound (Low (Statement limit) zero) ts (cond {A = Reader Stmt} b (λ ts. Bad Deep ts) (λ ts. Bad Syntax ts) ts)
-    by_test true = record { fact = tt }
-    by_test false = record { fact = tt }
-statement_law limit (suc d) ts = layer_law limit d (statement limit d) (statement_law limit d) ts
