@@ -1,5 +1,5 @@
--- That the cut into tokens has one answer.
-use Rattle.std.specs.Prelude.{◌≡◌, ℕ, List}
+-- That the cut into tokens has one answer, and no more.
+use Rattle.std.specs.Prelude.{◌≡◌, ℕ, List, ◌⊎◌}
 use Rattle.sd_lex.specs.declared.token.Token.{Token}
 use Rattle.sd_lex.specs.declared.token.LexError.{LexError}
 use Rattle.sd_lex.specs.Pieces.{Bytes}
@@ -16,3 +16,6 @@ OneList =
 abbrev pub OneRefusal : Type 0
 OneRefusal =
     (at : ℕ) (text : Bytes) (e f : LexError) → Refused at text e → Refused at text f → e ≡ f
+
+abbrev pub SomeAnswer : Type 0
+SomeAnswer = (text : Bytes) → ((ts : List Token) × Tokens 0 text ts) ⊎ ((e : LexError) × Refused 0 text e)

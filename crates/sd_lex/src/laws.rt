@@ -1,5 +1,5 @@
 //! Laws of the cut into tokens: a text has one list of tokens or one refusal, and not both.
-ghost use Rattle.sd_lex.specs.Laws.{NeverBoth, OneList, OneRefusal};
+ghost use Rattle.sd_lex.specs.Laws.{NeverBoth, OneList, OneRefusal, SomeAnswer};
 
 /// A text that has tokens isn't refused.
 pub fn never_both()
@@ -14,4 +14,9 @@ pub fn one_list()
 /// A text that is refused has one refusal.
 pub fn one_refusal()
     ensures { OneRefusal }
+{}
+
+/// A text has tokens, or a refusal.
+pub fn some_answer()
+    ensures { SomeAnswer }
 {}

@@ -47,27 +47,18 @@ expression_item (suc d) = full (expression_rule (suc d) (omega arith))
 
 -- ---- attributes
 
-some_text : Spelled s.Text
-some_text = spelled s.Text (λ e. cc)
-
-some_comma : Spelled s.Comma
-some_comma = spelled s.Comma (λ e. cc)
-
-some_brace : Spelled s.CloseBrace
-some_brace = spelled s.CloseBrace (λ e. cc)
-
 module _ (d : ℕ) (pos : 1 ≤ d) where
   datum_rule : Rule (Low DatumText d) (Low DatumText (wide d)) (datum d)
   unfolding datum
-  datum_rule = record { least = record { more = some_text.token ∷ []; value = tt; spelt = record { height = 0; spelt = c.text some_text.is; low = omega arith } }; up = low_wide DatumText d; answers = λ ts. by_class ts (class_of (ahead ts)) refl }
+  datum_rule = record { least = record { more = (spelled s.Text refl).token ∷ []; value = tt; spelt = record { height = 0; spelt = c.text (spelled s.Text refl).is; low = omega arith } }; up = low_wide DatumText d; answers = λ ts. by_class ts (class_of (ahead ts)) refl }
     where
       by_class : (ts : Tokens) (x : TokenClass) → class_of (ahead ts) ≡ x → Answers (Low DatumText d) (Low DatumText (wide d)) ts (datum_by d x ts)
-      by_class ts s.Text e = into (to_text d) (to_text (wide d)) (after s.Text some_text ts e (λ _. done tt))
+      by_class ts s.Text e = into (to_text d) (to_text (wide d)) (after s.Text (spelled s.Text refl) ts e (λ _. done tt))
       by_class ts _ e = into (to_datum d) (to_datum (wide d)) ((seq (expression_rule d pos) (λ _. done tt)).answers ts)
 
   next_answers : (ts : Tokens) → is s.Comma (class_of (ahead ts)) ≡ true → Answers (Next (Low DatumText d)) (Next (Low DatumText (wide d))) ts (next_datum d ts)
   unfolding next_datum
-  next_answers ts e = into (to_next d) (to_next (wide d)) (after s.Comma some_comma ts (same_is (class_of (ahead ts)) s.Comma e) (λ _. datum_rule))
+  next_answers ts e = into (to_next d) (to_next (wide d)) (after s.Comma (spelled s.Comma refl) ts (same_is (class_of (ahead ts)) s.Comma e) (λ _. datum_rule))
 
   next_up : (u : Tokens) (x : Unit {0}) → Next (Low DatumText d) u x → Next (Low DatumText (wide d)) u x
   next_up w x (next {u = u} i f) = next i (low_wide DatumText d u x f)
@@ -90,7 +81,7 @@ module _ (d : ℕ) (pos : 1 ≤ d) where
 
   attribute_answers : (ts : Tokens) → is s.OpenAttribute (class_of (ahead ts)) ≡ true → Answers (Low AttributeText d) (Low AttributeText (wide d)) ts (attribute d ts)
   unfolding attribute
-  attribute_answers ts e = into (to_attribute d) (to_attribute (wide d)) (after s.OpenAttribute (spelled s.OpenAttribute (λ e. cc)) ts (same_is (class_of (ahead ts)) s.OpenAttribute e) (λ _. seq name_rule (λ _. seq contents_rule (λ _. seq (want_rule s.CloseBrace some_brace) (λ _. done tt)))))
+  attribute_answers ts e = into (to_attribute d) (to_attribute (wide d)) (after s.OpenAttribute (spelled s.OpenAttribute refl) ts (same_is (class_of (ahead ts)) s.OpenAttribute e) (λ _. seq name_rule (λ _. seq contents_rule (λ _. seq (want_rule s.CloseBrace (spelled s.CloseBrace refl)) (λ _. done tt)))))
 
   pub attributes_rule : Rule (AttributesText d) (AttributesText (wide d)) (attributes d)
   unfolding attributes
@@ -105,12 +96,12 @@ claim_wide limit d word u x w = record { height = w.height; spelt = claim_more (
 pub claim_rule : (limit d : ℕ) (word : TokenClass) → 1 ≤ limit → 1 ≤ d → Spelled word → Rule (Low (Claim limit word) d) (Low (Claim (wide limit) word) (wide d)) (claim limit d word)
 unfolding claim
 claim_rule limit d word lim pos some = rule_into (to_claim limit d word) (to_claim (wide limit) (wide d) word) (claim_wide limit d word)
-    (seq (want_rule word some) (λ p. seq (attributes_rule limit lim) (λ _. seq (expression_rule d pos) (λ e. seq (want_rule s.Semi (spelled s.Semi (λ e. cc))) (λ _. done (p, e))))))
+    (seq (want_rule word some) (λ p. seq (attributes_rule limit lim) (λ _. seq (expression_rule d pos) (λ e. seq (want_rule s.Semi (spelled s.Semi refl)) (λ _. done (p, e))))))
 
 -- the least claim, from its word on
 pub claim_begins : (limit d : ℕ) (word : TokenClass) → 1 ≤ d → (t : Token) → Is word t → Begins (Low (Claim limit word) d) (t ∷ [])
 claim_begins limit d word pos t i =
-    let semi : Spelled s.Semi = spelled s.Semi (λ e. cc) in
+    let semi : Spelled s.Semi = (spelled s.Semi refl) in
     record { more = filler ∷ semi.token ∷ []; value = (t.at, _); spelt = record { height = 1; spelt = c.claim i c.none (c.whole (filled Whole)) semi.is; low = pos } }
 
 -- ---- names

@@ -70,32 +70,14 @@ module _ {u : Tokens} {e : Expr} {h : ℕ} {p : Place} (q : Phrase Atom u e h p)
   everywhere Postfix = g.atom q
   everywhere Atom = q
 
-pub some_true : Spelled s.True
-some_true = spelled s.True (λ e. cc)
-
-some_open : Spelled s.Open
-some_open = spelled s.Open (λ e. cc)
-
-some_close : Spelled s.Close
-some_close = spelled s.Close (λ e. cc)
-
-some_old : Spelled s.Old
-some_old = spelled s.Old (λ e. cc)
-
-some_comma : Spelled s.Comma
-some_comma = spelled s.Comma (λ e. cc)
-
-some_bracket : Spelled s.CloseBracket
-some_bracket = spelled s.CloseBracket (λ e. cc)
-
 abbrev pub filler : Token
-filler = some_true.token
+filler = (spelled s.True refl).token
 
 abbrev pub filler_value : MeasuredExpr
 filler_value = (placed filler.at (Truth true), 1, filler.at)
 
 pub filled : (l : Level) → Phrase l (filler ∷ []) (placed filler.at (Truth true)) 1 filler.at
-filled l = everywhere (g.yes some_true.is) l
+filled l = everywhere (g.yes (spelled s.True refl).is) l
 
 pub begins_filler : (b : ℕ) (l : Level) → 1 ≤ b → Begins (Within b l) []
 begins_filler b l f = record { more = filler ∷ []; value = filler_value; spelt = record { phrase = filled l; low = f } }
@@ -168,8 +150,8 @@ begun d t e = by_class (class t) refl e
     by_class s.True i e = of_atom [] (placed t.at (Truth true), 1, t.at) (omega arith) (g.yes (record { same = i }))
     by_class s.False i e = of_atom [] (placed t.at (Truth false), 1, t.at) (omega arith) (g.no (record { same = i }))
     by_class s.Name i e = let n = is_name t i in of_atom [] (placed t.at (Var n.0), 1, t.at) (omega arith) (g.name n.1)
-    by_class s.Old i e = of_atom (some_open.token ∷ filler ∷ some_close.token ∷ []) (placed t.at (Old (placed filler.at (Truth true))), 2, t.at) (omega arith) (g.old (record { same = i }) some_open.is (filled Whole) some_close.is)
-    by_class s.Open i e = of_atom (filler ∷ some_close.token ∷ []) (placed filler.at (Truth true), 2, t.at) (omega arith) (g.parens (record { same = i }) (filled Whole) some_close.is)
+    by_class s.Old i e = of_atom ((spelled s.Open refl).token ∷ filler ∷ (spelled s.Close refl).token ∷ []) (placed t.at (Old (placed filler.at (Truth true))), 2, t.at) (omega arith) (g.old (record { same = i }) (spelled s.Open refl).is (filled Whole) (spelled s.Close refl).is)
+    by_class s.Open i e = of_atom (filler ∷ (spelled s.Close refl).token ∷ []) (placed filler.at (Truth true), 2, t.at) (omega arith) (g.parens (record { same = i }) (filled Whole) (spelled s.Close refl).is)
     by_class s.Not i e = of_prefix _ (ap prefixes i)
     by_class s.Minus i e = of_prefix _ (ap prefixes i)
     by_class _ i e = absurd (cc)
@@ -183,7 +165,7 @@ module _ (d : ℕ) (inner : Level → Reader MeasuredExpr) (law : 1 ≤ d → (l
 
   next_answers : 1 ≤ d → (ts : Tokens) → comma (class_of (ahead ts)) ≡ true → Answers (Next d) (Next (wide d)) ts (next_expression d inner ts)
   unfolding next_expression
-  next_answers pos ts e = after s.Comma some_comma ts (comma_is (class_of (ahead ts)) e) (λ _. law pos Whole)
+  next_answers pos ts e = after s.Comma (spelled s.Comma refl) ts (comma_is (class_of (ahead ts)) e) (λ _. law pos Whole)
 
   next_up : (u : Tokens) (x : MeasuredExpr) → Next d u x → Next (wide d) u x
   next_up u x (both i w) = both i (within_wide d Whole _ _ w)
@@ -232,13 +214,13 @@ module _ (d : ℕ) (inner : Level → Reader MeasuredExpr) (law : 1 ≤ d → (l
   to_parentheses b u x (both (wanted o) (both {x = y} w (both (wanted c) nothing))) = record { phrase = g.parens o w.phrase c; low = (let z = w.low in omega arith) }
 
   parentheses_begin : (t : Token) → Is s.Open t → Begins (Within (wide (suc d)) Atom) (t ∷ [])
-  parentheses_begin t i = record { more = filler ∷ some_close.token ∷ []; value = (placed filler.at (Truth true), 2, t.at); spelt = record { phrase = g.parens i (filled Whole) some_close.is; low = omega arith } }
+  parentheses_begin t i = record { more = filler ∷ (spelled s.Close refl).token ∷ []; value = (placed filler.at (Truth true), 2, t.at); spelt = record { phrase = g.parens i (filled Whole) (spelled s.Close refl).is; low = omega arith } }
 
   parenthesized_law : (ts : Tokens) → class_of (ahead ts) ≡ s.Open → Answers (Within (suc d) Atom) (Within (wide (suc d)) Atom) ts (parenthesized d inner ts)
   unfolding parenthesized
-  parenthesized_law ts e = deeper_answers s.Open some_open d (λ ts. and_then (skip ts) (λ p ts. and_then (inner Whole ts) (λ x ts. and_then (want s.Close ts) (λ _ ts. Got (x.0, suc x.1, p) ts)))) ts e
+  parenthesized_law ts e = deeper_answers s.Open (spelled s.Open refl) d (λ ts. and_then (skip ts) (λ p ts. and_then (inner Whole ts) (λ x ts. and_then (want s.Close ts) (λ _ ts. Got (x.0, suc x.1, p) ts)))) ts e
       (begins_filler (suc d) Atom (omega arith)) parentheses_begin
-      (λ pos. into (to_parentheses d) (to_parentheses (wide d)) (after s.Open some_open ts e (λ p. seq (law pos Whole) (λ x. seq (want_rule s.Close some_close) (λ _. done (x.0, suc x.1, p))))))
+      (λ pos. into (to_parentheses d) (to_parentheses (wide d)) (after s.Open (spelled s.Open refl) ts e (λ p. seq (law pos Whole) (λ x. seq (want_rule s.Close (spelled s.Close refl)) (λ _. done (x.0, suc x.1, p))))))
 
   abbrev OldText : ℕ → Tokens → MeasuredExpr → Type 0
   OldText b = Both (Wanted s.Old) (λ p. Both (Wanted s.Open) (λ _. Both (Within b Whole) (λ x. Both (Wanted s.Close) (λ _. Nothing (placed p (Old x.0), suc x.1, p)))))
@@ -247,13 +229,13 @@ module _ (d : ℕ) (inner : Level → Reader MeasuredExpr) (law : 1 ≤ d → (l
   to_old b u x (both (wanted {t = t} i) (both (wanted {t = o} j) (both {u = v} {x = y} w (both (wanted {t = c} k) n)))) = settle n (λ z x. Within (suc b) Atom (t ∷ o ∷ (v ++ c ∷ z)) x) (record { phrase = g.old i j w.phrase k; low = (let z = w.low in omega arith) })
 
   old_begins : (t : Token) → Is s.Old t → Begins (Within (wide (suc d)) Atom) (t ∷ [])
-  old_begins t i = record { more = some_open.token ∷ filler ∷ some_close.token ∷ []; value = (placed t.at (Old (placed filler.at (Truth true))), 2, t.at); spelt = record { phrase = g.old i some_open.is (filled Whole) some_close.is; low = omega arith } }
+  old_begins t i = record { more = (spelled s.Open refl).token ∷ filler ∷ (spelled s.Close refl).token ∷ []; value = (placed t.at (Old (placed filler.at (Truth true))), 2, t.at); spelt = record { phrase = g.old i (spelled s.Open refl).is (filled Whole) (spelled s.Close refl).is; low = omega arith } }
 
   old_law : (ts : Tokens) → class_of (ahead ts) ≡ s.Old → Answers (Within (suc d) Atom) (Within (wide (suc d)) Atom) ts (spec.old d inner ts)
   unfolding spec.old
-  old_law ts e = deeper_answers s.Old some_old d (λ ts. and_then (skip ts) (λ p ts. and_then (want s.Open ts) (λ _ ts. and_then (inner Whole ts) (λ x ts. and_then (want s.Close ts) (λ _ ts. Got (placed p (Old x.0), suc x.1, p) ts))))) ts e
+  old_law ts e = deeper_answers s.Old (spelled s.Old refl) d (λ ts. and_then (skip ts) (λ p ts. and_then (want s.Open ts) (λ _ ts. and_then (inner Whole ts) (λ x ts. and_then (want s.Close ts) (λ _ ts. Got (placed p (Old x.0), suc x.1, p) ts))))) ts e
       (begins_filler (suc d) Atom (omega arith)) old_begins
-      (λ pos. into (to_old d) (to_old (wide d)) (after s.Old some_old ts e (λ p. seq (want_rule s.Open some_open) (λ _. seq (law pos Whole) (λ x. seq (want_rule s.Close some_close) (λ _. done (placed p (Old x.0), suc x.1, p)))))))
+      (λ pos. into (to_old d) (to_old (wide d)) (after s.Old (spelled s.Old refl) ts e (λ p. seq (want_rule s.Open (spelled s.Open refl)) (λ _. seq (law pos Whole) (λ x. seq (want_rule s.Close (spelled s.Close refl)) (λ _. done (placed p (Old x.0), suc x.1, p)))))))
 
   abbrev ApplicationText : ℕ → Text × Place → Tokens → MeasuredExpr → Type 0
   ApplicationText b f = Both (Wanted s.Open) (λ _. Both (Given b) (λ xs. Both (Wanted s.Close) (λ _. Nothing (placed f.1 (Apply f.0 xs.0), suc xs.1, f.1))))
@@ -272,7 +254,7 @@ module _ (d : ℕ) (inner : Level → Reader MeasuredExpr) (law : 1 ≤ d → (l
 
   application_law : (f : Text × Place) (ts : Tokens) → class_of (ahead ts) ≡ s.Open → Answers (ApplicationText d f) (ApplicationText (wide d) f) ts (application d inner f ts)
   unfolding application
-  application_law f ts e = after s.Open some_open ts e (λ _. seq arguments_rule (λ xs. seq (want_rule s.Close some_close) (λ _. done (placed f.1 (Apply f.0 xs.0), suc xs.1, f.1))))
+  application_law f ts e = after s.Open (spelled s.Open refl) ts e (λ _. seq arguments_rule (λ xs. seq (want_rule s.Close (spelled s.Close refl)) (λ _. done (placed f.1 (Apply f.0 xs.0), suc xs.1, f.1))))
 
   after_name : (f : Text × Place) → Rule (AfterName d f) (AfterName (wide d) f) (λ ts. named_by d inner f (class_of (ahead ts)) ts)
   after_name f = record {
@@ -309,8 +291,8 @@ module _ (d : ℕ) (inner : Level → Reader MeasuredExpr) (law : 1 ≤ d → (l
     where
       by_class : (x : TokenClass) → class_of (ahead ts) ≡ x → Answers (Within (suc d) Atom) (Within (wide (suc d)) Atom) ts (atom_by d inner x ts)
       by_class s.Number e = into (to_number d) (to_number (wide d)) ((seq number_rule (λ n. done (placed n.1 (Num n.0), 1, n.1))).answers ts)
-      by_class s.True e = into (to_true d) (to_true (wide d)) (after s.True some_true ts e (λ p. done (placed p (Truth true), 1, p)))
-      by_class s.False e = into (to_false d) (to_false (wide d)) (after s.False (spelled s.False (λ e. cc)) ts e (λ p. done (placed p (Truth false), 1, p)))
+      by_class s.True e = into (to_true d) (to_true (wide d)) (after s.True (spelled s.True refl) ts e (λ p. done (placed p (Truth true), 1, p)))
+      by_class s.False e = into (to_false d) (to_false (wide d)) (after s.False (spelled s.False refl) ts e (λ p. done (placed p (Truth false), 1, p)))
       by_class s.Name e = named_law ts
       by_class s.Old e = old_law ts e
       by_class s.Open e = parenthesized_law ts e
@@ -348,14 +330,14 @@ module _ (d : ℕ) (inner : Level → Reader MeasuredExpr) (law : 1 ≤ d → (l
   }
     where
       close : Rule (Both (Wanted s.CloseBracket) (λ _. Nothing (spec.select m i))) (Both (Wanted s.CloseBracket) (λ _. Nothing (spec.select m i))) (λ ts. and_then (want s.CloseBracket ts) (λ _ ts. Got (spec.select m i) ts))
-      close = seq (want_rule s.CloseBracket some_bracket) (λ _. done (spec.select m i))
+      close = seq (want_rule s.CloseBracket (spelled s.CloseBracket refl)) (λ _. done (spec.select m i))
 
       by_class : (ts : Tokens) (x : TokenClass) → class_of (ahead ts) ≡ x → Answers (AfterIndex d m i) (AfterIndex (wide d) m i) ts (indexed_by d inner m i x ts)
-      by_class ts s.Becomes e = into (λ u x w. written w) (λ u x w. written w) (after s.Becomes (spelled s.Becomes (λ e. cc)) ts e (λ _. seq (law pos Whole) (λ v. seq (want_rule s.CloseBracket some_bracket) (λ _. done (spec.store m i v)))))
+      by_class ts s.Becomes e = into (λ u x w. written w) (λ u x w. written w) (after s.Becomes (spelled s.Becomes refl) ts e (λ _. seq (law pos Whole) (λ v. seq (want_rule s.CloseBracket (spelled s.CloseBracket refl)) (λ _. done (spec.store m i v)))))
       by_class ts _ e = into (λ u x c. closed c) (λ u x c. closed c) (close.answers ts)
 
   bracket_law : 1 ≤ d → (m : MeasuredExpr) (ts : Tokens) → class_of (ahead ts) ≡ s.OpenBracket → Answers (BracketText d m) (BracketText (wide d) m) ts (bracket_by d inner true m ts)
-  bracket_law pos m ts e = after s.OpenBracket (spelled s.OpenBracket (λ e. cc)) ts e (λ _. seq (law pos Whole) (index_rule pos m))
+  bracket_law pos m ts e = after s.OpenBracket (spelled s.OpenBracket refl) ts e (λ _. seq (law pos Whole) (index_rule pos m))
 
   selected : (b : ℕ) (m : MeasuredExpr) (pre : Tokens) → Phrase Postfix pre m.0 m.1 m.2 → m.1 ≤ b → {o : Token} → Is s.OpenBracket o → {v : Tokens} (i : MeasuredExpr) → Within b Whole v i → {w : Tokens} {x : MeasuredExpr} → Both (Wanted s.CloseBracket) (λ _. Nothing (spec.select m i)) w x → Higher (suc b) m.1 (pre ++ o ∷ (v ++ w)) x
   selected b m pre q low {o = o} j {v = v} i y (both (wanted {t = c} k) n) =
@@ -376,9 +358,9 @@ module _ (d : ℕ) (inner : Level → Reader MeasuredExpr) (law : 1 ≤ d → (l
 
   bracket_begins : (m : MeasuredExpr) (pre : Tokens) (t : Token) → Within (suc d) Postfix pre m → class t ≡ s.OpenBracket → Begins (Within (wide (suc d)) Postfix) (pre ++ t ∷ [])
   bracket_begins m pre t w e = record {
-    more = filler ∷ some_bracket.token ∷ [];
+    more = filler ∷ (spelled s.CloseBracket refl).token ∷ [];
     value = spec.select m filler_value;
-    spelt = subst (λ z. Within (wide (suc d)) Postfix z (spec.select m filler_value)) (sym (append_assoc pre (t ∷ []) (filler ∷ some_bracket.token ∷ []))) (record { phrase = g.select w.phrase (record { same = e }) (filled Whole) some_bracket.is; low = let z = w.low in omega arith });
+    spelt = subst (λ z. Within (wide (suc d)) Postfix z (spec.select m filler_value)) (sym (append_assoc pre (t ∷ []) (filler ∷ (spelled s.CloseBracket refl).token ∷ []))) (record { phrase = g.select w.phrase (record { same = e }) (filled Whole) (spelled s.CloseBracket refl).is; low = let z = w.low in omega arith });
   }
 
   brackets_law : (n : ℕ) (m : MeasuredExpr) (pre ts : Tokens) → suc (suc d) ≤ m.1 + n → Within (suc d) Postfix pre m → AnswersStep (Within (suc d) Postfix) (Within (wide (suc d)) Postfix) pre ts (brackets d inner n m ts)
@@ -489,11 +471,6 @@ module _ (d : ℕ) (inner : Level → Reader MeasuredExpr) (law : 1 ≤ d → (l
 
   other_repeats : (l : Level) (f : BinOp) → repeated l s.Other ≡ Some f → ⊥
   other_repeats Whole f e = cc
-  other_repeats Explied f e = cc
-  other_repeats Conjunction f e = cc
-  other_repeats Disjunction f e = cc
-  other_repeats Sum f e = cc
-  other_repeats Product f e = cc
   other_repeats _ f e = cc
 
   turn_law : (l : Level) (next : MeasuredExpr → Reader MeasuredExpr) (x : MeasuredExpr) (pre ts : Tokens) → Within (suc d) l pre x

@@ -97,12 +97,7 @@ before_implies t rest i = record { looser = rw i.same (omega arith) }
 
 repeated_has : (l : Level) (x : TokenClass) (f : BinOp) → repeated l x ≡ Some f → has_operand l ≡ true
 repeated_has Whole x f e = refl
-repeated_has Explied x f e = refl
-repeated_has Conjunction x f e = refl
-repeated_has Disjunction x f e = refl
-repeated_has Sum x f e = refl
-repeated_has Product x f e = refl
-repeated_has _ x f e = absurd (cc)
+repeated_has _ x f e = cc
 
 repeated_rank : (l : Level) (x : TokenClass) (f : BinOp) → repeated l x ≡ Some f → limit (operand l) < rank x
 repeated_rank Whole s.Iff f e = omega arith
@@ -126,30 +121,15 @@ no_operator _ _ h = refl
 
 lower : (l : Level) → has_operand l ≡ true → limit (operand l) < limit l
 lower Whole e = omega arith
-lower Explied e = omega arith
-lower Conjunction e = omega arith
-lower Disjunction e = omega arith
-lower Sum e = omega arith
-lower Product e = omega arith
-lower _ e = absurd (cc)
+lower _ e = first_of (omega arith, cc)
 
 no_comparison : (x : TokenClass) → 4 < rank x → compares x ≡ None
 no_comparison s.Equal h = absurd (omega arith)
-no_comparison s.Unequal h = absurd (omega arith)
-no_comparison s.Less h = absurd (omega arith)
-no_comparison s.AtMost h = absurd (omega arith)
-no_comparison s.Greater h = absurd (omega arith)
-no_comparison s.AtLeast h = absurd (omega arith)
-no_comparison _ h = refl
+no_comparison _ h = first_of (cc, grind arith)
 
 compares_rank : (x : TokenClass) (f : BinOp) → compares x ≡ Some f → 3 < rank x
 compares_rank s.Equal f e = omega arith
-compares_rank s.Unequal f e = omega arith
-compares_rank s.Less f e = omega arith
-compares_rank s.AtMost f e = omega arith
-compares_rank s.Greater f e = omega arith
-compares_rank s.AtLeast f e = omega arith
-compares_rank _ f e = absurd (cc)
+compares_rank _ f e = first_of (omega arith, cc)
 
 -- the levels of atoms and brackets
 abbrev is_low : Level → Bool

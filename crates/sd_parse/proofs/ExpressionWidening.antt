@@ -146,12 +146,7 @@ module _ (d : ℕ) {inner wider : Level → Reader MeasuredExpr} (up : (l : Leve
 
 atom_none : (d : ℕ) (inner : Level → Reader MeasuredExpr) (x : TokenClass) (ts : Tokens) → begins x ≡ false → atom_by d inner x ts ≡ Bad Syntax ts
 atom_none d inner s.Number ts e = absurd (cc)
-atom_none d inner s.True ts e = absurd (cc)
-atom_none d inner s.False ts e = absurd (cc)
-atom_none d inner s.Name ts e = absurd (cc)
-atom_none d inner s.Old ts e = absurd (cc)
-atom_none d inner s.Open ts e = absurd (cc)
-atom_none d inner _ ts e = refl
+atom_none d inner _ ts e = cc
 
 prefixes_none : (x : TokenClass) → begins x ≡ false → prefixes x ≡ None
 prefixes_none s.Not e = absurd (cc)

@@ -38,24 +38,6 @@ use Rattle.sd_parse.proofs.Limits.{var_line_more, spec_more, body_more, declarat
 use Rattle.sd_parse.proofs.ProgramTexts as made
 use Rattle.sd_parse.proofs.ProgramTexts.{TypedPair, GroupText, Closed, Modified, Condition, of_requires, of_ensures, AfterName, colon, nothing_more, ProcedureFrom, declared_from, defined_from}
 
-some_semi : Spelled s.Semi
-some_semi = spelled s.Semi (λ e. cc)
-
-some_colon : Spelled s.Colon
-some_colon = spelled s.Colon (λ e. cc)
-
-some_close : Spelled s.Close
-some_close = spelled s.Close (λ e. cc)
-
-some_int : Spelled s.Int
-some_int = spelled s.Int (λ e. cc)
-
-some_type : Spelled s.Type
-some_type = spelled s.Type (λ e. cc)
-
-some_modifies : Spelled s.Modifies
-some_modifies = spelled s.Modifies (λ e. cc)
-
 -- ---- names and types of constants
 
 uniqueness_rule : Rule Uniqueness Uniqueness uniqueness
@@ -63,7 +45,7 @@ unfolding uniqueness
 uniqueness_rule = record { least = record { more = []; value = false; spelt = p.plain }; up = λ u x i. i; answers = λ ts. by_class ts (class_of (ahead ts)) refl }
   where
     by_class : (ts : Tokens) (x : TokenClass) → class_of (ahead ts) ≡ x → Answers Uniqueness Uniqueness ts (uniqueness_by x ts)
-    by_class ts s.Unique e = into made.to_unique made.to_unique (after s.Unique (spelled s.Unique (λ e. cc)) ts e (λ _. done true))
+    by_class ts s.Unique e = into made.to_unique made.to_unique (after s.Unique (spelled s.Unique refl) ts e (λ _. done true))
     by_class ts _ e = record { fact = ([], refl, p.plain) }
 
 modified_rule : Rule Modified Modified modified
@@ -79,7 +61,7 @@ module _ (d : ℕ) (pos : 1 ≤ d) where
 
   typed_rule : Rule (Low TypedPair d) (Low TypedPair (wide d)) (typed d)
   unfolding typed
-  typed_rule = rule_into (made.to_typed d) (made.to_typed (wide d)) (low_wide TypedPair d) (seq names_rule (λ xs. seq (want_rule s.Colon some_colon) (λ _. seq (type_rule d pos) (λ T. done (xs, T)))))
+  typed_rule = rule_into (made.to_typed d) (made.to_typed (wide d)) (low_wide TypedPair d) (seq names_rule (λ xs. seq (want_rule s.Colon (spelled s.Colon refl)) (λ _. seq (type_rule d pos) (λ T. done (xs, T)))))
 
   group_rule : Rule (Low GroupText d) (Low GroupText (wide d)) (group d)
   unfolding group
@@ -102,7 +84,7 @@ module _ (d : ℕ) (pos : 1 ≤ d) where
 
   line_answers : (ts : Tokens) → class_of (ahead ts) ≡ s.Var → Answers (Low (VarLine d) d) (Low (VarLine (wide d)) (wide d)) ts (var_line d ts)
   unfolding var_line
-  line_answers ts e = into (made.to_line d) (made.to_line (wide d)) (after s.Var (spelled s.Var (λ e. cc)) ts e (λ _. seq (attributes_rule d pos) (λ _. seq vars_rule (λ ys. seq (want_rule s.Semi some_semi) (λ _. done ys)))))
+  line_answers ts e = into (made.to_line d) (made.to_line (wide d)) (after s.Var (spelled s.Var refl) ts e (λ _. seq (attributes_rule d pos) (λ _. seq vars_rule (λ ys. seq (want_rule s.Semi (spelled s.Semi refl)) (λ _. done ys)))))
 
   locals_rule : Rule (Low (Joined (VarLine d)) d) (Low (Joined (VarLine (wide d))) (wide d)) (locals d)
   unfolding locals
@@ -116,22 +98,22 @@ module _ (d : ℕ) (pos : 1 ≤ d) where
 
   listed_rule : Rule (Closed d) (Closed (wide d)) (listed_parameters d)
   unfolding listed_parameters
-  listed_rule = record { least = record { more = some_close.token ∷ []; value = []; spelt = made.empty some_close.is }; up = closed_up; answers = λ ts. by_class ts (class_of (ahead ts)) refl }
+  listed_rule = record { least = record { more = (spelled s.Close refl).token ∷ []; value = []; spelt = made.empty (spelled s.Close refl).is }; up = closed_up; answers = λ ts. by_class ts (class_of (ahead ts)) refl }
     where
       by_class : (ts : Tokens) (x : TokenClass) → class_of (ahead ts) ≡ x → Answers (Closed d) (Closed (wide d)) ts (parameters_by d x ts)
-      by_class ts s.Close e = into (made.to_none d) (made.to_none (wide d)) (after s.Close some_close ts e (λ _. done []))
-      by_class ts _ e = into (made.to_some d) (made.to_some (wide d)) ((seq vars_rule (λ ys. seq (want_rule s.Close some_close) (λ _. done ys))).answers ts)
+      by_class ts s.Close e = into (made.to_none d) (made.to_none (wide d)) (after s.Close (spelled s.Close refl) ts e (λ _. done []))
+      by_class ts _ e = into (made.to_some d) (made.to_some (wide d)) ((seq vars_rule (λ ys. seq (want_rule s.Close (spelled s.Close refl)) (λ _. done ys))).answers ts)
 
   parameters_rule : Rule (Low Parameters d) (Low Parameters (wide d)) (parameters d)
   unfolding parameters
-  parameters_rule = rule_into (made.to_parameters d) (made.to_parameters (wide d)) (low_wide Parameters d) (seq (want_rule s.Open (spelled s.Open (λ e. cc))) (λ _. listed_rule))
+  parameters_rule = rule_into (made.to_parameters d) (made.to_parameters (wide d)) (low_wide Parameters d) (seq (want_rule s.Open (spelled s.Open refl)) (λ _. listed_rule))
 
   results_rule : Rule (Low Results d) (Low Results (wide d)) (results d)
   unfolding results
   results_rule = record { least = record { more = []; value = []; spelt = record { height = 0; spelt = p.none; low = omega arith } }; up = low_wide Results d; answers = λ ts. by_class ts (class_of (ahead ts)) refl }
     where
       by_class : (ts : Tokens) (x : TokenClass) → class_of (ahead ts) ≡ x → Answers (Low Results d) (Low Results (wide d)) ts (results_by d x ts)
-      by_class ts s.Returns e = into (made.to_results d) (made.to_results (wide d)) (after s.Returns (spelled s.Returns (λ e. cc)) ts e (λ _. parameters_rule))
+      by_class ts s.Returns e = into (made.to_results d) (made.to_results (wide d)) (after s.Returns (spelled s.Returns refl) ts e (λ _. parameters_rule))
       by_class ts _ e = record { fact = ([], refl, record { height = 0; spelt = p.none; low = omega arith }) }
 
   head_rule : Rule (Low HeadText d) (Low HeadText (wide d)) (head d)
@@ -145,7 +127,7 @@ module _ (d : ℕ) (pos : 1 ≤ d) where
 
   modifies_answers : (ts : Tokens) → class_of (ahead ts) ≡ s.Modifies → Answers (Low (SpecText d) d) (Low (SpecText (wide d)) (wide d)) ts (modifies ts)
   unfolding modifies
-  modifies_answers ts e = into (made.to_modifies d) (made.to_modifies (wide d)) (after s.Modifies some_modifies ts e (λ _. seq modified_rule (λ xs. seq (want_rule s.Semi some_semi) (λ _. done (spec.Modifies xs)))))
+  modifies_answers ts e = into (made.to_modifies d) (made.to_modifies (wide d)) (after s.Modifies (spelled s.Modifies refl) ts e (λ _. seq modified_rule (λ xs. seq (want_rule s.Semi (spelled s.Semi refl)) (λ _. done (spec.Modifies xs)))))
 
   condition_up : (f : Bool) (u : Tokens) (x : Spec) → Condition d f u x → Condition (wide d) f u x
   condition_up f u x (of_requires w) = of_requires (claim_wide d d s.Requires _ _ w)
@@ -153,11 +135,11 @@ module _ (d : ℕ) (pos : 1 ≤ d) where
 
   required_rule : (f : Bool) → Rule (Condition d f) (Condition (wide d) f) (required d f)
   unfolding required
-  required_rule f = rule_into (made.to_required d f) (made.to_required (wide d) f) (condition_up f) (seq (claim_rule d d s.Requires pos pos (spelled s.Requires (λ e. cc))) (λ k. done (spec.Requires f k.1)))
+  required_rule f = rule_into (made.to_required d f) (made.to_required (wide d) f) (condition_up f) (seq (claim_rule d d s.Requires pos pos (spelled s.Requires refl)) (λ k. done (spec.Requires f k.1)))
 
   ensured_rule : (f : Bool) → Rule (Condition d f) (Condition (wide d) f) (ensured d f)
   unfolding ensured
-  ensured_rule f = rule_into (made.to_ensured d f) (made.to_ensured (wide d) f) (condition_up f) (seq (claim_rule d d s.Ensures pos pos (spelled s.Ensures (λ e. cc))) (λ k. done (spec.Ensures f k.1)))
+  ensured_rule f = rule_into (made.to_ensured d f) (made.to_ensured (wide d) f) (condition_up f) (seq (claim_rule d d s.Ensures pos pos (spelled s.Ensures refl)) (λ k. done (spec.Ensures f k.1)))
 
   condition_rule : (f : Bool) → Rule (Condition d f) (Condition (wide d) f) (condition d f)
   unfolding condition
@@ -171,14 +153,14 @@ module _ (d : ℕ) (pos : 1 ≤ d) where
   clause_rule : Rule (Low (SpecText d) d) (Low (SpecText (wide d)) (wide d)) (clause d)
   unfolding clause free_condition
   clause_rule = record {
-    least = record { more = some_modifies.token ∷ some_semi.token ∷ []; value = spec.Modifies []; spelt = record { height = 0; spelt = p.modifies_none some_modifies.is some_semi.is; low = omega arith } };
+    least = record { more = (spelled s.Modifies refl).token ∷ (spelled s.Semi refl).token ∷ []; value = spec.Modifies []; spelt = record { height = 0; spelt = p.modifies_none (spelled s.Modifies refl).is (spelled s.Semi refl).is; low = omega arith } };
     up = spec_up;
     answers = λ ts. by_class ts (class_of (ahead ts)) refl;
   }
     where
       by_class : (ts : Tokens) (x : TokenClass) → class_of (ahead ts) ≡ x → Answers (Low (SpecText d) d) (Low (SpecText (wide d)) (wide d)) ts (clause_by d x ts)
       by_class ts s.Modifies e = modifies_answers ts e
-      by_class ts s.Free e = into (made.to_free d) (made.to_free (wide d)) (after s.Free (spelled s.Free (λ e. cc)) ts e (λ _. condition_rule true))
+      by_class ts s.Free e = into (made.to_free d) (made.to_free (wide d)) (after s.Free (spelled s.Free refl) ts e (λ _. condition_rule true))
       by_class ts _ e = into (made.to_checked d) (made.to_checked (wide d)) ((condition_rule false).answers ts)
 
   clauses_rule : Rule (Low (Row (SpecText d)) d) (Low (Row (SpecText (wide d))) (wide d)) (clauses d)
@@ -188,7 +170,7 @@ module _ (d : ℕ) (pos : 1 ≤ d) where
   body_rule : Rule (Low (BodyText d) d) (Low (BodyText (wide d)) (wide d)) (body d)
   unfolding body
   body_rule = rule_into (made.to_body d) (made.to_body (wide d)) (lift_low (λ u x h y. body_more (omega arith) y) d)
-      (seq (want_rule s.OpenBrace (spelled s.OpenBrace (λ e. cc))) (λ _. seq locals_rule (λ xs. seq (statements_rule d d pos (statement d d) (λ pos. statement_rule d d pos pos) pos) (λ ss. seq (want_rule s.CloseBrace (spelled s.CloseBrace (λ e. cc))) (λ _. done (record { locals = xs; stmts = ss }))))))
+      (seq (want_rule s.OpenBrace (spelled s.OpenBrace refl)) (λ _. seq locals_rule (λ xs. seq (statements_rule d d pos (statement d d) (λ pos. statement_rule d d pos pos) pos) (λ ss. seq (want_rule s.CloseBrace (spelled s.CloseBrace refl)) (λ _. done (record { locals = xs; stmts = ss }))))))
 
   -- ---- functions
 
@@ -201,7 +183,7 @@ module _ (d : ℕ) (pos : 1 ≤ d) where
   after_name_rule x = record { least = record { more = []; value = sort.Named x; spelt = nothing_more }; up = name_up x; answers = λ ts. by_class ts (class_of (ahead ts)) refl }
     where
       by_class : (ts : Tokens) (y : TokenClass) → class_of (ahead ts) ≡ y → Answers (AfterName d x) (AfterName (wide d) x) ts (named_by d x y ts)
-      by_class ts s.Colon e = into (made.to_colon d x) (made.to_colon (wide d) x) (after s.Colon some_colon ts e (λ _. type_rule d pos))
+      by_class ts s.Colon e = into (made.to_colon d x) (made.to_colon (wide d) x) (after s.Colon (spelled s.Colon refl) ts e (λ _. type_rule d pos))
       by_class ts _ e = record { fact = ([], refl, nothing_more) }
 
 named_answers : (d : ℕ) → 1 ≤ d → (ts : Tokens) → Answers (Low Argument d) (Low Argument (wide d)) ts (named_argument d ts)
@@ -213,7 +195,7 @@ module _ (d : ℕ) (pos : 1 ≤ d) where
   argument_rule : Rule (Low Argument d) (Low Argument (wide d)) (argument d)
   unfolding argument
   argument_rule = record {
-    least = record { more = some_int.token ∷ []; value = sort.Int; spelt = record { height = 1; spelt = p.bare (ty.int some_int.is); low = pos } };
+    least = record { more = (spelled s.Int refl).token ∷ []; value = sort.Int; spelt = record { height = 1; spelt = p.bare (ty.int (spelled s.Int refl).is); low = pos } };
     up = low_wide Argument d;
     answers = λ ts. by_class ts (class_of (ahead ts));
   }
@@ -228,14 +210,14 @@ module _ (d : ℕ) (pos : 1 ≤ d) where
   result_rule : Rule (Low ResultType d) (Low ResultType (wide d)) (result_type d)
   unfolding result_type returned_type colon_type
   result_rule = record {
-    least = record { more = some_colon.token ∷ some_int.token ∷ []; value = sort.Int; spelt = record { height = 1; spelt = p.colon some_colon.is (ty.int some_int.is); low = pos } };
+    least = record { more = (spelled s.Colon refl).token ∷ (spelled s.Int refl).token ∷ []; value = sort.Int; spelt = record { height = 1; spelt = p.colon (spelled s.Colon refl).is (ty.int (spelled s.Int refl).is); low = pos } };
     up = low_wide ResultType d;
     answers = λ ts. by_class ts (class_of (ahead ts)) refl;
   }
     where
       by_class : (ts : Tokens) (x : TokenClass) → class_of (ahead ts) ≡ x → Answers (Low ResultType d) (Low ResultType (wide d)) ts (result_by d x ts)
-      by_class ts s.Returns e = into (made.to_returned d) (made.to_returned (wide d)) (after s.Returns (spelled s.Returns (λ e. cc)) ts e (λ _. seq (want_rule s.Open (spelled s.Open (λ e. cc))) (λ _. seq argument_rule (λ T. seq (want_rule s.Close some_close) (λ _. done T)))))
-      by_class ts _ e = into (made.to_colon_type d) (made.to_colon_type (wide d)) ((seq (want_rule s.Colon some_colon) (λ _. type_rule d pos)).answers ts)
+      by_class ts s.Returns e = into (made.to_returned d) (made.to_returned (wide d)) (after s.Returns (spelled s.Returns refl) ts e (λ _. seq (want_rule s.Open (spelled s.Open refl)) (λ _. seq argument_rule (λ T. seq (want_rule s.Close (spelled s.Close refl)) (λ _. done T)))))
+      by_class ts _ e = into (made.to_colon_type d) (made.to_colon_type (wide d)) ((seq (want_rule s.Colon (spelled s.Colon refl)) (λ _. type_rule d pos)).answers ts)
 
   -- ---- declarations
 
@@ -245,20 +227,20 @@ module _ (d : ℕ) (pos : 1 ≤ d) where
 
   types_answers : (ts : Tokens) → class_of (ahead ts) ≡ s.Type → Here ts (types d)
   unfolding types
-  types_answers ts e = into (made.to_types d) (made.to_types (wide d)) (after s.Type some_type ts e (λ _. seq (attributes_rule d pos) (λ _. seq names_rule (λ xs. seq (want_rule s.Semi some_semi) (λ _. done (decl.Types xs))))))
+  types_answers ts e = into (made.to_types d) (made.to_types (wide d)) (after s.Type (spelled s.Type refl) ts e (λ _. seq (attributes_rule d pos) (λ _. seq names_rule (λ xs. seq (want_rule s.Semi (spelled s.Semi refl)) (λ _. done (decl.Types xs))))))
 
   constants_answers : (ts : Tokens) → class_of (ahead ts) ≡ s.Const → Here ts (constants d)
   unfolding constants
-  constants_answers ts e = into (made.to_constants d) (made.to_constants (wide d)) (after s.Const (spelled s.Const (λ e. cc)) ts e (λ _. seq (attributes_rule d pos) (λ _. seq uniqueness_rule (λ b. seq (typed_rule d pos) (λ g. seq (want_rule s.Semi some_semi) (λ _. done (decl.Const b g.0 g.1)))))))
+  constants_answers ts e = into (made.to_constants d) (made.to_constants (wide d)) (after s.Const (spelled s.Const refl) ts e (λ _. seq (attributes_rule d pos) (λ _. seq uniqueness_rule (λ b. seq (typed_rule d pos) (λ g. seq (want_rule s.Semi (spelled s.Semi refl)) (λ _. done (decl.Const b g.0 g.1)))))))
 
   function_answers : (ts : Tokens) → class_of (ahead ts) ≡ s.Function → Here ts (function d)
   unfolding function
   function_answers ts e = into (made.to_function d) (made.to_function (wide d))
-      (after s.Function (spelled s.Function (λ e. cc)) ts e (λ _. seq (attributes_rule d pos) (λ _. seq name_rule (λ f. seq (enclosed_rule Argument Argument d (low_wide Argument d) (full argument_rule)) (λ xs. seq result_rule (λ T. seq (want_rule s.Semi some_semi) (λ _. done (decl.Function f.0 xs T))))))))
+      (after s.Function (spelled s.Function refl) ts e (λ _. seq (attributes_rule d pos) (λ _. seq name_rule (λ f. seq (enclosed_rule Argument Argument d (low_wide Argument d) (full argument_rule)) (λ xs. seq result_rule (λ T. seq (want_rule s.Semi (spelled s.Semi refl)) (λ _. done (decl.Function f.0 xs T))))))))
 
   axiom_answers : (ts : Tokens) → Here ts (axiom_line d)
   unfolding axiom_line
-  axiom_answers ts = into (made.to_axiom d) (made.to_axiom (wide d)) ((seq (claim_rule d d s.Axiom pos pos (spelled s.Axiom (λ e. cc))) (λ k. done (decl.Axiom k.1))).answers ts)
+  axiom_answers ts = into (made.to_axiom d) (made.to_axiom (wide d)) ((seq (claim_rule d d s.Axiom pos pos (spelled s.Axiom refl)) (λ k. done (decl.Axiom k.1))).answers ts)
 
   globals_answers : (ts : Tokens) → class_of (ahead ts) ≡ s.Var → Here ts (globals d)
   unfolding globals
@@ -271,26 +253,26 @@ module _ (d : ℕ) (pos : 1 ≤ d) where
   procedure_from_rule : (f : Head) → Rule (ProcedureFrom d f) (ProcedureFrom (wide d) f) (procedure_from d f)
   unfolding procedure_from declared defined
   procedure_from_rule f = record {
-    least = record { more = some_semi.token ∷ []; value = decl.Procedure (record { head = f; specs = []; body = None }); spelt = declared_from some_semi.is (record { height = 0; spelt = w.none; low = omega arith }) };
+    least = record { more = (spelled s.Semi refl).token ∷ []; value = decl.Procedure (record { head = f; specs = []; body = None }); spelt = declared_from (spelled s.Semi refl).is (record { height = 0; spelt = w.none; low = omega arith }) };
     up = procedure_up f;
     answers = λ ts. by_class ts (class_of (ahead ts)) refl;
   }
     where
       by_class : (ts : Tokens) (x : TokenClass) → class_of (ahead ts) ≡ x → Answers (ProcedureFrom d f) (ProcedureFrom (wide d) f) ts (procedure_by d f x ts)
-      by_class ts s.Semi e = into (made.to_declared d f) (made.to_declared (wide d) f) (after s.Semi some_semi ts e (λ _. seq (clauses_rule d pos) (λ xs. done (decl.Procedure (record { head = f; specs = xs; body = None })))))
+      by_class ts s.Semi e = into (made.to_declared d f) (made.to_declared (wide d) f) (after s.Semi (spelled s.Semi refl) ts e (λ _. seq (clauses_rule d pos) (λ xs. done (decl.Procedure (record { head = f; specs = xs; body = None })))))
       by_class ts _ e = into (made.to_defined d f) (made.to_defined (wide d) f) ((seq (clauses_rule d pos) (λ xs. seq (body_rule d pos) (λ b. done (decl.Procedure (record { head = f; specs = xs; body = Some b }))))).answers ts)
 
   procedure_answers : (ts : Tokens) → class_of (ahead ts) ≡ s.Procedure → Here ts (procedure d)
   unfolding procedure
-  procedure_answers ts e = into (made.to_procedure d) (made.to_procedure (wide d)) (after s.Procedure (spelled s.Procedure (λ e. cc)) ts e (λ _. seq (attributes_rule d pos) (λ _. seq (head_rule d pos) (λ f. procedure_from_rule f))))
+  procedure_answers ts e = into (made.to_procedure d) (made.to_procedure (wide d)) (after s.Procedure (spelled s.Procedure refl) ts e (λ _. seq (attributes_rule d pos) (λ _. seq (head_rule d pos) (λ f. procedure_from_rule f))))
 
   implementation_answers : (ts : Tokens) → class_of (ahead ts) ≡ s.Implementation → Here ts (implementation d)
   unfolding implementation
   implementation_answers ts e = into (made.to_implementation d) (made.to_implementation (wide d))
-      (after s.Implementation (spelled s.Implementation (λ e. cc)) ts e (λ _. seq (attributes_rule d pos) (λ _. seq (head_rule d pos) (λ f. seq (body_rule d pos) (λ b. done (decl.Implementation (record { head = f; body = b })))))))
+      (after s.Implementation (spelled s.Implementation refl) ts e (λ _. seq (attributes_rule d pos) (λ _. seq (head_rule d pos) (λ f. seq (body_rule d pos) (λ b. done (decl.Implementation (record { head = f; body = b })))))))
 
   least : Begins (Low (Declaration d) d) []
-  least = begins_map (Both (Wanted s.Type) _) (Low (Declaration d) d) (λ x. x) [] (made.to_types d) (seq (want_rule s.Type some_type) (λ _. seq (attributes_rule d pos) (λ _. seq names_rule (λ xs. seq (want_rule s.Semi some_semi) (λ _. done (decl.Types xs)))))).least
+  least = begins_map (Both (Wanted s.Type) _) (Low (Declaration d) d) (λ x. x) [] (made.to_types d) (seq (want_rule s.Type (spelled s.Type refl)) (λ _. seq (attributes_rule d pos) (λ _. seq names_rule (λ xs. seq (want_rule s.Semi (spelled s.Semi refl)) (λ _. done (decl.Types xs)))))).least
 
   declaration_answers : (ts : Tokens) → Here ts (declaration d)
   unfolding declaration

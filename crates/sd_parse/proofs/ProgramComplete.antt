@@ -139,15 +139,15 @@ module _ (d : ℕ) where
 
   results_read : {u : Tokens} {xs : List Var} {h : ℕ} (rest : Tokens) → (class_of (ahead rest) ≡ s.Returns → ⊥) → Results u xs h → h ≤ d → results d (u ++ rest) ≡ Got xs rest
   unfolding results
-  results_read rest no_operator p.none low = no_results (class_of (ahead rest)) rest no_operator
-  results_read rest no_operator (p.some {r = t} {u = u} i m) low = ap (λ x. results_by d x (t ∷ (u ++ rest))) i.same ∙ parameters_read rest m low
+  results_read rest no_returns p.none low = no_results (class_of (ahead rest)) rest no_returns
+  results_read rest no_returns (p.some {r = t} {u = u} i m) low = ap (λ x. results_by d x (t ∷ (u ++ rest))) i.same ∙ parameters_read rest m low
 
   head_reads : {u : Tokens} {f : Head} {h : ℕ} (rest : Tokens) → (class_of (ahead rest) ≡ s.Returns → ⊥) → HeadText u f h → h ≤ d → head d (u ++ rest) ≡ Got f rest
   unfolding head
-  head_reads rest no_operator (p.head {n = n} {f = f} {u = u} {v = v} {ins = ins} {outs = outs} i m o) low =
+  head_reads rest no_returns (p.head {n = n} {f = f} {u = u} {v = v} {ins = ins} {outs = outs} i m o) low =
       let split : (u ++ v) ++ rest ≡ u ++ (v ++ rest) = append_assoc u v rest in
       let first : parameters d (u ++ (v ++ rest)) ≡ Got ins (v ++ rest) = parameters_read (v ++ rest) m (omega arith) in
-      let second : results d (v ++ rest) ≡ Got outs rest = results_read rest no_operator o (omega arith) in
+      let second : results d (v ++ rest) ≡ Got outs rest = results_read rest no_returns o (omega arith) in
       rw (split, name_reads f n (u ++ (v ++ rest)) i, first, second) refl
 
 head_first : {u : Tokens} {f : Head} {h : ℕ} (rest : Tokens) → HeadText u f h → class_of (ahead (u ++ rest)) ≡ s.Name
@@ -172,12 +172,9 @@ spec_first u x h rest (p.ensures (c.checked m)) = ap begins_spec (claim_first re
 spec_first u x h rest (p.ensures (c.free i m)) = ap begins_spec i.same
 
 pub spec_some : {d : ℕ} (u : Tokens) (x : Spec) (h : ℕ) → SpecText d u x h → 0 < length u
-spec_some u x h (p.modifies_none i j) = omega arith
-spec_some u x h (p.modifies i m j) = omega arith
 spec_some u x h (p.requires (c.checked m)) = claim_some m
-spec_some u x h (p.requires (c.free i m)) = omega arith
 spec_some u x h (p.ensures (c.checked m)) = claim_some m
-spec_some u x h (p.ensures (c.free i m)) = omega arith
+spec_some u x h _ = omega arith
 
 -- what begins with neither a clause nor a brace doesn't follow a head with a body
 pub specs_first : {d : ℕ} {u : Tokens} {xs : List Spec} {h : ℕ} (y : TokenClass) (rest : Tokens) → begins_spec y ≡ false → (s.OpenBrace ≡ y → ⊥) → class_of (ahead rest) ≡ s.OpenBrace → Row (SpecText d) u xs h → class_of (ahead (u ++ rest)) ≡ y → ⊥
@@ -330,14 +327,9 @@ declaration_first u x h rest (p.defined i l m n b) = ap begins_declaration i.sam
 declaration_first u x h rest (p.implementation i l m b) = ap begins_declaration i.same
 
 pub declaration_some : {d : ℕ} (u : Tokens) (x : Decl) (h : ℕ) → Declaration d u x h → 0 < length u
-declaration_some u x h (p.types i l m j) = omega arith
-declaration_some u x h (p.constants i l b m j) = omega arith
-declaration_some u x h (p.function i l n m o j) = omega arith
 declaration_some u x h (p.axiom_text m) = claim_some m
 declaration_some u x h (p.globals m) = line_some u _ h m
-declaration_some u x h (p.declared i l m j n) = omega arith
-declaration_some u x h (p.defined i l m n b) = omega arith
-declaration_some u x h (p.implementation i l m b) = omega arith
+declaration_some u x h _ = omega arith
 
 -- No clause follows.
 abbrev NoSpec : Tokens → Type 0
@@ -345,13 +337,7 @@ NoSpec rest = begins_spec (class_of (ahead rest)) ≡ false
 
 no_spec : (x : TokenClass) → begins_declaration x ≡ true → begins_spec x ≡ false
 no_spec s.Type e = refl
-no_spec s.Const e = refl
-no_spec s.Function e = refl
-no_spec s.Axiom e = refl
-no_spec s.Var e = refl
-no_spec s.Procedure e = refl
-no_spec s.Implementation e = refl
-no_spec _ e = absurd (cc)
+no_spec _ e = cc
 
 module _ (d : ℕ) where
   by_word : (x : TokenClass) (ts : Tokens) → class_of (ahead ts) ≡ x → declaration d ts ≡ declaration_by d x ts
@@ -416,21 +402,21 @@ module _ (d : ℕ) where
 
   -- a procedure or an implementation up to the end of its head
   to_head : (a u ts : Tokens) (f : Head) (h : ℕ) → Attributes d a → HeadText u f h → h ≤ d → (class_of (ahead ts) ≡ s.Returns → ⊥) → attributes d (a ++ (u ++ ts)) ≡ Got tt (u ++ ts)
-  to_head a u ts f h l m low no_operator = attributes_complete d (u ++ ts) (named_first (u ++ ts) (head_first ts m)) l
+  to_head a u ts f h l m low no_returns = attributes_complete d (u ++ ts) (named_first (u ++ ts) (head_first ts m)) l
 
   procedure_reads : (t : Token) (a u ts rest : Tokens) (f : Head) (h : ℕ) (x : Decl) → Attributes d a → HeadText u f h → h ≤ d → (class_of (ahead ts) ≡ s.Returns → ⊥) → procedure_from d f ts ≡ Got x rest → procedure d (t ∷ (a ++ (u ++ ts))) ≡ Got x rest
   unfolding procedure
-  procedure_reads t a u ts rest f h x l m low no_operator r =
-      let first : attributes d (a ++ (u ++ ts)) ≡ Got tt (u ++ ts) = to_head a u ts f h l m low no_operator in
-      let second : head d (u ++ ts) ≡ Got f ts = head_reads d ts no_operator m low in
+  procedure_reads t a u ts rest f h x l m low no_returns r =
+      let first : attributes d (a ++ (u ++ ts)) ≡ Got tt (u ++ ts) = to_head a u ts f h l m low no_returns in
+      let second : head d (u ++ ts) ≡ Got f ts = head_reads d ts no_returns m low in
       rw (first, second) r
 
   implementation_reads : (t : Token) (a u v rest : Tokens) (f : Head) (b : Body) (h k : ℕ) → Attributes d a → HeadText u f h → BodyText d v b k → max h k ≤ d → implementation d (t ∷ (a ++ (u ++ (v ++ rest)))) ≡ Got (decl.Implementation (record { head = f; body = b })) rest
   unfolding implementation
   implementation_reads t a u v rest f b h k l m q low =
-      let no_operator : class_of (ahead (v ++ rest)) ≡ s.Returns → ⊥ = λ e. let z : s.OpenBrace ≡ s.Returns = sym (body_first rest q) ∙ e in cc in
-      let first : attributes d (a ++ (u ++ (v ++ rest))) ≡ Got tt (u ++ (v ++ rest)) = to_head a u (v ++ rest) f h l m (omega arith) no_operator in
-      let second : head d (u ++ (v ++ rest)) ≡ Got f (v ++ rest) = head_reads d (v ++ rest) no_operator m (omega arith) in
+      let no_returns : class_of (ahead (v ++ rest)) ≡ s.Returns → ⊥ = λ e. let z : s.OpenBrace ≡ s.Returns = sym (body_first rest q) ∙ e in cc in
+      let first : attributes d (a ++ (u ++ (v ++ rest))) ≡ Got tt (u ++ (v ++ rest)) = to_head a u (v ++ rest) f h l m (omega arith) no_returns in
+      let second : head d (u ++ (v ++ rest)) ≡ Got f (v ++ rest) = head_reads d (v ++ rest) no_returns m (omega arith) in
       let third : body d (v ++ rest) ≡ Got b rest = body_reads d rest q (omega arith) in
       rw (first, second, third) refl
 

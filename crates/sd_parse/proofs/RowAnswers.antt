@@ -57,19 +57,13 @@ module _ {A : Type 0} (F V : Tokens → List A → ℕ → Type 0) (d : ℕ) (up
 
 -- ---- items with commas between them
 
-some_comma : Spelled s.Comma
-some_comma = spelled s.Comma (λ e. cc)
-
-some_close : Spelled s.Close
-some_close = spelled s.Close (λ e. cc)
-
 pub next_wide : {A : Type 0} {F V : Tokens → A → Type 0} → ((u : Tokens) (x : A) → F u x → V u x) → (u : Tokens) (x : A) → Next F u x → Next V u x
 next_wide f w x (next {u = u} i a) = next i (f u x a)
 
 module _ {A : Type 0} {F V : Tokens → A → Type 0} {item : Reader A} (rule : Rule F V item) where
   pub next_answers : (ts : Tokens) → is s.Comma (class_of (ahead ts)) ≡ true → Answers (Next F) (Next V) ts (reading.next item ts)
   unfolding reading.next
-  next_answers ts e = into (to_next F) (to_next V) (after s.Comma some_comma ts (same_is (class_of (ahead ts)) s.Comma e) (λ _. rule))
+  next_answers ts e = into (to_next F) (to_next V) (after s.Comma (spelled s.Comma refl) ts (same_is (class_of (ahead ts)) s.Comma e) (λ _. rule))
 
   behind_up : (acc : List A) (u : Tokens) (xs : List A) → Behind (Many (Next F)) acc u xs → Behind (Many (Next V)) acc u xs
   behind_up acc u xs m = record { items = m.items; same = m.same; list = many_up (next_wide rule.up) m.list }
@@ -101,12 +95,12 @@ module _ {A : Type 0} (F V : Tokens → A → ℕ → Type 0) (d : ℕ) (up : (u
     floor : ((ts : Tokens) → Refuses (Low V (wide d)) ts (item ts)) → Item item
 
   none_opened : (H : Tokens → A → ℕ → Type 0) (n : ℕ) → Begins (Opened H n) []
-  none_opened H n = record { more = some_close.token ∷ []; value = []; spelt = opened (to_none H n (some_close.token ∷ []) [] (both (wanted some_close.is) nothing)) }
+  none_opened H n = record { more = (spelled s.Close refl).token ∷ []; value = []; spelt = opened (to_none H n ((spelled s.Close refl).token ∷ []) [] (both (wanted (spelled s.Close refl).is) nothing)) }
 
   one_opened : (t : Token) → Begins (Low V (wide d)) (t ∷ []) → Begins (Opened V (wide d)) (t ∷ [])
   one_opened t b =
       let first : Low (Commas V) (wide d) (t ∷ b.more) (b.value ∷ []) = record { height = b.spelt.height; spelt = w.one b.spelt.spelt; low = b.spelt.low } in
-      record { more = b.more ++ some_close.token ∷ []; value = b.value ∷ []; spelt = opened (to_some V (wide d) (t ∷ (b.more ++ some_close.token ∷ [])) (b.value ∷ []) (both {u = t ∷ b.more} first (both (wanted some_close.is) nothing))) }
+      record { more = b.more ++ (spelled s.Close refl).token ∷ []; value = b.value ∷ []; spelt = opened (to_some V (wide d) (t ∷ (b.more ++ (spelled s.Close refl).token ∷ [])) (b.value ∷ []) (both {u = t ∷ b.more} first (both (wanted (spelled s.Close refl).is) nothing))) }
 
   opened_up : (u : Tokens) (xs : List A) → Opened F d u xs → Opened V (wide d) u xs
   opened_up u xs (opened f) = opened (λ o i. enclosed_up (f o i))
@@ -129,11 +123,11 @@ module _ {A : Type 0} (F V : Tokens → A → ℕ → Type 0) (d : ℕ) (up : (u
   listed_rule {item = item} i = record { least = none_opened F d; up = opened_up; answers = λ ts. by_class ts (class_of (ahead ts)) refl }
     where
       by_item : (ts : Tokens) → Item item → Answers (Opened F d) (Opened V (wide d)) ts (and_then (reading.commas item ts) (λ xs ts. and_then (want s.Close ts) (λ _ ts. Got xs ts)))
-      by_item ts (full rule) = into (λ u xs w. opened (to_some F d u xs w)) (λ u xs w. opened (to_some V (wide d) u xs w)) ((seq (commas_rule rule) (λ ys. seq (want_rule s.Close some_close) (λ _. done ys))).answers ts)
+      by_item ts (full rule) = into (λ u xs w. opened (to_some F d u xs w)) (λ u xs w. opened (to_some V (wide d) u xs w)) ((seq (commas_rule rule) (λ ys. seq (want_rule s.Close (spelled s.Close refl)) (λ _. done ys))).answers ts)
       by_item ts (floor f) = low_listed item (f ts)
 
       by_class : (ts : Tokens) (x : TokenClass) → class_of (ahead ts) ≡ x → Answers (Opened F d) (Opened V (wide d)) ts (listed_by item x ts)
-      by_class ts s.Close e = into (λ u xs w. opened (to_none F d u xs w)) (λ u xs w. opened (to_none V (wide d) u xs w)) (after s.Close some_close ts e (λ _. done []))
+      by_class ts s.Close e = into (λ u xs w. opened (to_none F d u xs w)) (λ u xs w. opened (to_none V (wide d) u xs w)) (after s.Close (spelled s.Close refl) ts e (λ _. done []))
       by_class ts _ e = by_item ts i
 
   enclosed_wide : (u : Tokens) (xs : List A) → Low (Enclosed F) d u xs → Low (Enclosed V) (wide d) u xs
@@ -145,4 +139,4 @@ module _ {A : Type 0} (F V : Tokens → A → ℕ → Type 0) (d : ℕ) (up : (u
 
   pub enclosed_rule : {item : Reader A} → Item item → Rule (Low (Enclosed F) d) (Low (Enclosed V) (wide d)) (enclosed item)
   unfolding enclosed
-  enclosed_rule i = rule_into (to_enclosed F d) (to_enclosed V (wide d)) enclosed_wide (seq (want_rule s.Open (spelled s.Open (λ e. cc))) (λ _. listed_rule i))
+  enclosed_rule i = rule_into (to_enclosed F d) (to_enclosed V (wide d)) enclosed_wide (seq (want_rule s.Open (spelled s.Open refl)) (λ _. listed_rule i))

@@ -1,6 +1,7 @@
 -- Where a star stands as a guard, and that no two tokens stand at one place.
 use Rattle.std.proofs.Common.{◌≡◌, ℕ, suc, ◌+◌, ◌<◌, ◌≤◌, true, false, [], ◌∷◌, ◌++◌, length, length-append, drop, refl, ap, sym, ◌∙◌, subst, arith, append_assoc}
-use Rattle.std.specs.Prelude.{Bool, ◌&&◌}
+use Rattle.std.specs.Prelude.{◌&&◌}
+use Rattle.std.proofs.lemmas.Bool.{and_parts}
 use Rattle.sd_base.specs.declared.Place.{Place}
 use Rattle.sd_lex.specs.Pieces.{Bytes, Cut}
 use Rattle.sd_lex.specs.Tokens as lex
@@ -72,11 +73,6 @@ one_place a b u v t s r q rise e same = go (cuts u v t s r q e)
 
 -- ---- the three tokens of a star
 
-both_true : (a b : Bool) → a && b ≡ true → (a ≡ true) × (b ≡ true)
-both_true true true e = (refl, refl)
-both_true true false e = absurd (cc)
-both_true false b e = absurd (cc)
-
 -- the last two tokens
 last_two : (x y : Token) (u : Tokens) → (v : Tokens) × (w : Token) × (o : Token) × (x ∷ y ∷ u ≡ v ++ (w ∷ o ∷ [])) × (length v ≡ length u)
 last_two x y [] = ([], x, y, refl, refl)
@@ -89,8 +85,8 @@ drop_before (x ∷ v) z = drop_before v z
 from_guarded : (ts v : Tokens) (w o : Token) (end : Place) (rest : Tokens) → ts ≡ v ++ (w ∷ o ∷ rest) → guarded (w ∷ o ∷ rest) ≡ true → IsStar ts (place_of end rest)
 from_guarded ts v w o end [] split e = absurd (cc)
 from_guarded ts v w o end (t ∷ r) split e =
-    let outer = both_true (guards (class w) && same_class (class o) s.Open) (same_class (class t) s.Star) e in
-    let inner = both_true (guards (class w)) (same_class (class o) s.Open) outer.0 in
+    let outer = and_parts (guards (class w) && same_class (class o) s.Open) (same_class (class t) s.Star) e in
+    let inner = and_parts (guards (class w)) (same_class (class o) s.Open) outer.0 in
     star v w o t r split inner.0 (same_is (class o) s.Open inner.1) (same_is (class t) s.Star outer.1)
 
 -- where the test says yes
@@ -111,21 +107,25 @@ sees_star ts v w o t r split g i j =
     let here : drop (length v) ts ≡ w ∷ o ∷ t ∷ r = ap (drop (length v)) split ∙ drop_before v (w ∷ o ∷ t ∷ r) in
     ap guarded here ∙ rw (g, same_classes (class o) s.Open i, same_classes (class t) s.Star j) refl
 
--- where the test says no
-pub star_no : (ts u : Tokens) (end : Place) (rest : Tokens) → ts ≡ u ++ rest → Rising 0 ts end.byte → star_at ts (length u) ≡ false → IsStar ts (place_of end rest) → ⊥
-star_no ts u end rest split rise e h = by_rest rest split h
+-- no star stands at the end
+pub none_at_end : (ts : Tokens) (end : Place) → Rising 0 ts end.byte → IsStar ts end → ⊥
+none_at_end ts end rise h = by_place end refl h
   where
-    by_place : (rest : Tokens) (p : Place) → ts ≡ u ++ rest → p ≡ place_of end rest → IsStar ts p → ⊥
-    by_place [] p split f (star v w o t r whole g i j) =
+    by_place : (p : Place) → p ≡ end → IsStar ts p → ⊥
+    by_place p f (star v w o t r whole g i j) =
         let beyond = rises_end (suc t.at.byte) end.byte r (rises_after 0 end.byte (v ++ (w ∷ o ∷ [])) t r (subst (λ z. Rising 0 z end.byte) (whole ∙ sym (append_assoc v (w ∷ o ∷ []) (t ∷ r))) rise)) in
         let byte : t.at.byte ≡ end.byte = ap (λ p. p.byte) f in
         omega arith
-    by_place (x ∷ q) p split f (star v w o t r whole g i j) =
+
+-- where the test says no
+pub star_no : (ts u : Tokens) (end : Place) (rest : Tokens) → ts ≡ u ++ rest → Rising 0 ts end.byte → star_at ts (length u) ≡ false → IsStar ts (place_of end rest) → ⊥
+star_no ts u end [] split rise e h = none_at_end ts end rise h
+star_no ts u end (x ∷ q) split rise e h = by_place x.at refl h
+  where
+    by_place : (p : Place) → p ≡ x.at → IsStar ts p → ⊥
+    by_place p f (star v w o t r whole g i j) =
         let cut : u ++ x ∷ q ≡ (v ++ (w ∷ o ∷ [])) ++ t ∷ r = sym split ∙ whole ∙ sym (append_assoc v (w ∷ o ∷ []) (t ∷ r)) in
         let same : u ≡ v ++ (w ∷ o ∷ []) = one_place 0 end.byte u (v ++ (w ∷ o ∷ [])) x t q r (subst (λ z. Rising 0 z end.byte) split rise) cut (sym f) in
         let size : length u ≡ suc (suc (length v)) = let y = ap length same in let z = length-append v (w ∷ o ∷ []) in omega arith in
         let yes : star_at ts (length u) ≡ true = ap (star_at ts) size ∙ sees_star ts v w o t r whole g i j in
         let z : true ≡ false = sym yes ∙ e in cc
-
-    by_rest : (rest : Tokens) → ts ≡ u ++ rest → IsStar ts (place_of end rest) → ⊥
-    by_rest rest split h = by_place rest (place_of end rest) split refl h

@@ -40,33 +40,12 @@ use Rattle.sd_parse.proofs.StatementTexts.{low_statements, some_tokens, if_state
 pub lift_low : {A : Type 0} {F V : Tokens → A → ℕ → Type 0} → ((u : Tokens) (x : A) (h : ℕ) → F u x h → V u x h) → (d : ℕ) (u : Tokens) (x : A) → Low F d u x → Low V (wide d) u x
 lift_low f d u x w = record { height = w.height; spelt = f u x w.height w.spelt; low = let z = w.low in omega arith }
 
-some_semi : Spelled s.Semi
-some_semi = spelled s.Semi (λ e. cc)
-
-some_open : Spelled s.Open
-some_open = spelled s.Open (λ e. cc)
-
-some_close : Spelled s.Close
-some_close = spelled s.Close (λ e. cc)
-
-some_begin : Spelled s.OpenBrace
-some_begin = spelled s.OpenBrace (λ e. cc)
-
-some_end : Spelled s.CloseBrace
-some_end = spelled s.CloseBrace (λ e. cc)
-
-some_becomes : Spelled s.Becomes
-some_becomes = spelled s.Becomes (λ e. cc)
-
-some_return : Spelled s.Return
-some_return = spelled s.Return (λ e. cc)
-
 -- ---- the parts of a statement
 
 module _ (d : ℕ) (pos : 1 ≤ d) where
   index_answers : (ts : Tokens) → is s.OpenBracket (class_of (ahead ts)) ≡ true → Answers (Low Index d) (Low Index (wide d)) ts (index d ts)
   unfolding index
-  index_answers ts e = into (to_index d) (to_index (wide d)) (after s.OpenBracket (spelled s.OpenBracket (λ e. cc)) ts (same_is (class_of (ahead ts)) s.OpenBracket e) (λ _. seq (expression_rule d pos) (λ e. seq (want_rule s.CloseBracket (spelled s.CloseBracket (λ e. cc))) (λ _. done e))))
+  index_answers ts e = into (to_index d) (to_index (wide d)) (after s.OpenBracket (spelled s.OpenBracket refl) ts (same_is (class_of (ahead ts)) s.OpenBracket e) (λ _. seq (expression_rule d pos) (λ e. seq (want_rule s.CloseBracket (spelled s.CloseBracket refl)) (λ _. done e))))
 
   indices_rule : Rule (Low (Row Index) d) (Low (Row Index) (wide d)) (indices d)
   unfolding indices
@@ -101,7 +80,7 @@ module _ (d : ℕ) where
   guard_up word u x (guarded i j w k) = guarded i j (low_wide Expression d _ _ w) k
 
   call_begins : (p : Place) (x : Text) → Begins (CallFrom d p x) []
-  call_begins p x = record { more = some_open.token ∷ some_close.token ∷ some_semi.token ∷ []; value = stated p (Call [] x []); spelt = direct {u = some_open.token ∷ some_close.token ∷ []} (record { height = 0; spelt = w.none some_open.is some_close.is; low = omega arith }) some_semi.is }
+  call_begins p x = record { more = (spelled s.Open refl).token ∷ (spelled s.Close refl).token ∷ (spelled s.Semi refl).token ∷ []; value = stated p (Call [] x []); spelt = direct {u = (spelled s.Open refl).token ∷ (spelled s.Close refl).token ∷ []} (record { height = 0; spelt = w.none (spelled s.Open refl).is (spelled s.Close refl).is; low = omega arith }) (spelled s.Semi refl).is }
 
 -- ---- invariants
 
@@ -111,7 +90,7 @@ module _ (limit d : ℕ) (lim : 1 ≤ limit) (pos : 1 ≤ d) where
 
   stated_rule : (f : Bool) → Rule (StatedInvariant limit d f) (StatedInvariant (wide limit) (wide d) f) (stated_invariant limit d f)
   unfolding stated_invariant
-  stated_rule f = rule_into (to_stated limit d f) (to_stated (wide limit) (wide d) f) (stated_up f) (seq (claim_rule limit d s.Invariant lim pos (spelled s.Invariant (λ e. cc))) (λ k. done (record { free = f; expr = k.1 })))
+  stated_rule f = rule_into (to_stated limit d f) (to_stated (wide limit) (wide d) f) (stated_up f) (seq (claim_rule limit d s.Invariant lim pos (spelled s.Invariant refl)) (λ k. done (record { free = f; expr = k.1 })))
 
   invariant_rule : Rule (Low (InvariantLine limit) d) (Low (InvariantLine (wide limit)) (wide d)) (loop_invariant limit d)
   unfolding loop_invariant
@@ -122,7 +101,7 @@ module _ (limit d : ℕ) (lim : 1 ≤ limit) (pos : 1 ≤ d) where
   }
     where
       by_class : (ts : Tokens) (x : TokenClass) → class_of (ahead ts) ≡ x → Answers (Low (InvariantLine limit) d) (Low (InvariantLine (wide limit)) (wide d)) ts (invariant_by limit d x ts)
-      by_class ts s.Free e = into (to_free limit d) (to_free (wide limit) (wide d)) (after s.Free (spelled s.Free (λ e. cc)) ts e (λ _. stated_rule true))
+      by_class ts s.Free e = into (to_free limit d) (to_free (wide limit) (wide d)) (after s.Free (spelled s.Free refl) ts e (λ _. stated_rule true))
       by_class ts _ e = into (to_checked limit d) (to_checked (wide limit) (wide d)) ((stated_rule false).answers ts)
 
   invariants_rule : Rule (Low (Row (InvariantLine limit)) d) (Low (Row (InvariantLine (wide limit))) (wide d)) (invariants limit d)
@@ -132,7 +111,7 @@ module _ (limit d : ℕ) (lim : 1 ≤ limit) (pos : 1 ≤ d) where
 -- ---- statements
 
 pub statement_begins : (limit d : ℕ) → 1 ≤ d → Begins (Low (Statement limit) d) []
-statement_begins limit d pos = record { more = some_return.token ∷ some_semi.token ∷ []; value = stated some_return.token.at Return; spelt = record { height = 1; spelt = st.returned some_return.is some_semi.is; low = pos } }
+statement_begins limit d pos = record { more = (spelled s.Return refl).token ∷ (spelled s.Semi refl).token ∷ []; value = stated (spelled s.Return refl).token.at Return; spelt = record { height = 1; spelt = st.returned (spelled s.Return refl).is (spelled s.Semi refl).is; low = pos } }
 
 pub statement_wide : (limit d : ℕ) (u : Tokens) (x : Stmt) → Low (Statement limit) d u x → Low (Statement (wide limit)) (wide d) u x
 statement_wide limit d u x w = lift_low (λ u x h y. statement_more (omega arith) y) d u x w
@@ -142,7 +121,7 @@ as_branch : (limit d : ℕ) (i : Token) (u : Tokens) → class_of (ahead (i ∷ 
 as_branch limit d i u e b = record { more = b.more; value = b.value ∷ []; spelt = of_if (if_statement (record { same = e }) b.spelt) }
 
 block_begins : (limit d : ℕ) → Begins (Low (Block limit) d) []
-block_begins limit d = record { more = some_begin.token ∷ some_end.token ∷ []; value = []; spelt = record { height = 0; spelt = st.braces some_begin.is st.none some_end.is; low = omega arith } }
+block_begins limit d = record { more = (spelled s.OpenBrace refl).token ∷ (spelled s.CloseBrace refl).token ∷ []; value = []; spelt = record { height = 0; spelt = st.braces (spelled s.OpenBrace refl).is st.none (spelled s.CloseBrace refl).is; low = omega arith } }
 
 branch_begins : (limit d : ℕ) → Begins (Branch limit d) []
 branch_begins limit d = begins_map (Low (Block limit) d) (Branch limit d) (λ x. x) [] (λ u x w. of_block w) (block_begins limit d)
@@ -177,15 +156,15 @@ module _ (limit d : ℕ) (lim : 1 ≤ limit) (inner : Reader Stmt) (law : 1 ≤ 
 
   asserted_answers : (ts : Tokens) → class_of (ahead ts) ≡ s.Assert → Here ts (asserted limit d inner ts)
   unfolding asserted
-  asserted_answers ts e = deeper_answers s.Assert (spelled s.Assert (λ e. cc)) d (λ ts. and_then (claim limit d s.Assert ts) (λ k ts. Got (stated k.0 (Assert k.1)) ts)) ts e least
+  asserted_answers ts e = deeper_answers s.Assert (spelled s.Assert refl) d (λ ts. and_then (claim limit d s.Assert ts) (λ k ts. Got (stated k.0 (Assert k.1)) ts)) ts e least
       (λ t i. begins_map (Low (Claim (wide limit) s.Assert) (suc (suc d))) (Low (Statement (wide limit)) (wide (suc d))) (λ k. stated k.0 (Assert k.1)) (t ∷ []) (λ u k w. record { height = suc w.height; spelt = st.asserted w.spelt; low = let z = w.low in omega arith }) (claim_begins (wide limit) (suc (suc d)) s.Assert (omega arith) t i))
-      (λ pos. into (to_asserted limit d) (to_asserted (wide limit) (wide d)) ((seq (claim_rule limit d s.Assert lim pos (spelled s.Assert (λ e. cc))) (λ k. done (stated k.0 (Assert k.1)))).answers ts))
+      (λ pos. into (to_asserted limit d) (to_asserted (wide limit) (wide d)) ((seq (claim_rule limit d s.Assert lim pos (spelled s.Assert refl)) (λ k. done (stated k.0 (Assert k.1)))).answers ts))
 
   assumed_answers : (ts : Tokens) → class_of (ahead ts) ≡ s.Assume → Here ts (assumed limit d inner ts)
   unfolding assumed
-  assumed_answers ts e = deeper_answers s.Assume (spelled s.Assume (λ e. cc)) d (λ ts. and_then (claim limit d s.Assume ts) (λ k ts. Got (stated k.0 (Assume k.1)) ts)) ts e least
+  assumed_answers ts e = deeper_answers s.Assume (spelled s.Assume refl) d (λ ts. and_then (claim limit d s.Assume ts) (λ k ts. Got (stated k.0 (Assume k.1)) ts)) ts e least
       (λ t i. begins_map (Low (Claim (wide limit) s.Assume) (suc (suc d))) (Low (Statement (wide limit)) (wide (suc d))) (λ k. stated k.0 (Assume k.1)) (t ∷ []) (λ u k w. record { height = suc w.height; spelt = st.assumed w.spelt; low = let z = w.low in omega arith }) (claim_begins (wide limit) (suc (suc d)) s.Assume (omega arith) t i))
-      (λ pos. into (to_assumed limit d) (to_assumed (wide limit) (wide d)) ((seq (claim_rule limit d s.Assume lim pos (spelled s.Assume (λ e. cc))) (λ k. done (stated k.0 (Assume k.1)))).answers ts))
+      (λ pos. into (to_assumed limit d) (to_assumed (wide limit) (wide d)) ((seq (claim_rule limit d s.Assume lim pos (spelled s.Assume refl)) (λ k. done (stated k.0 (Assume k.1)))).answers ts))
 
   assigned_begins : (t : Token) → Is s.Name t → Begins (Low (Statement (wide limit)) (wide (suc d))) (t ∷ [])
   assigned_begins t i =
@@ -193,27 +172,27 @@ module _ (limit d : ℕ) (lim : 1 ≤ limit) (inner : Reader Stmt) (law : 1 ≤ 
       let truth : Expr = placed filler.at (Truth true) in
       let l : Left = record { name = y.0; indices = [] } in
       let left_text : LeftSide (t ∷ []) l 0 = st.left y.1 w.none in
-      record { more = some_becomes.token ∷ filler ∷ some_semi.token ∷ []; value = stated t.at (Assign (l ∷ []) (truth ∷ [])); spelt = record { height = 2; spelt = st.assigned (w.one left_text) some_becomes.is (w.one (c.whole (filled Whole))) some_semi.is; low = omega arith } }
+      record { more = (spelled s.Becomes refl).token ∷ filler ∷ (spelled s.Semi refl).token ∷ []; value = stated t.at (Assign (l ∷ []) (truth ∷ [])); spelt = record { height = 2; spelt = st.assigned (w.one left_text) (spelled s.Becomes refl).is (w.one (c.whole (filled Whole))) (spelled s.Semi refl).is; low = omega arith } }
 
   assigned_answers : (ts : Tokens) → class_of (ahead ts) ≡ s.Name → Here ts (assigned limit d inner ts)
   unfolding assigned
-  assigned_answers ts e = deeper_answers s.Name (spelled s.Name (λ e. cc)) d
+  assigned_answers ts e = deeper_answers s.Name (spelled s.Name refl) d
       (λ ts. and_then (left d ts) (λ l ts. and_then (reading.more (plain_left d) (l.0 ∷ []) ts) (λ ls ts. and_then (want s.Becomes ts) (λ _ ts. and_then (reading.commas (expression d) ts) (λ es ts. and_then (want s.Semi ts) (λ _ ts. Got (stated l.1 (Assign ls es)) ts)))))) ts e least assigned_begins
-      (λ pos. into (to_assigned limit d) (to_assigned (wide limit) (wide d)) ((seq (left_rule d pos) (λ l. seq (more_rule (plain_rule d pos) (l.0 ∷ [])) (λ ls. seq (want_rule s.Becomes some_becomes) (λ _. seq (values_rule d pos) (λ es. seq (want_rule s.Semi some_semi) (λ _. done (stated l.1 (Assign ls es)))))))).answers ts))
+      (λ pos. into (to_assigned limit d) (to_assigned (wide limit) (wide d)) ((seq (left_rule d pos) (λ l. seq (more_rule (plain_rule d pos) (l.0 ∷ [])) (λ ls. seq (want_rule s.Becomes (spelled s.Becomes refl)) (λ _. seq (values_rule d pos) (λ es. seq (want_rule s.Semi (spelled s.Semi refl)) (λ _. done (stated l.1 (Assign ls es)))))))).answers ts))
 
   -- ---- calls
 
   applied_rule : (p : Place) (xs : List Text) → Rule (Applied d p xs) (Applied (wide d) p xs) (applied limit d inner p xs)
   unfolding applied
-  applied_rule p xs = rule_into (to_applied limit d p xs) (to_applied (wide limit) (wide d) p xs) (applied_up d p xs) (seq name_rule (λ f. seq (arguments_rule d) (λ es. seq (want_rule s.Semi some_semi) (λ _. done (stated p (Call xs f.0 es))))))
+  applied_rule p xs = rule_into (to_applied limit d p xs) (to_applied (wide limit) (wide d) p xs) (applied_up d p xs) (seq name_rule (λ f. seq (arguments_rule d) (λ es. seq (want_rule s.Semi (spelled s.Semi refl)) (λ _. done (stated p (Call xs f.0 es))))))
 
   received_answers : (p : Place) (x : Text) (ts : Tokens) → Answers (CallFrom d p x) (CallFrom (wide d) p x) ts (received limit d inner p x ts)
   unfolding received
-  received_answers p x ts = into (to_received limit d p x) (to_received (wide limit) (wide d) p x) ((seq (more_names_rule (x ∷ [])) (λ ys. seq (want_rule s.Becomes some_becomes) (λ _. applied_rule p ys))).answers ts)
+  received_answers p x ts = into (to_received limit d p x) (to_received (wide limit) (wide d) p x) ((seq (more_names_rule (x ∷ [])) (λ ys. seq (want_rule s.Becomes (spelled s.Becomes refl)) (λ _. applied_rule p ys))).answers ts)
 
   direct_answers : (p : Place) (x : Text) (ts : Tokens) → Answers (CallFrom d p x) (CallFrom (wide d) p x) ts (applied_to limit d inner p x ts)
   unfolding applied_to
-  direct_answers p x ts = into (to_direct limit d p x) (to_direct (wide limit) (wide d) p x) ((seq (arguments_rule d) (λ es. seq (want_rule s.Semi some_semi) (λ _. done (stated p (Call [] x es))))).answers ts)
+  direct_answers p x ts = into (to_direct limit d p x) (to_direct (wide limit) (wide d) p x) ((seq (arguments_rule d) (λ es. seq (want_rule s.Semi (spelled s.Semi refl)) (λ _. done (stated p (Call [] x es))))).answers ts)
 
   call_from_rule : (p : Place) (x : Text) → Rule (CallFrom d p x) (CallFrom (wide d) p x) (call_from limit d inner p x)
   unfolding call_from
@@ -226,7 +205,7 @@ module _ (limit d : ℕ) (lim : 1 ≤ limit) (inner : Reader Stmt) (law : 1 ≤ 
 
   called_answers : (ts : Tokens) → class_of (ahead ts) ≡ s.Call → Here ts (called limit d inner ts)
   unfolding called
-  called_answers ts e = into (to_called limit d) (to_called (wide limit) (wide d)) (after s.Call (spelled s.Call (λ e. cc)) ts e (λ p. seq (attributes_rule limit lim) (λ _. seq name_rule (λ y. call_from_rule p y.0))))
+  called_answers ts e = into (to_called limit d) (to_called (wide limit) (wide d)) (after s.Call (spelled s.Call refl) ts e (λ p. seq (attributes_rule limit lim) (λ _. seq name_rule (λ y. call_from_rule p y.0))))
 
   -- ---- blocks
 
@@ -240,7 +219,7 @@ module _ (limit d : ℕ) (lim : 1 ≤ limit) (inner : Reader Stmt) (law : 1 ≤ 
 
   block_rule : 1 ≤ d → Rule (Low (Block limit) d) (Low (Block (wide limit)) (wide d)) (block limit d inner)
   unfolding block
-  block_rule pos = rule_into (to_block limit d) (to_block (wide limit) (wide d)) (lift_low (λ u x h y. block_more (omega arith) y) d) (seq (want_rule s.OpenBrace some_begin) (λ _. seq (statements_rule pos) (λ ys. seq (want_rule s.CloseBrace some_end) (λ _. done ys))))
+  block_rule pos = rule_into (to_block limit d) (to_block (wide limit) (wide d)) (lift_low (λ u x h y. block_more (omega arith) y) d) (seq (want_rule s.OpenBrace (spelled s.OpenBrace refl)) (λ _. seq (statements_rule pos) (λ ys. seq (want_rule s.CloseBrace (spelled s.CloseBrace refl)) (λ _. done ys))))
 
   branch_up : (u : Tokens) (xs : List Stmt) → Branch limit d u xs → Branch (wide limit) (wide d) u xs
   branch_up u xs (of_block w) = of_block (lift_low (λ u x h y. block_more (omega arith) y) d _ _ w)
@@ -259,50 +238,50 @@ module _ (limit d : ℕ) (lim : 1 ≤ limit) (inner : Reader Stmt) (law : 1 ≤ 
   otherwise_rule pos = record { least = record { more = []; value = []; spelt = record { height = 0; spelt = st.nothing; low = omega arith } }; up = lift_low (λ u x h y. otherwise_more (omega arith) y) d; answers = λ ts. by_class ts (class_of (ahead ts)) refl }
     where
       by_class : (ts : Tokens) (x : TokenClass) → class_of (ahead ts) ≡ x → Answers (Low (Otherwise limit) d) (Low (Otherwise (wide limit)) (wide d)) ts (otherwise_by limit d inner x ts)
-      by_class ts s.Else e = into (to_otherwise limit d) (to_otherwise (wide limit) (wide d)) (after s.Else (spelled s.Else (λ e. cc)) ts e (λ _. branch_rule pos))
+      by_class ts s.Else e = into (to_otherwise limit d) (to_otherwise (wide limit) (wide d)) (after s.Else (spelled s.Else refl) ts e (λ _. branch_rule pos))
       by_class ts _ e = record { fact = ([], refl, record { height = 0; spelt = st.nothing; low = omega arith }) }
 
   guard_answers : (word : TokenClass) → Spelled word → 1 ≤ d → (ts : Tokens) → class_of (ahead ts) ≡ word → Answers (Guarded d word) (Guarded (wide d) word) ts (guard limit d inner ts)
   unfolding guard
-  guard_answers word some pos ts e = into (to_guard d word) (to_guard (wide d) word) (after word some ts e (λ p. seq (want_rule s.Open some_open) (λ _. seq (expression_rule d pos) (λ e. seq (want_rule s.Close some_close) (λ _. done (p, e))))))
+  guard_answers word some pos ts e = into (to_guard d word) (to_guard (wide d) word) (after word some ts e (λ p. seq (want_rule s.Open (spelled s.Open refl)) (λ _. seq (expression_rule d pos) (λ e. seq (want_rule s.Close (spelled s.Close refl)) (λ _. done (p, e))))))
 
   conditional_begins : (t : Token) → Is s.If t → Begins (Low (Statement (wide limit)) (wide (suc d))) (t ∷ [])
   conditional_begins t i =
       let truth : Expr = placed filler.at (Truth true) in
       record {
-        more = some_open.token ∷ filler ∷ some_close.token ∷ some_begin.token ∷ some_end.token ∷ [];
+        more = (spelled s.Open refl).token ∷ filler ∷ (spelled s.Close refl).token ∷ (spelled s.OpenBrace refl).token ∷ (spelled s.CloseBrace refl).token ∷ [];
         value = stated t.at (If truth [] []);
-        spelt = record { height = 2; spelt = st.conditional i some_open.is (c.whole (filled Whole)) some_close.is (st.braces some_begin.is st.none some_end.is) st.nothing; low = omega arith };
+        spelt = record { height = 2; spelt = st.conditional i (spelled s.Open refl).is (c.whole (filled Whole)) (spelled s.Close refl).is (st.braces (spelled s.OpenBrace refl).is st.none (spelled s.CloseBrace refl).is) st.nothing; low = omega arith };
       }
 
   conditional_answers : (ts : Tokens) → class_of (ahead ts) ≡ s.If → Here ts (conditional limit d inner ts)
   unfolding conditional
-  conditional_answers ts e = deeper_answers s.If (spelled s.If (λ e. cc)) d
+  conditional_answers ts e = deeper_answers s.If (spelled s.If refl) d
       (λ ts. and_then (guard limit d inner ts) (λ g ts. and_then (block limit d inner ts) (λ a ts. and_then (otherwise limit d inner ts) (λ b ts. Got (stated g.0 (If g.1 a b)) ts)))) ts e least conditional_begins
-      (λ pos. into (to_conditional limit d) (to_conditional (wide limit) (wide d)) (seq_at (guard_up d s.If) (guard_answers s.If (spelled s.If (λ e. cc)) pos ts e) (λ g. seq (block_rule pos) (λ a. seq (otherwise_rule pos) (λ b. done (stated g.0 (If g.1 a b)))))))
+      (λ pos. into (to_conditional limit d) (to_conditional (wide limit) (wide d)) (seq_at (guard_up d s.If) (guard_answers s.If (spelled s.If refl) pos ts e) (λ g. seq (block_rule pos) (λ a. seq (otherwise_rule pos) (λ b. done (stated g.0 (If g.1 a b)))))))
 
   loop_begins : (t : Token) → Is s.While t → Begins (Low (Statement (wide limit)) (wide (suc d))) (t ∷ [])
   loop_begins t i =
       let truth : Expr = placed filler.at (Truth true) in
       record {
-        more = some_open.token ∷ filler ∷ some_close.token ∷ some_begin.token ∷ some_end.token ∷ [];
+        more = (spelled s.Open refl).token ∷ filler ∷ (spelled s.Close refl).token ∷ (spelled s.OpenBrace refl).token ∷ (spelled s.CloseBrace refl).token ∷ [];
         value = stated t.at (While truth [] []);
-        spelt = record { height = 2; spelt = st.loop i some_open.is (c.whole (filled Whole)) some_close.is w.none (st.braces some_begin.is st.none some_end.is); low = omega arith };
+        spelt = record { height = 2; spelt = st.loop i (spelled s.Open refl).is (c.whole (filled Whole)) (spelled s.Close refl).is w.none (st.braces (spelled s.OpenBrace refl).is st.none (spelled s.CloseBrace refl).is); low = omega arith };
       }
 
   loop_answers : (ts : Tokens) → class_of (ahead ts) ≡ s.While → Here ts (looped limit d inner ts)
   unfolding looped
-  loop_answers ts e = deeper_answers s.While (spelled s.While (λ e. cc)) d
+  loop_answers ts e = deeper_answers s.While (spelled s.While refl) d
       (λ ts. and_then (guard limit d inner ts) (λ g ts. and_then (invariants limit d ts) (λ a ts. and_then (block limit d inner ts) (λ b ts. Got (stated g.0 (While g.1 a b)) ts)))) ts e least loop_begins
-      (λ pos. into (to_loop limit d) (to_loop (wide limit) (wide d)) (seq_at (guard_up d s.While) (guard_answers s.While (spelled s.While (λ e. cc)) pos ts e) (λ g. seq (invariants_rule limit d lim pos) (λ a. seq (block_rule pos) (λ b. done (stated g.0 (While g.1 a b)))))))
+      (λ pos. into (to_loop limit d) (to_loop (wide limit) (wide d)) (seq_at (guard_up d s.While) (guard_answers s.While (spelled s.While refl) pos ts e) (λ g. seq (invariants_rule limit d lim pos) (λ a. seq (block_rule pos) (λ b. done (stated g.0 (While g.1 a b)))))))
 
   broken_answers : (ts : Tokens) → class_of (ahead ts) ≡ s.Break → Here ts (broken limit d inner ts)
   unfolding broken
-  broken_answers ts e = into (to_broken limit d) (to_broken (wide limit) (wide d)) (after s.Break (spelled s.Break (λ e. cc)) ts e (λ p. seq (want_rule s.Semi some_semi) (λ _. done (stated p Break))))
+  broken_answers ts e = into (to_broken limit d) (to_broken (wide limit) (wide d)) (after s.Break (spelled s.Break refl) ts e (λ p. seq (want_rule s.Semi (spelled s.Semi refl)) (λ _. done (stated p Break))))
 
   returned_answers : (ts : Tokens) → class_of (ahead ts) ≡ s.Return → Here ts (returned limit d inner ts)
   unfolding returned
-  returned_answers ts e = into (to_returned limit d) (to_returned (wide limit) (wide d)) (after s.Return some_return ts e (λ p. seq (want_rule s.Semi some_semi) (λ _. done (stated p Return))))
+  returned_answers ts e = into (to_returned limit d) (to_returned (wide limit) (wide d)) (after s.Return (spelled s.Return refl) ts e (λ p. seq (want_rule s.Semi (spelled s.Semi refl)) (λ _. done (stated p Return))))
 
   layer_answers : (ts : Tokens) → Here ts (statement_layer limit d inner ts)
   unfolding statement_layer

@@ -36,12 +36,7 @@ low_statements limit d (more f m) = let w = low_statements limit d m in record {
 pub some_tokens : {limit : ℕ} {u : Tokens} {x : Stmt} {h : ℕ} → Statement limit u x h → 0 < length u
 some_tokens (st.asserted f) = claim_some f
 some_tokens (st.assumed f) = claim_some f
-some_tokens (st.assigned l i q k) = omega arith
-some_tokens (st.called i a r n q j) = omega arith
-some_tokens (st.conditional i j q k b o) = omega arith
-some_tokens (st.loop i j q k b o) = omega arith
-some_tokens (st.broken i j) = omega arith
-some_tokens (st.returned i j) = omega arith
+some_tokens _ = omega arith
 
 -- a statement that begins with `if`
 pub data IfStatement (limit d : ℕ) : Tokens → Stmt → Type 0 where

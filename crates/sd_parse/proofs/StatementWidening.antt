@@ -57,10 +57,7 @@ widen_type_by d up _ = search widening
 
 no_type : (d : ℕ) (inner : Reader Sort) (x : TokenClass) (ts : Tokens) → begins_type x ≡ false → type_by d inner x ts ≡ Bad Syntax ts
 no_type d inner s.Int ts e = absurd (cc)
-no_type d inner s.Bool ts e = absurd (cc)
-no_type d inner s.Name ts e = absurd (cc)
-no_type d inner s.OpenBracket ts e = absurd (cc)
-no_type d inner _ ts e = refl
+no_type d inner _ ts e = cc
 
 pub widen_type_of : (d : ℕ) → Widens (type_of d) (type_of (suc d))
 unfolding type_of type_layer
@@ -198,14 +195,7 @@ module _ (limit d : ℕ) {inner wider : Reader Stmt} (up : Item inner wider) whe
 
 no_statement : (limit d : ℕ) (inner : Reader Stmt) (x : TokenClass) (ts : Tokens) → begins_statement x ≡ false → statement_by limit d inner x ts ≡ Bad Syntax ts
 no_statement limit d inner s.Assert ts e = absurd (cc)
-no_statement limit d inner s.Assume ts e = absurd (cc)
-no_statement limit d inner s.Name ts e = absurd (cc)
-no_statement limit d inner s.Call ts e = absurd (cc)
-no_statement limit d inner s.If ts e = absurd (cc)
-no_statement limit d inner s.While ts e = absurd (cc)
-no_statement limit d inner s.Break ts e = absurd (cc)
-no_statement limit d inner s.Return ts e = absurd (cc)
-no_statement limit d inner _ ts e = refl
+no_statement limit d inner _ ts e = cc
 
 pub statement_item : (limit d : ℕ) → Item (statement limit d) (statement (suc limit) (suc d))
 unfolding statement statement_layer

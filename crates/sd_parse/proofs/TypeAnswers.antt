@@ -16,32 +16,26 @@ use Rattle.sd_parse.proofs.Rows.{Low}
 use Rattle.sd_parse.proofs.RowAnswers.{low_wide}
 use Rattle.sd_parse.proofs.TypeLaws.{to_int, to_bool, to_named, to_map}
 
-some_int : Spelled s.Int
-some_int = spelled s.Int (λ e. cc)
-
-some_bracket : Spelled s.CloseBracket
-some_bracket = spelled s.CloseBracket (λ e. cc)
-
 begins_type_text : (d : ℕ) → 1 ≤ d → Begins (Low TypeText d) []
-begins_type_text d pos = record { more = some_int.token ∷ []; value = sort.Int; spelt = record { height = 1; spelt = ty.int some_int.is; low = pos } }
+begins_type_text d pos = record { more = (spelled s.Int refl).token ∷ []; value = sort.Int; spelt = record { height = 1; spelt = ty.int (spelled s.Int refl).is; low = pos } }
 
 module _ (d : ℕ) (inner : Reader Sort) (law : 1 ≤ d → Rule (Low TypeText d) (Low TypeText (wide d)) inner) where
   map_begins : (t : Token) → Is s.OpenBracket t → Begins (Low TypeText (wide (suc d))) (t ∷ [])
-  map_begins t i = record { more = some_int.token ∷ some_bracket.token ∷ some_int.token ∷ []; value = sort.Map sort.Int sort.Int; spelt = record { height = 2; spelt = ty.map i (ty.int some_int.is) some_bracket.is (ty.int some_int.is); low = omega arith } }
+  map_begins t i = record { more = (spelled s.Int refl).token ∷ (spelled s.CloseBracket refl).token ∷ (spelled s.Int refl).token ∷ []; value = sort.Map sort.Int sort.Int; spelt = record { height = 2; spelt = ty.map i (ty.int (spelled s.Int refl).is) (spelled s.CloseBracket refl).is (ty.int (spelled s.Int refl).is); low = omega arith } }
 
   map_answers : (ts : Tokens) → class_of (ahead ts) ≡ s.OpenBracket → Answers (Low TypeText (suc d)) (Low TypeText (wide (suc d))) ts (map_type d inner ts)
   unfolding map_type
-  map_answers ts e = deeper_answers s.OpenBracket (spelled s.OpenBracket (λ e. cc)) d (λ ts. and_then (skip ts) (λ _ ts. and_then (inner ts) (λ a ts. and_then (want s.CloseBracket ts) (λ _ ts. and_then (inner ts) (λ b ts. Got (sort.Map a b) ts))))) ts e
+  map_answers ts e = deeper_answers s.OpenBracket (spelled s.OpenBracket refl) d (λ ts. and_then (skip ts) (λ _ ts. and_then (inner ts) (λ a ts. and_then (want s.CloseBracket ts) (λ _ ts. and_then (inner ts) (λ b ts. Got (sort.Map a b) ts))))) ts e
       (begins_type_text (suc d) (omega arith)) map_begins
-      (λ pos. into (to_map d) (to_map (wide d)) (after s.OpenBracket (spelled s.OpenBracket (λ e. cc)) ts e (λ _. seq (law pos) (λ a. seq (want_rule s.CloseBracket some_bracket) (λ _. seq (law pos) (λ b. done (sort.Map a b)))))))
+      (λ pos. into (to_map d) (to_map (wide d)) (after s.OpenBracket (spelled s.OpenBracket refl) ts e (λ _. seq (law pos) (λ a. seq (want_rule s.CloseBracket (spelled s.CloseBracket refl)) (λ _. seq (law pos) (λ b. done (sort.Map a b)))))))
 
   layer_answers : (ts : Tokens) → Answers (Low TypeText (suc d)) (Low TypeText (wide (suc d))) ts (type_layer d inner ts)
   unfolding type_layer
   layer_answers ts = by_class (class_of (ahead ts)) refl
     where
       by_class : (x : TokenClass) → class_of (ahead ts) ≡ x → Answers (Low TypeText (suc d)) (Low TypeText (wide (suc d))) ts (type_by d inner x ts)
-      by_class s.Int e = into (to_int d) (to_int (wide d)) (after s.Int some_int ts e (λ _. done sort.Int))
-      by_class s.Bool e = into (to_bool d) (to_bool (wide d)) (after s.Bool (spelled s.Bool (λ e. cc)) ts e (λ _. done sort.Bool))
+      by_class s.Int e = into (to_int d) (to_int (wide d)) (after s.Int (spelled s.Int refl) ts e (λ _. done sort.Int))
+      by_class s.Bool e = into (to_bool d) (to_bool (wide d)) (after s.Bool (spelled s.Bool refl) ts e (λ _. done sort.Bool))
       by_class s.Name e = into (to_named d) (to_named (wide d)) ((seq name_rule (λ y. done (sort.Named y.0))).answers ts)
       by_class s.OpenBracket e = map_answers ts e
       by_class _ e = fails (begins_type_text (suc d) (omega arith))
