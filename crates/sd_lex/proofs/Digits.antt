@@ -1,5 +1,6 @@
 use Rattle.std.proofs.Common.{◌≡◌, ℕ, zero, suc, ◌+◌, ◌-◌, ◌*◌, ◌/◌, ◌<◌, ◌≤◌, ◌^◌, true, [], ◌∷◌, length, get_or, drop, refl, arith, drop-cons}
 use Rattle.std.specs.List.{fold}
+use Rattle.std.proofs.lemmas.List.{drop_all}
 use Rattle.std.specs.Char.{is_ascii_digit}
 use Rattle.sd_lex.specs.Pieces.{Bytes, Each, decimal, number}
 use Rattle.sd_lex.specs.declared.token.Piece.TheVariants.{Whole, Wide}
@@ -28,14 +29,8 @@ pub fits : (xs : Bytes) → decimal xs < 2 ^ 64 → Whole (Number (decimal xs)) 
 unfolding number
 fits xs h = grind arith
 
-drop-all : (xs : Bytes) (i : ℕ) → length xs ≤ i → drop i xs ≡ []
-drop-all [] zero h = refl
-drop-all [] (suc i) h = refl
-drop-all (x ∷ xs) zero h = absurd (omega arith)
-drop-all (x ∷ xs) (suc i) h = drop-all xs i (omega arith)
-
 pub ended : (v : ℕ) (xs : Bytes) (i : ℕ) → length xs ≤ i → fold (λ n b. 10 * n + (b - 48)) v (drop i xs) ≡ v
-ended v xs i h = rw (drop-all xs i h) refl
+ended v xs i h = rw (drop_all i xs h) refl
 
 pub past_limit : (v digit : ℕ) (xs : Bytes) (i : ℕ) → i < length xs → fold (λ n b. 10 * n + (b - 48)) v (drop i xs) ≡ decimal xs → digit ≡ get_or xs i 0 - 48 → digit ≤ 18446744073709551615 → (18446744073709551615 - digit) / 10 < v → Wide ≡ number xs
 past_limit v digit xs i h e d small over =

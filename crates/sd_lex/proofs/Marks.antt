@@ -4,6 +4,7 @@ use Rattle.std.specs.Prelude.{Bool, Some, None, ◌⊎◌, ◌&&◌, nat_le, nat
 use Rattle.std.specs.List.{starts_with}
 use Rattle.std.specs.Bool.{Decides}
 use Rattle.std.proofs.lemmas.Slice.Eq.{starts_is}
+use Rattle.std.proofs.lemmas.Bool.{and_parts}
 use Rattle.std.proofs.lemmas.Bool.Decides.{nat_tests}
 use Rattle.sd_lex.specs.declared.token.Piece.TheVariants.{BadByte}
 use Rattle.sd_lex.specs.Pieces.{Bytes, Other, first, BeginsAs, BeginsWith, IsIn, mark, first_mark}
@@ -31,11 +32,6 @@ marks_fall : falls 4 marks ≡ true
 unfolding marks
 marks_fall = refl
 
-pub both : (a b : Bool) → (a && b) ≡ true → (a ≡ true) × (b ≡ true)
-both true true h = (refl, refl)
-both true false h = (refl, h)
-both false b h = absurd (cc)
-
 module _ (text : Bytes) where
   -- what the first entry that fits is
   found_by : (m r : Bytes × Bool) (ms : List (Bytes × Bool)) (b : Bool) → starts_with nat_eq text m.0 ≡ b → cond b (Some m) (first_mark ms text) ≡ Some r
@@ -53,8 +49,8 @@ module _ (text : Bytes) where
   unfolding IsIn
   bounded [] n t s f i = absurd i
   bounded (m ∷ ms) n t s f i =
-      let x = both (nat_le (length m.0) n) (nat_lt 0 (length m.0) && falls (length m.0) ms) f in
-      let y = both (nat_lt 0 (length m.0)) (falls (length m.0) ms) x.1 in
+      let x = and_parts (nat_le (length m.0) n) (nat_lt 0 (length m.0) && falls (length m.0) ms) f in
+      let y = and_parts (nat_lt 0 (length m.0)) (falls (length m.0) ms) x.1 in
       elim i [
         | inl w ↦ let same = ap length w.0 in (let z : 0 < length m.0 = grind (arith, nat_tests, y.0) in omega arith, let z : length m.0 ≤ n = grind (arith, nat_tests, x.0) in omega arith)
         | inr w ↦ let b = bounded ms (length m.0) t s y.1 w in (b.0, let z : length m.0 ≤ n = grind (arith, nat_tests, x.0) in omega arith)
@@ -73,8 +69,8 @@ module _ (text : Bytes) where
   unfolding IsIn
   longest_in [] n r t s rest f e i split = absurd i
   longest_in (m ∷ ms) n r t s rest f e i split =
-      let x = both (nat_le (length m.0) n) (nat_lt 0 (length m.0) && falls (length m.0) ms) f in
-      let y = both (nat_lt 0 (length m.0)) (falls (length m.0) ms) x.1 in
+      let x = and_parts (nat_le (length m.0) n) (nat_lt 0 (length m.0) && falls (length m.0) ms) f in
+      let y = and_parts (nat_lt 0 (length m.0)) (falls (length m.0) ms) x.1 in
       longest_by m r ms t s rest (starts_with nat_eq text m.0) refl e y.1 i split (λ e i. longest_in ms (length m.0) r t s rest y.1 e i split)
 
   none_by : (m : Bytes × Bool) (ms : List (Bytes × Bool)) (t : Bytes) (s : Bool) (rest : Bytes) (b : Bool) → starts_with nat_eq text m.0 ≡ b → cond b (Some m) (first_mark ms text) ≡ None

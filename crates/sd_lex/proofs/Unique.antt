@@ -2,6 +2,7 @@
 use Rattle.std.proofs.Common.{◌≡◌, ℕ, ◌+◌, true, false, List, [], ◌∷◌, ◌++◌, length, refl, ap, sym, ◌∙◌, subst, arith, inl, inr}
 use Rattle.std.specs.Prelude.{Bool, ◌⊎◌, ◌&&◌, not}
 use Rattle.std.specs.Str.{bytes_eq}
+use Rattle.std.proofs.lemmas.Bool.{and_parts, not-true}
 use Rattle.std.proofs.lemmas.List.{append_cancel_right}
 use Rattle.std.proofs.lemmas.Slice.Eq.{bytes_eq-Decides}
 use Rattle.sd_lex.specs.declared.token.Token.{Token}
@@ -15,7 +16,6 @@ use Rattle.sd_lex.specs.Tokens as d
 use Rattle.sd_lex.specs.Tokens.{Tokens, Refused, IsRefusal, token_at}
 use Rattle.sd_lex.specs.Tables.{marks}
 use Rattle.sd_lex.proofs.Cuts.{true_false, each_mid}
-use Rattle.sd_lex.proofs.Marks.{both}
 
 -- ---- one piece for a text
 
@@ -32,22 +32,18 @@ marks_distinct : distinct marks ≡ true
 unfolding marks
 marks_distinct = refl
 
-not_true : (b : Bool) → not b ≡ true → b ≡ true → ⊥
-not_true true h k = cc
-not_true false h k = cc
-
 fresh_apart : (w t : Bytes) (s : Bool) (ms : List (Bytes × Bool)) → fresh w ms ≡ true → IsIn ms t s → w ≡ t → ⊥
 unfolding IsIn
 fresh_apart w t s [] f i e = i
 fresh_apart w t s (m ∷ ms) f i e =
-    let x = both (not (bytes_eq m.0 w)) (fresh w ms) f in
-    elim i [ inl y ↦ not_true (bytes_eq m.0 w) x.0 ((bytes_eq-Decides m.0 w).1 (y.0 ∙ sym e)) | inr y ↦ fresh_apart w t s ms x.1 y e ]
+    let x = and_parts (not (bytes_eq m.0 w)) (fresh w ms) f in
+    elim i [ inl y ↦ true_false ((bytes_eq-Decides m.0 w).1 (y.0 ∙ sym e)) (not-true (bytes_eq m.0 w) x.0) | inr y ↦ fresh_apart w t s ms x.1 y e ]
 
 one_flag : (t : Bytes) (r s : Bool) (ms : List (Bytes × Bool)) → distinct ms ≡ true → IsIn ms t r → IsIn ms t s → r ≡ s
 unfolding IsIn
 one_flag t r s [] h i j = absurd i
 one_flag t r s (m ∷ ms) h i j =
-    let x = both (fresh m.0 ms) (distinct ms) h in
+    let x = and_parts (fresh m.0 ms) (distinct ms) h in
     elim i [
       | inl y ↦ elim j [ inl z ↦ sym y.1 ∙ z.1 | inr z ↦ absurd (fresh_apart m.0 t s ms x.0 z y.0) ]
       | inr y ↦ elim j [ inl z ↦ absurd (fresh_apart m.0 t r ms x.0 y z.0) | inr z ↦ one_flag t r s ms x.1 y z ]

@@ -1,4 +1,4 @@
--- What the reader of programs has read is a list of declarations within its height.
+-- What the parts of a declaration make, each as its reader reads it.
 use Rattle.std.proofs.Common.{◌≡◌, ℕ, zero, suc, ◌≤◌, max, true, false, List, [], ◌∷◌, ◌++◌, length, refl, sym, ◌∙◌, subst, arith}
 use Rattle.std.specs.Prelude.{Bool, Some, None}
 use Rattle.std.proofs.lemmas.List.{append-nil}

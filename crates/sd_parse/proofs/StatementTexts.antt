@@ -1,4 +1,4 @@
--- What the reader of statements has read is a statement within its height.
+-- What the parts of a statement make, each as its reader reads it.
 use Rattle.std.proofs.Common.{◌≡◌, ℕ, zero, suc, ◌<◌, max, true, false, cond, List, [], ◌∷◌, ◌++◌, length, refl, ap, sym, ◌∙◌, subst, arith, append_assoc}
 use Rattle.std.specs.Prelude.{Bool}
 use Rattle.std.proofs.lemmas.List.{append-nil}
@@ -187,5 +187,3 @@ module _ (limit d : ℕ) where
 
   pub to_returned : (u : Tokens) (x : Stmt) → Both (Wanted s.Return) (λ p. Both (Wanted s.Semi) (λ _. Nothing (stated p Return))) u x → Low (Statement limit) (suc d) u x
   to_returned u x (both (wanted {t = t} i) (both (wanted {t = k} j) n)) = settle n (λ z x. Low (Statement limit) (suc d) (t ∷ k ∷ z) x) (record { height = 1; spelt = st.returned i j; low = omega arith })
-  -- ---- calls
-  -- ---- blocks
