@@ -137,9 +137,8 @@ module _ (d : ℕ) where
   data_reads : {u : Tokens} {h : ℕ} (rest : Tokens) → Data u h → h ≤ d → class_of (ahead rest) ≡ s.CloseBrace → and_then (datum d (u ++ rest)) (λ _. more_data d) ≡ Got tt rest
   data_reads rest (c.one {u = u} {h = h} f) low e = rw (datum_reads u h rest f low (stops_at s.CloseBrace rest e (omega arith))) (more_reads rest e r.none)
   data_reads rest (c.more {c = t} {u = u} {v = v} {h = h} f i m) low e =
-      let split : (u ++ t ∷ v) ++ rest ≡ u ++ t ∷ (v ++ rest) = append_assoc u (t ∷ v) rest in
       let first : datum d (u ++ t ∷ (v ++ rest)) ≡ Got tt (t ∷ (v ++ rest)) = datum_reads u h (t ∷ (v ++ rest)) f (omega arith) (stops_at s.Comma (t ∷ (v ++ rest)) i.same (omega arith)) in
-      rw (split, first) (more_reads rest e (repeat_data i m (omega arith)))
+      simp append_assoc (rw (first) (more_reads rest e (repeat_data i m (omega arith))))
 
   attribute_reads : (u : Tokens) (x : Unit {0}) (rest : Tokens) → Low AttributeText d u x → attribute d (u ++ rest) ≡ Got x rest
   unfolding attribute contents
@@ -191,10 +190,9 @@ module _ (limit d : ℕ) (word : TokenClass) where
   pub claim_complete : {u : Tokens} {x : Place × Expr} {h : ℕ} (rest : Tokens) → Claim limit word u x h → h ≤ d → claim limit d word (u ++ rest) ≡ Got x rest
   unfolding claim
   claim_complete rest (c.claim {t = t} {c = k} {a = a} {u = u} {e = e} {h = h} i b f j) low =
-      let split : (a ++ (u ++ k ∷ [])) ++ rest ≡ a ++ (u ++ k ∷ rest) = append_assoc a (u ++ k ∷ []) rest ∙ ap (λ z. a ++ z) (append_assoc u (k ∷ []) rest) in
       let first : attributes limit (a ++ (u ++ k ∷ rest)) ≡ Got tt (u ++ k ∷ rest) = attributes_complete limit (u ++ k ∷ rest) (not_attribute (class_of (ahead (u ++ k ∷ rest))) (expression_first (k ∷ rest) f)) b in
       let second : expression d (u ++ k ∷ rest) ≡ Got e (k ∷ rest) = expression_complete d u e h (k ∷ rest) f low (stops_at s.Semi (k ∷ rest) j.same (omega arith)) in
-      rw (split, want_reads word t (a ++ (u ++ k ∷ rest)) i, first, second, want_reads s.Semi k rest j) refl
+      simp append_assoc (rw (want_reads word t (a ++ (u ++ k ∷ rest)) i, first, second, want_reads s.Semi k rest j) refl)
 
 pub claim_first : {limit : ℕ} {word : TokenClass} {u : Tokens} {x : Place × Expr} {h : ℕ} (rest : Tokens) → Claim limit word u x h → class_of (ahead (u ++ rest)) ≡ word
 claim_first rest (c.claim i b f j) = i.same

@@ -70,10 +70,9 @@ module _ (d : ℕ) where
   typed_reads : {u : Tokens} {xs : List Text} {T : Sort} {h : ℕ} (rest : Tokens) → Typed u xs T h → h ≤ d → typed d (u ++ rest) ≡ Got (xs, T) rest
   unfolding typed
   typed_reads rest (p.typed {c = k} {u = u} {v = v} {xs = xs} {T = T} {h = h} m i f) low =
-      let split : (u ++ k ∷ v) ++ rest ≡ u ++ k ∷ (v ++ rest) = append_assoc u (k ∷ v) rest in
       let first : names (u ++ k ∷ (v ++ rest)) ≡ Got xs (k ∷ (v ++ rest)) = names_complete (k ∷ (v ++ rest)) (apart s.Colon s.Comma (k ∷ (v ++ rest)) i.same (λ e. cc)) m in
       let second : type_of d (v ++ rest) ≡ Got T rest = type_complete d v T h rest f low in
-      rw (split, first, want_reads s.Colon k (v ++ rest) i, second) refl
+      simp append_assoc (rw (first, want_reads s.Colon k (v ++ rest) i, second) refl)
 
   pair_reads : {u : Tokens} {xs : List Text} {T : Sort} {h : ℕ} (rest : Tokens) → Typed u xs T h → h ≤ d → group d (u ++ rest) ≡ Got (variables xs T) rest
   unfolding group
@@ -99,9 +98,8 @@ module _ (d : ℕ) where
   unfolding vars
   vars_read rest e (p.one {u = u} {xs = xs} {T = T} g) low = rw (pair_reads rest g low) (more_groups_read (variables xs T) rest e lists.none ∙ ap (λ xs. Got xs rest) (append-nil (variables xs T)))
   vars_read rest e (p.more {c = k} {u = u} {v = v} {xs = xs} {T = T} g i m) low =
-      let split : (u ++ k ∷ v) ++ rest ≡ u ++ k ∷ (v ++ rest) = append_assoc u (k ∷ v) rest in
       let first : group d (u ++ k ∷ (v ++ rest)) ≡ Got (variables xs T) (k ∷ (v ++ rest)) = pair_reads (k ∷ (v ++ rest)) g (omega arith) in
-      rw (split, first) (more_groups_read (variables xs T) {u = k ∷ v} rest e (next_groups m i (omega arith)))
+      simp append_assoc (rw (first) (more_groups_read (variables xs T) {u = k ∷ v} rest e (next_groups m i (omega arith))))
 
   line_reads : (u : Tokens) (xs : List Var) (h : ℕ) (rest : Tokens) → VarLine d u xs h → h ≤ d → var_line d (u ++ rest) ≡ Got xs rest
   unfolding var_line
@@ -129,9 +127,8 @@ module _ (d : ℕ) where
   unfolding parameters
   parameters_read rest (p.none {o = o} {c = k} i j) low = rw (want_reads s.Open o (k ∷ rest) i) (listed_none k rest j)
   parameters_read rest (p.some {o = o} {c = k} {u = u} {xs = xs} i m j) low =
-      let split : (u ++ k ∷ []) ++ rest ≡ u ++ k ∷ rest = append_assoc u (k ∷ []) rest in
       let r : vars d (u ++ k ∷ rest) ≡ Got xs (k ∷ rest) = vars_read (k ∷ rest) (apart s.Close s.Comma (k ∷ rest) j.same (λ e. cc)) m low in
-      rw (split, want_reads s.Open o (u ++ k ∷ rest) i) (listed_some (u ++ k ∷ rest) rest xs (vars_first (k ∷ rest) m) (rw (r, want_reads s.Close k rest j) refl))
+      simp append_assoc (rw (want_reads s.Open o (u ++ k ∷ rest) i) (listed_some (u ++ k ∷ rest) rest xs (vars_first (k ∷ rest) m) (rw (r, want_reads s.Close k rest j) refl)))
 
   no_results : (x : TokenClass) (ts : Tokens) → (x ≡ s.Returns → ⊥) → results_by d x ts ≡ Got [] ts
   no_results s.Returns ts f = absurd (f refl)
@@ -145,10 +142,9 @@ module _ (d : ℕ) where
   head_reads : {u : Tokens} {f : Head} {h : ℕ} (rest : Tokens) → (class_of (ahead rest) ≡ s.Returns → ⊥) → HeadText u f h → h ≤ d → head d (u ++ rest) ≡ Got f rest
   unfolding head
   head_reads rest no_returns (p.head {n = n} {f = f} {u = u} {v = v} {ins = ins} {outs = outs} i m o) low =
-      let split : (u ++ v) ++ rest ≡ u ++ (v ++ rest) = append_assoc u v rest in
       let first : parameters d (u ++ (v ++ rest)) ≡ Got ins (v ++ rest) = parameters_read (v ++ rest) m (omega arith) in
       let second : results d (v ++ rest) ≡ Got outs rest = results_read rest no_returns o (omega arith) in
-      rw (split, name_reads f n (u ++ (v ++ rest)) i, first, second) refl
+      simp append_assoc (rw (name_reads f n (u ++ (v ++ rest)) i, first, second) refl)
 
 head_first : {u : Tokens} {f : Head} {h : ℕ} (rest : Tokens) → HeadText u f h → class_of (ahead (u ++ rest)) ≡ s.Name
 head_first rest (p.head {n = n} {f = f} i m o) = name_class f n i
@@ -240,10 +236,9 @@ module _ (d : ℕ) where
   body_reads : {u : Tokens} {x : Body} {h : ℕ} (rest : Tokens) → BodyText d u x h → h ≤ d → body d (u ++ rest) ≡ Got x rest
   unfolding body
   body_reads rest (p.braces {o = o} {c = k} {u = u} {v = v} {xs = xs} {ss = ss} i m q j) low =
-      let split : (u ++ (v ++ k ∷ [])) ++ rest ≡ u ++ (v ++ k ∷ rest) = append_assoc u (v ++ k ∷ []) rest ∙ ap (λ z. u ++ z) (append_assoc v (k ∷ []) rest) in
       let first : locals d (u ++ (v ++ k ∷ rest)) ≡ Got xs (v ++ k ∷ rest) = locals_read d (v ++ k ∷ rest) (other_class (class_of (ahead (v ++ k ∷ rest))) s.Var (statements_first k rest q j)) m (omega arith) in
       let second : statements d d (statement d d) (v ++ k ∷ rest) ≡ Got ss (k ∷ rest) = statements_read d d (statement d d) (statement_complete d d) (k ∷ rest) q (omega arith) j.same in
-      rw (split, want_reads s.OpenBrace o (u ++ (v ++ k ∷ rest)) i, first, second, want_reads s.CloseBrace k rest j) refl
+      simp append_assoc (rw (want_reads s.OpenBrace o (u ++ (v ++ k ∷ rest)) i, first, second, want_reads s.CloseBrace k rest j) refl)
 
 -- ---- constants and functions
 
@@ -310,9 +305,8 @@ module _ (d : ℕ) where
   unfolding result_type returned_type colon_type
   result_reads rest (p.colon {c = k} {u = u} {T = T} {h = h} i f) low = ap (λ x. result_by d x (k ∷ (u ++ rest))) i.same ∙ rw (want_reads s.Colon k (u ++ rest) i) (type_complete d u T h rest f low)
   result_reads rest (p.returns {r = r} {o = o} {c = k} {u = u} {T = T} {h = h} i j f l) low =
-      let split : (u ++ k ∷ []) ++ rest ≡ u ++ k ∷ rest = append_assoc u (k ∷ []) rest in
       let first : argument d (u ++ k ∷ rest) ≡ Got T (k ∷ rest) = argument_reads u T h (k ∷ rest) f low (apart s.Close s.Colon (k ∷ rest) l.same (λ e. cc)) in
-      ap (λ x. result_by d x (r ∷ o ∷ ((u ++ k ∷ []) ++ rest))) i.same ∙ rw (split, want_reads s.Open o (u ++ k ∷ rest) j, first, want_reads s.Close k rest l) refl
+      ap (λ x. result_by d x (r ∷ o ∷ ((u ++ k ∷ []) ++ rest))) i.same ∙ simp append_assoc (rw (want_reads s.Open o (u ++ k ∷ rest) j, first, want_reads s.Close k rest l) refl)
 
 -- ---- declarations
 

@@ -128,9 +128,8 @@ module _ {A : Type 0} (F : Tokens → A → ℕ → Type 0) (d : ℕ) where
     unfolding reading.commas
     commas_complete rest e stops (r.one {u = u} {x = x} {h = h} f) low = rw (complete u x h rest f low e) (more_complete (Low F d) item Ends ends (λ u x rest f e. complete u x f.height rest f.spelt f.low e) rest e stops none (x ∷ []))
     commas_complete rest e stops (r.more {c = c} {u = u} {v = v} {x = x} {h = h} f i m) low =
-        let split : (u ++ c ∷ v) ++ rest ≡ u ++ c ∷ (v ++ rest) = append_assoc u (c ∷ v) rest in
         let first : item (u ++ c ∷ (v ++ rest)) ≡ Got x (c ∷ (v ++ rest)) = complete u x h (c ∷ (v ++ rest)) f (omega arith) (ends (c ∷ (v ++ rest)) (same_classes (class c) s.Comma i.same)) in
-        rw (split, first) (more_complete (Low F d) item Ends ends (λ u x rest f e. complete u x f.height rest f.spelt f.low e) rest e stops (of_commas i m (omega arith)) (x ∷ []))
+        simp append_assoc (rw (first) (more_complete (Low F d) item Ends ends (λ u x rest f e. complete u x f.height rest f.spelt f.low e) rest e stops (of_commas i m (omega arith)) (x ∷ [])))
 
     module _ (closes : (rest : Tokens) → class_of (ahead rest) ≡ s.Close → Ends rest) (first : (u : Tokens) (x : A) (h : ℕ) (rest : Tokens) → F u x h → class_of (ahead (u ++ rest)) ≡ s.Close → ⊥) where
       commas_first : {u : Tokens} {xs : List A} {h : ℕ} (rest : Tokens) → Commas F u xs h → class_of (ahead (u ++ rest)) ≡ s.Close → ⊥
@@ -145,6 +144,5 @@ module _ {A : Type 0} (F : Tokens → A → ℕ → Type 0) (d : ℕ) where
       unfolding enclosed listed
       enclosed_complete rest (r.none {o = o} {c = c} i j) low = rw (want_reads s.Open o (c ∷ rest) i) (ap (λ x. listed_by item x (c ∷ rest)) j.same)
       enclosed_complete rest (r.some {o = o} {c = c} {u = u} {xs = xs} i m j) low =
-          let split : (u ++ c ∷ []) ++ rest ≡ u ++ c ∷ rest = append_assoc u (c ∷ []) rest in
           let read : reading.commas item (u ++ c ∷ rest) ≡ Got xs (c ∷ rest) = commas_complete (c ∷ rest) (closes (c ∷ rest) j.same) (apart s.Close s.Comma (c ∷ rest) j.same (λ e. cc)) m low in
-          rw (split, want_reads s.Open o (u ++ c ∷ rest) i) (listed_some (class_of (ahead (u ++ c ∷ rest))) (u ++ c ∷ rest) (commas_first (c ∷ rest) m) ∙ rw (read, want_reads s.Close c rest j) refl)
+          simp append_assoc (rw (want_reads s.Open o (u ++ c ∷ rest) i) (listed_some (class_of (ahead (u ++ c ∷ rest))) (u ++ c ∷ rest) (commas_first (c ∷ rest) m) ∙ rw (read, want_reads s.Close c rest j) refl))

@@ -178,13 +178,12 @@ module _ (limit d : ℕ) (inner : Reader Stmt) (completes : (u : Tokens) (x : St
   unfolding assignment
   assignment_reads {v = q} {es = es} t b c rest (first_left {t = f} {x = x} {u = u} {v = v} {es = is} {ls = ls} {h = h} i m fits n) e j g low k =
       let same : f ≡ t = cc in
-      let split : (u ++ v) ++ (b ∷ (q ++ c ∷ rest)) ≡ u ++ (v ++ (b ∷ (q ++ c ∷ rest))) = append_assoc u v (b ∷ (q ++ c ∷ rest)) in
       let first : left d (f ∷ (u ++ (v ++ (b ∷ (q ++ c ∷ rest))))) ≡ Got (record { name = x; indices = is }, f.at) (v ++ (b ∷ (q ++ c ∷ rest))) = left_reads d f x u is h (v ++ (b ∷ (q ++ c ∷ rest))) i m fits (next_left_stops d b (q ++ c ∷ rest) j n) in
       let second : reading.more (plain_left d) (record { name = x; indices = is } ∷ []) (v ++ (b ∷ (q ++ c ∷ rest))) ≡ Got (record { name = x; indices = is } ∷ ls) (b ∷ (q ++ c ∷ rest)) =
       more_complete (Low LeftSide d) (plain_left d) NoIndex (λ rest e. apart s.Comma s.OpenBracket rest (same_is (class_of (ahead rest)) s.Comma e) (λ e. cc)) (plain_reads d)
       (b ∷ (q ++ c ∷ rest)) (apart s.Becomes s.OpenBracket (b ∷ (q ++ c ∷ rest)) j.same (λ e. cc)) (apart s.Becomes s.Comma (b ∷ (q ++ c ∷ rest)) j.same (λ e. cc)) n (record { name = x; indices = is } ∷ []) in
       let third : reading.commas (expression d) (q ++ c ∷ rest) ≡ Got es (c ∷ rest) = values_read d (c ∷ rest) k.same g low in
-      rw (split, first, second, want_reads s.Becomes b (q ++ c ∷ rest) j, third, want_reads s.Semi c rest k) (ap (λ t. Got (stated t.at (Assign (record { name = x; indices = is } ∷ ls) es)) rest) same)
+      simp append_assoc (rw (first, second, want_reads s.Becomes b (q ++ c ∷ rest) j, third, want_reads s.Semi c rest k) (ap (λ t. Got (stated t.at (Assign (record { name = x; indices = is } ∷ ls) es)) rest) same))
 
   assigned_reads : (t b c : Token) (u v : Tokens) (ls : List Left) (es : List Expr) (h k : ℕ) (rest : Tokens) → Commas LeftSide (t ∷ u) ls h → Is s.Becomes b → Commas Expression v es k → Is s.Semi c → suc (max h k) ≤ suc d
       → statement_layer limit d inner ((t ∷ u ++ b ∷ (v ++ c ∷ [])) ++ rest) ≡ Got (stated t.at (Assign ls es)) rest
@@ -259,9 +258,8 @@ module _ (limit d : ℕ) (inner : Reader Stmt) (completes : (u : Tokens) (x : St
   block_reads : {v : Tokens} {xs : List Stmt} {h : ℕ} (rest : Tokens) → Block limit v xs h → h ≤ d → block limit d inner (v ++ rest) ≡ Got xs rest
   unfolding block
   block_reads rest (st.braces {o = o} {c = c} {u = u} {xs = xs} i m j) low =
-      let split : (u ++ c ∷ []) ++ rest ≡ u ++ c ∷ rest = append_assoc u (c ∷ []) rest in
       let r : statements limit d inner (u ++ c ∷ rest) ≡ Got xs (c ∷ rest) = statements_read (c ∷ rest) m low j.same in
-      rw (split, want_reads s.OpenBrace o (u ++ c ∷ rest) i, r, want_reads s.CloseBrace c rest j) refl
+      simp append_assoc (rw (want_reads s.OpenBrace o (u ++ c ∷ rest) i, r, want_reads s.CloseBrace c rest j) refl)
 
   block_first : {v : Tokens} {xs : List Stmt} {h : ℕ} (rest : Tokens) → Block limit v xs h → class_of (ahead (v ++ rest)) ≡ s.OpenBrace
   block_first rest (st.braces i m j) = i.same
