@@ -148,7 +148,7 @@ fn class_in<'a>(mut table: &'a [(&'a [u8], TokenClass)], text: &Name) -> TokenCl
 }
 
 /// The class of a token.
-#[tactic(auto, unfolding(crate::specs::TokenClasses::class_of_kind, crate::specs::TokenClasses::words, crate::specs::TokenClasses::symbols))]
+#[tactic(auto, unfolding(crate::specs::TokenClasses::class_of_kind))]
 pub fn token_class(token: &Token) -> TokenClass
     ensures { result ≡ spec.class token.now }
 {
