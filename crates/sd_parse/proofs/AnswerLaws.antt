@@ -132,8 +132,8 @@ some_answer bytes = by_length (nat_le (length bytes) 16777216) refl
         let short : length bytes ≤ 16777216 = grind (arith, nat_tests) in
         elim (lexer.some_answer bytes) [
           | inl t ↦
-            let w = step_answer bytes t.0 t.1 (program 200 t.0) refl in
-            (w.0, of_parsed bytes w.0 (record { short = short; tokens = t.0; cut = t.1; answer = w.1 }), λ z. subst (IsAnswer t.0 (end_of bytes)) z w.1)
+              let w = step_answer bytes t.0 t.1 (program 200 t.0) refl in
+              (w.0, of_parsed bytes w.0 (record { short = short; tokens = t.0; cut = t.1; answer = w.1 }), λ z. subst (IsAnswer t.0 (end_of bytes)) z w.1)
           | inr r ↦ (Err (Lex r.0), (short, r.1), λ z. cc)
         ]
 
