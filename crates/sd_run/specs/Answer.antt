@@ -22,16 +22,73 @@ use Rattle.sd_run.specs.declared.verdict.PairVerdict.{PairVerdict}
 abbrev pub ForJob : List (List ℕ) → (JobNames → Type 0) → Type 0
 ForJob words P = (job : JobNames) → job_of words ≡ Some job → P job
 
--- A row for each answer, with its cause, its text, and what is said of the pairs. Nothing is said of files whose content isn't known.
+-- A row for each answer, with its cause, its text, and what is said of the pairs. Nothing is said of files whose content
+-- isn't known.
 pub data Answer (words : List (List ℕ)) (content : List ℕ → Option (List ℕ)) (o : Outcome) : Type 0 where
-  no_job : job_of words ≡ None → o ≡ message 2 usage_text → Answer words content o
-  old_refused : (job : JobNames) (r : TextRefusal) → job_of words ≡ Some job → WhereKnown (content job.old) (λ bytes. IsTextRefusal bytes r) → o ≡ message (refusal_status r) (text_error (codes "old") r) → Answer words content o
-  new_refused : (job : JobNames) (old : Program) (r : TextRefusal) → job_of words ≡ Some job → WhereKnown (content job.old) (λ bytes. IsAccepted bytes old) → WhereKnown (content job.new) (λ bytes. IsTextRefusal bytes r) → o ≡ message (refusal_status r) (text_error (codes "new") r) → Answer words content o
-  clashing : (job : JobNames) (t : Texts) (r : Refusal) → job_of words ≡ Some job → AreRead content job t → clash_of t ≡ Some r → o ≡ message 4 (match_error r) → Answer words content o
-  compared : (job : JobNames) (t : Texts) (name : Option (List ℕ)) → job_of words ≡ Some job → job.task ≡ verify name → AreMatched content job t → IsComparison name t o → Answer words content o
-  too_long : (job : JobNames) (t : Texts) (name : List ℕ) → job_of words ≡ Some job → job.task ≡ replay name → AreMatched content job t → WhereKnown (content name) (λ bytes. 9223372036854775807 < length bytes) → o ≡ message 9 certificate_size → Answer words content o
-  certificate_refused : (job : JobNames) (t : Texts) (name bytes : List ℕ) (e : CertError) → job_of words ≡ Some job → job.task ≡ replay name → AreMatched content job t → Holds (content name) bytes → IsRefused bytes t e → o ≡ message 5 (certificate_error e) → Answer words content o
-  replayed : (job : JobNames) (t : Texts) (name bytes : List ℕ) → job_of words ≡ Some job → job.task ≡ replay name → AreMatched content job t → Holds (content name) bytes → IsReplay bytes t o → Answer words content o
+  -- 2: the words name no job.
+  no_job :
+      job_of words ≡ None
+      → o ≡ message 2 usage_text
+      → Answer words content o
+  -- 3 or 9: the old text is refused.
+  old_refused :
+      (job : JobNames) (r : TextRefusal)
+      → job_of words ≡ Some job
+      → WhereKnown (content job.old) (λ bytes. IsTextRefusal bytes r)
+      → o ≡ message (refusal_status r) (text_error (codes "old") r)
+      → Answer words content o
+  -- 3 or 9: the old text is accepted, and the new one is refused.
+  new_refused :
+      (job : JobNames) (old : Program) (r : TextRefusal)
+      → job_of words ≡ Some job
+      → WhereKnown (content job.old) (λ bytes. IsAccepted bytes old)
+      → WhereKnown (content job.new) (λ bytes. IsTextRefusal bytes r)
+      → o ≡ message (refusal_status r) (text_error (codes "new") r)
+      → Answer words content o
+  -- 4: both texts are accepted, and both declare a name with two types.
+  clashing :
+      (job : JobNames) (t : Texts) (r : Refusal)
+      → job_of words ≡ Some job
+      → AreRead content job t
+      → clash_of t ≡ Some r
+      → o ≡ message 4 (match_error r)
+      → Answer words content o
+  -- 0 or 1: the two texts are compared.
+  compared :
+      (job : JobNames) (t : Texts) (name : Option (List ℕ))
+      → job_of words ≡ Some job
+      → job.task ≡ verify name
+      → AreMatched content job t
+      → IsComparison name t o
+      → Answer words content o
+  -- 9: the certificate passes its limit.
+  too_long :
+      (job : JobNames) (t : Texts) (name : List ℕ)
+      → job_of words ≡ Some job
+      → job.task ≡ replay name
+      → AreMatched content job t
+      → WhereKnown (content name) (λ bytes. 9223372036854775807 < length bytes)
+      → o ≡ message 9 certificate_size
+      → Answer words content o
+  -- 5: the certificate is refused.
+  certificate_refused :
+      (job : JobNames) (t : Texts) (name bytes : List ℕ) (e : CertError)
+      → job_of words ≡ Some job
+      → job.task ≡ replay name
+      → AreMatched content job t
+      → Holds (content name) bytes
+      → IsRefused bytes t e
+      → o ≡ message 5 (certificate_error e)
+      → Answer words content o
+  -- 0 or 1: the certificate is replayed.
+  replayed :
+      (job : JobNames) (t : Texts) (name bytes : List ℕ)
+      → job_of words ≡ Some job
+      → job.task ≡ replay name
+      → AreMatched content job t
+      → Holds (content name) bytes
+      → IsReplay bytes t o
+      → Answer words content o
 
 -- what holds of the two programs that the files of the job spell, where their content is known
 abbrev pub ForPrograms : List (List ℕ) → (List ℕ → Option (List ℕ)) → (Program → Program → Type 0) → Type 0
