@@ -92,7 +92,9 @@ pub data Answer (words : List (List ℕ)) (content : List ℕ → Option (List �
 
 -- what holds of the two programs that the files of the job spell, where their content is known
 abbrev pub ForPrograms : List (List ℕ) → (List ℕ → Option (List ℕ)) → (Program → Program → Type 0) → Type 0
-ForPrograms words content P = ForJob words (λ job. WhereKnown (content job.old) (λ old_bytes. WhereKnown (content job.new) (λ new_bytes. (old new : Program) → IsAccepted old_bytes old → IsAccepted new_bytes new → P old new)))
+ForPrograms words content P =
+    ForJob words (λ job. WhereKnown (content job.old) (λ old_bytes. WhereKnown (content job.new) (λ new_bytes.
+    (old new : Program) → IsAccepted old_bytes old → IsAccepted new_bytes new → P old new)))
 
 -- The headline: no pair that is said to be safe has a new failure.
 abbrev pub Headline : List (List ℕ) → (List ℕ → Option (List ℕ)) → List PairVerdict → Type 0
@@ -101,7 +103,9 @@ Headline words content pairs = ForPrograms words content (λ old new. NoNewFailu
 -- Where the texts are over truth values, without calls and loops, each pair that is said to be unknown, though no search for a
 -- candidate of it was spent, has a new failure.
 abbrev pub UnknownIsFailure : List (List ℕ) → (List ℕ → Option (List ℕ)) → List Death → List PairVerdict → Type 0
-UnknownIsFailure words content deaths pairs = ForPrograms words content (λ old new. IsPropositionalProgram old → IsPropositionalProgram new → AreNewFailures old new deaths pairs)
+UnknownIsFailure words content deaths pairs =
+    ForPrograms words content (λ old new.
+    IsPropositionalProgram old → IsPropositionalProgram new → AreNewFailures old new deaths pairs)
 
 -- the count of a certificate that is to be read rose
 abbrev pub CertificateRose : Task → (List ℕ → ℕ) → (List ℕ → ℕ) → Type 0
@@ -110,8 +114,13 @@ CertificateRose (replay name) before now = Rose (before name) (now name)
 
 -- the words name a job, and the reading of one of its files failed
 abbrev pub ReadRose : List (List ℕ) → (List ℕ → ℕ) → (List ℕ → ℕ) → Type 0
-ReadRose words before now = (job : JobNames) × (job_of words ≡ Some job) × (Rose (before job.old) (now job.old) ⊎ (Rose (before job.new) (now job.new) ⊎ CertificateRose job.task before now))
+ReadRose words before now =
+    (job : JobNames) × (job_of words ≡ Some job)
+    × (Rose (before job.old) (now job.old)
+    ⊎ (Rose (before job.new) (now job.new) ⊎ CertificateRose job.task before now))
 
 -- the words name a file for the certificate, and the writing of it failed
 abbrev pub CertificateWriteRose : List (List ℕ) → (List ℕ → ℕ) → (List ℕ → ℕ) → Type 0
-CertificateWriteRose words before now = (job : JobNames) × (name : List ℕ) × (job_of words ≡ Some job) × (job.task ≡ verify (Some name)) × Rose (before name) (now name)
+CertificateWriteRose words before now =
+    (job : JobNames) × (name : List ℕ) × (job_of words ≡ Some job) × (job.task ≡ verify (Some name))
+    × Rose (before name) (now name)

@@ -58,7 +58,8 @@ abbrev mutual
   is_compared (Assign ls es) = list_all (λ (l : Left). none_has_product l.indices) ls && none_has_product es
   is_compared (Call xs f es) = none_has_product es
   is_compared (If' e shape a shape' b) = (has_no_product e.kind && have_compared a) && have_compared b
-  is_compared (While' e is shape a) = (has_no_product e.kind && list_all (λ (i : Invariant). has_no_product i.expr.kind) is) && have_compared a
+  is_compared (While' e is shape a) =
+      (has_no_product e.kind && list_all (λ (i : Invariant). has_no_product i.expr.kind) is) && have_compared a
   is_compared Break = true
   is_compared Return = true
 
@@ -87,7 +88,8 @@ maybe_compared_body (Some b) = is_compared_body b
 -- globals, procedures and implementations alone
 abbrev pub is_compared_decl : Decl → Bool
 is_compared_decl (Globals vars) = are_plain vars
-is_compared_decl (Procedure p) = (is_compared_head p.head && list_all is_compared_spec p.specs) && maybe_compared_body p.body
+is_compared_decl (Procedure p) =
+    (is_compared_head p.head && list_all is_compared_spec p.specs) && maybe_compared_body p.body
 is_compared_decl (Implementation i) = is_compared_head i.head && is_compared_body i.body
 is_compared_decl _ = false
 

@@ -38,7 +38,9 @@ status_of verdicts = if list_all (λ v. is_safe v.state) verdicts then 0 else 1
 
 -- The report on two texts from a table of live candidates, whose words are shown: each verdict is what the table says.
 pub record IsReport (otherwise : Otherwise) (t : Texts) (live : List Bool) (o : Outcome) : Type 0 where
-  pub verdicts : o.pairs ≡ verdicts_of otherwise (core_program t.old) (core_program t.new) (pairs_of (core_program t.old) (core_program t.new)) live
+  pub verdicts :
+      o.pairs ≡ verdicts_of otherwise (core_program t.old) (core_program t.new)
+      (pairs_of (core_program t.old) (core_program t.new)) live
   pub words : o.table ≡ words_of live
   pub status : o.status ≡ status_of o.pairs
   pub text : o.text ≡ report (core_program t.old) (core_program t.new) o.pairs

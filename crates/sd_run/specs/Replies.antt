@@ -25,7 +25,8 @@ use Rattle.sd_run.specs.MatchErrors.{match_error}
 use Rattle.sd_run.specs.CertificateErrors.{certificate_error}
 
 abbrev pub texts_of : Text → Text → Texts
-texts_of old new = record { old_bytes = old.bytes.items; new_bytes = new.bytes.items; old = old.program; new = new.program }
+texts_of old new =
+    record { old_bytes = old.bytes.items; new_bytes = new.bytes.items; old = old.program; new = new.program }
 
 -- Two texts that were read and can be compared, with what they give to judge.
 pub record IsMatched (m : Matched) : Type 0 where
@@ -39,11 +40,27 @@ named None = None
 named (Some file) = Some (file.name.now, file.text.items)
 
 abbrev pub outcome_of : Reply → Outcome
-outcome_of reply = record { status = reply.status; text = reply.text.items; pairs = reply.pairs.items; table = reply.table.items; deaths = reply.deaths.items; certificate = named reply.certificate }
+outcome_of reply =
+    record {
+      status = reply.status;
+      text = reply.text.items;
+      pairs = reply.pairs.items;
+      table = reply.table.items;
+      deaths = reply.deaths.items;
+      certificate = named reply.certificate;
+    }
 
 -- a report, with these deaths and this certificate
 abbrev pub outcome_with : Report → List Death → Option (List ℕ × List ℕ) → Outcome
-outcome_with report deaths certificate = record { status = report.status; text = report.text.items; pairs = report.pairs.items; table = report.table.items; deaths = deaths; certificate = certificate }
+outcome_with report deaths certificate =
+    record {
+      status = report.status;
+      text = report.text.items;
+      pairs = report.pairs.items;
+      table = report.table.items;
+      deaths = deaths;
+      certificate = certificate;
+    }
 
 -- the certificate is made where a file is named for it
 abbrev pub IsMade : Texts → Held → List Proved → Option (List ℕ) → Option (List ℕ × List ℕ) → Type 0

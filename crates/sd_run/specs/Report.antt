@@ -29,7 +29,8 @@ verdict_line v = beginning v.state ++ v.old ++ codes " " ++ v.new ++ ending v.st
 
 -- a line for a procedure without partner among the others; a loop has none
 abbrev pub only_line : List ℕ → List CoreProc → CoreProc → List ℕ
-only_line word others p = if is_some p.parent || is_some (proc_named others p.name) then [] else word ++ p.name ++ line_end
+only_line word others p =
+    if is_some p.parent || is_some (proc_named others p.name) then [] else word ++ p.name ++ line_end
 
 abbrev pub is_safe : VerdictState → Bool
 is_safe Safe = true
@@ -52,13 +53,23 @@ count_of test verdicts = count_by (λ v. test v.state) verdicts
 
 -- the last line: how many pairs there are and how many of each kind, and how many axioms each text has
 abbrev pub summary : List PairVerdict → ℕ → ℕ → List ℕ
-summary verdicts old_axioms new_axioms = codes "pairs " ++ decimal (length verdicts) ++ codes " safe " ++ decimal (count_of is_safe verdicts) ++ codes " equal 0 unknown " ++ decimal (count_of is_unknown verdicts) ++ codes " refused " ++ decimal (count_of is_refused verdicts) ++ codes " axioms " ++ decimal old_axioms ++ codes " " ++ decimal new_axioms ++ line_end
+summary verdicts old_axioms new_axioms =
+    codes "pairs " ++ decimal (length verdicts) ++ codes " safe " ++ decimal (count_of is_safe verdicts)
+    ++ codes " equal 0 unknown " ++ decimal (count_of is_unknown verdicts) ++ codes " refused "
+    ++ decimal (count_of is_refused verdicts) ++ codes " axioms " ++ decimal old_axioms ++ codes " "
+    ++ decimal new_axioms ++ line_end
 
 abbrev pub report : CoreProgram → CoreProgram → List PairVerdict → List ℕ
-report old new verdicts = flat_map verdict_line verdicts ++ flat_map (only_line (codes "only old ") new.procs) old.procs ++ flat_map (only_line (codes "only new ") old.procs) new.procs ++ summary verdicts (length old.axioms) (length new.axioms)
+report old new verdicts =
+    flat_map verdict_line verdicts ++ flat_map (only_line (codes "only old ") new.procs) old.procs
+    ++ flat_map (only_line (codes "only new ") old.procs) new.procs
+    ++ summary verdicts (length old.axioms) (length new.axioms)
 
 abbrev pub usage_text : List ℕ
-usage_text = codes "usage: symdiff verify OLD NEW [--settings FILE] [--workers N] [--leaves N] [--certificate FILE]" ++ line_end ++ codes "       symdiff replay OLD NEW CERTIFICATE [--settings FILE]" ++ line_end ++ codes "       symdiff gen N [--workers N] [--leaves N]" ++ line_end
+usage_text =
+    codes "usage: symdiff verify OLD NEW [--settings FILE] [--workers N] [--leaves N] [--certificate FILE]"
+    ++ line_end ++ codes "       symdiff replay OLD NEW CERTIFICATE [--settings FILE]" ++ line_end
+    ++ codes "       symdiff gen N [--workers N] [--leaves N]" ++ line_end
 
 abbrev pub certificate_size : List ℕ
 certificate_size = codes "error: certificate size" ++ line_end

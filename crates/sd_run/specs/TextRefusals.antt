@@ -25,7 +25,8 @@ pub record IsAccepted (bytes : List ℕ) (P : Program) : Type 0 where
 -- The text isn't read, or it breaks a rule on names and types, or its form isn't accepted yet.
 abbrev pub IsTextRefusal : List ℕ → TextRefusal → Type 0
 IsTextRefusal bytes (Reading e) = IsReading bytes (Err e) × (e ≢ read.NoMemory)
-IsTextRefusal bytes (Typing e) = (P : Program) × IsReading bytes (Ok P) × (first_broken P ≡ Some e) × (e ≢ kind.NoMemory)
+IsTextRefusal bytes (Typing e) =
+    (P : Program) × IsReading bytes (Ok P) × (first_broken P ≡ Some e) × (e ≢ kind.NoMemory)
 IsTextRefusal bytes NotYet = (P : Program) × IsReading bytes (Ok P) × WellTyped P × (is_compared_program P ≡ false)
 
 -- ---- what is said

@@ -48,7 +48,13 @@ state_of o (pair_state.UnmatchedRecursion x) live = UnmatchedRecursion x
 
 -- the verdict of a pair of procedures; a pair of loops has none
 abbrev pub verdict_by : Otherwise → Pair → Bool → Option CoreProc → Option CoreProc → List PairVerdict
-verdict_by o pair live (Some p) (Some q) = if is_some p.parent then [] else record { old = p.name; new = q.name; state = state_of o pair.state live; equal = false } ∷ []
+verdict_by o pair live (Some p) (Some q) =
+    if is_some p.parent then [] else record {
+      old = p.name;
+      new = q.name;
+      state = state_of o pair.state live;
+      equal = false;
+    } ∷ []
 verdict_by o pair live _ _ = []
 
 abbrev pub verdict_of : Otherwise → CoreProgram → CoreProgram → Pair → Bool → List PairVerdict
@@ -57,7 +63,9 @@ verdict_of o P Q pair live = verdict_by o pair live (slice_get P.procs pair.old)
 -- the verdicts of pairs, of which the table has the candidates one after another
 abbrev pub verdicts_of : Otherwise → CoreProgram → CoreProgram → List Pair → List Bool → List PairVerdict
 verdicts_of o P Q [] table = []
-verdicts_of o P Q (pair ∷ pairs) table = verdict_of o P Q pair (flag_live (candidates_of pair) table) ++ verdicts_of o P Q pairs (drop (length (candidates_of pair)) table)
+verdicts_of o P Q (pair ∷ pairs) table =
+    verdict_of o P Q pair (flag_live (candidates_of pair) table)
+    ++ verdicts_of o P Q pairs (drop (length (candidates_of pair)) table)
 
 -- no pair that is said to be safe has a new failure
 abbrev pub NoNewFailure : Program → Program → List PairVerdict → Type 0
@@ -83,4 +91,6 @@ pub record IsSpentPair (P Q : Program) (deaths : List Death) (f g : Text) : Type
 
 -- each pair that is said to be unknown, though no search for a candidate of it was spent, has one
 abbrev pub AreNewFailures : Program → Program → List Death → List PairVerdict → Type 0
-AreNewFailures P Q deaths verdicts = AllByRecursion (λ v. v.state ≡ Unknown → (IsSpentPair P Q deaths v.old v.new → ⊥) → NewFailure P Q v.old v.new) verdicts
+AreNewFailures P Q deaths verdicts =
+    AllByRecursion (λ v. v.state ≡ Unknown → (IsSpentPair P Q deaths v.old v.new → ⊥)
+    → NewFailure P Q v.old v.new) verdicts

@@ -9,7 +9,15 @@ use Rattle.sd_run.specs.Outcome.{Outcome}
 
 -- what a run came to that wrote this text, with what it tells of the pairs, and this certificate
 abbrev pub outcome : ℕ → List ℕ → Option (List ℕ × List ℕ) → Ended → Outcome
-outcome status text certificate e = record { status = status; text = text; pairs = e.pairs.items; table = e.table.items; deaths = e.deaths.items; certificate = certificate }
+outcome status text certificate e =
+    record {
+      status = status;
+      text = text;
+      pairs = e.pairs.items;
+      table = e.table.items;
+      deaths = e.deaths.items;
+      certificate = certificate;
+    }
 
 -- the length of a certificate, if there is one
 abbrev pub certificate_size : Option (List ℕ × List ℕ) → ℕ
@@ -36,12 +44,16 @@ IsBroken Cut = Unit {0}
 IsBroken _ = ⊥
 
 -- What the files hold. All others stay. Where the start failed nothing is said of the certificate's own.
-abbrev pub FilesAfter : {D : Type 0} → (D → List ℕ → Option (List ℕ)) → D → D → Option (List ℕ × List ℕ) → CertificateFile → Type 0
+abbrev pub FilesAfter :
+    {D : Type 0} → (D → List ℕ → Option (List ℕ)) → D → D → Option (List ℕ × List ℕ) → CertificateFile → Type 0
 FilesAfter content old new certificate Untouched = AllStay content old new
 FilesAfter content old new None _ = ⊥
 FilesAfter content old new (Some file) NotStarted = OthersStay content old new file.0
-FilesAfter content old new (Some file) Cut = OthersStay content old new file.0 × ((count : ℕ) × (content new file.0 ≡ appended (emptied (content old file.0)) (take count file.1)))
-FilesAfter content old new (Some file) Whole = OthersStay content old new file.0 × (content new file.0 ≡ appended (emptied (content old file.0)) file.1)
+FilesAfter content old new (Some file) Cut =
+    OthersStay content old new file.0
+    × ((count : ℕ) × (content new file.0 ≡ appended (emptied (content old file.0)) (take count file.1)))
+FilesAfter content old new (Some file) Whole =
+    OthersStay content old new file.0 × (content new file.0 ≡ appended (emptied (content old file.0)) file.1)
 
 -- the count of the certificate's file rose
 abbrev pub FileRose : Option (List ℕ × List ℕ) → (List ℕ → ℕ) → (List ℕ → ℕ) → Type 0

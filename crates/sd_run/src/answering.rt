@@ -45,10 +45,13 @@ fn judge_texts<'a, F: Files>(
     matched: &Matched,
 ) -> Result<Reply<'a>, Stop>
     requires { IsMatched matched.now }
-    ensures reply { IfOk result (λ reply. IsTaskReply (task_of task.entry) (F.content files.old) (texts_of matched.now.old matched.now.new) (outcome_of reply)) }
-    ensures cause { IsErrOf result Stop.Failed → CertificateRose (task_of task.entry) (F.read_faults files.old) (F.read_faults files.new) }
+    ensures reply { IfOk result (λ reply. IsTaskReply (task_of task.entry) (F.content files.old)
+        (texts_of matched.now.old matched.now.new) (outcome_of reply)) }
+    ensures cause { IsErrOf result Stop.Failed → CertificateRose (task_of task.entry) (F.read_faults files.old)
+        (F.read_faults files.new) }
     ensures stay { AllStay F.content files.old files.new }
-    ensures no_fault { result ≢ Err Stop.Failed → NoFault F.read_faults F.start_faults F.append_faults files.old files.new }
+    ensures no_fault { result ≢ Err Stop.Failed
+        → NoFault F.read_faults F.start_faults F.append_faults files.old files.new }
 {
     match task {
         Task::Verify(name) => Ok(compare(alloc, matched, name)?),
@@ -66,10 +69,13 @@ fn reply_on<'a, F: Files>(
 ) -> Result<Reply<'a>, Stop>
     requires old_accepted { IsAccepted old.bytes.items old.program }
     requires new_accepted { IsAccepted new.bytes.items new.program }
-    ensures reply { IfOk result (λ reply. IsTextsReply (task_of task.entry) (F.content files.old) (texts_of old new) (outcome_of reply)) }
-    ensures cause { IsErrOf result Stop.Failed → CertificateRose (task_of task.entry) (F.read_faults files.old) (F.read_faults files.new) }
+    ensures reply { IfOk result (λ reply. IsTextsReply (task_of task.entry) (F.content files.old) (texts_of old new)
+        (outcome_of reply)) }
+    ensures cause { IsErrOf result Stop.Failed → CertificateRose (task_of task.entry) (F.read_faults files.old)
+        (F.read_faults files.new) }
     ensures stay { AllStay F.content files.old files.new }
-    ensures no_fault { result ≢ Err Stop.Failed → NoFault F.read_faults F.start_faults F.append_faults files.old files.new }
+    ensures no_fault { result ≢ Err Stop.Failed
+        → NoFault F.read_faults F.start_faults F.append_faults files.old files.new }
 {
     match match_texts(alloc, old, new) {
         Ok(matched) => judge_texts(alloc, files, task, &matched),
@@ -83,9 +89,12 @@ pub fn reply_to<'a, F: Files>(
     words: &'a [String],
     files: &mut F,
 ) -> Result<Reply<'a>, Stop>
-    ensures answer { IfOk result (λ reply. Answer (map string_bytes words.now) (F.content files.old) (outcome_of reply)) }
-    ensures read_fault { IsErrOf result Stop.Failed → ReadRose (map string_bytes words.now) (F.read_faults files.old) (F.read_faults files.new) }
-    ensures first_fault { result ≢ Err Stop.Failed → NoFault F.read_faults F.start_faults F.append_faults files.old files.new }
+    ensures answer { IfOk result (λ reply. Answer (map string_bytes words.now) (F.content files.old)
+        (outcome_of reply)) }
+    ensures read_fault { IsErrOf result Stop.Failed → ReadRose (map string_bytes words.now) (F.read_faults files.old)
+        (F.read_faults files.new) }
+    ensures first_fault { result ≢ Err Stop.Failed
+        → NoFault F.read_faults F.start_faults F.append_faults files.old files.new }
     ensures stay { AllStay F.content files.old files.new }
 {
     let Some(job) = job_named(words) else {

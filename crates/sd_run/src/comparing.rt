@@ -27,7 +27,8 @@ fn certify<'a>(
     name: Option<&'a str>,
 ) -> Result<Option<NamedCertificate<'a>>, NoMemory>
     requires ascend { Ascend 0 (length (claims_in matched.now.work)) (proved_of proofs.now) }
-    ensures { IfOk result (λ made. IsMade (texts_of matched.now.old matched.now.new) matched.now.work proofs.now (option_copied name.entry) (named made)) }
+    ensures { IfOk result (λ made. IsMade (texts_of matched.now.old matched.now.new) matched.now.work proofs.now
+        (option_copied name.entry) (named made)) }
 {
     let Some(name) = name else {
         return Ok(None);
@@ -43,7 +44,8 @@ pub fn compare<'a>(
     name: Option<&'a str>,
 ) -> Result<Reply<'a>, NoMemory>
     requires { IsMatched matched.now }
-    ensures { IfOk result (λ reply. IsComparison (option_copied name.entry) (texts_of matched.now.old matched.now.new) (outcome_of reply)) }
+    ensures { IfOk result (λ reply. IsComparison (option_copied name.entry) (texts_of matched.now.old matched.now.new)
+        (outcome_of reply)) }
 {
     let settled = settle_one(alloc, &matched.work, DEFAULT_LEAVES)?;
     let certificate = certify(alloc, matched, settled.proofs.as_slice(), name)?;

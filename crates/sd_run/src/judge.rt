@@ -80,7 +80,8 @@ fn put_found(
     old: Option<&CoreProc>,
     new: Option<&CoreProc>,
 ) -> Result<(), NoMemory>
-    ensures { OnOk result (verdicts.new.items ≡ verdicts.old.items ++ verdict_by otherwise pair.now live (option_copied old.entry) (option_copied new.entry)) }
+    ensures { OnOk result (verdicts.new.items ≡ verdicts.old.items
+        ++ verdict_by otherwise pair.now live (option_copied old.entry) (option_copied new.entry)) }
 {
     let Some(old) = old else {
         return Ok(());
@@ -108,7 +109,8 @@ fn put_verdict(
     live: bool,
     otherwise: Otherwise,
 ) -> Result<(), NoMemory>
-    ensures { OnOk result (verdicts.new.items ≡ verdicts.old.items ++ verdict_of otherwise work.now.old work.now.new pair.now live) }
+    ensures { OnOk result (verdicts.new.items ≡ verdicts.old.items
+        ++ verdict_of otherwise work.now.old work.now.new pair.now live) }
 {
     let old = work.old_program().procs.get(pair.old as usize);
     let new = work.new_program().procs.get(pair.new as usize);
@@ -123,7 +125,8 @@ pub fn verdicts_of(
     otherwise: Otherwise,
 ) -> Result<Vec<PairVerdict>, NoMemory>
     requires { length table.now ≡ length (claims_in work.now) }
-    ensures { IfOk result (λ verdicts. verdicts.items ≡ verdicts_of otherwise work.now.old work.now.new (pairs_in work.now) table.now) }
+    ensures { IfOk result (λ verdicts. verdicts.items ≡ verdicts_of otherwise work.now.old work.now.new
+        (pairs_in work.now) table.now) }
 {
     let pairs = work.pairs();
     let end = table.count();

@@ -12,7 +12,8 @@ use std::alloc::Global;
 
 /// The reply that names what both texts declare, with these words before.
 fn name_clash<'a>(alloc: Global, words: &[u8], name: &Name) -> Result<Reply<'a>, NoMemory>
-    ensures { IfOk result (λ reply. outcome_of reply ≡ outcome.message 4 (codes "error: match " ++ (words.now ++ name.now) ++ line_end)) }
+    ensures { IfOk result (λ reply. outcome_of reply ≡ outcome.message 4 (codes "error: match "
+        ++ (words.now ++ name.now) ++ line_end)) }
 {
     let mut line = Vec::new(alloc);
     push(&mut line, b"error: match ")?;

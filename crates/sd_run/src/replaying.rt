@@ -54,10 +54,13 @@ pub fn replay_file<'a, F: Files>(
     name: &str,
 ) -> Result<Reply<'a>, Stop>
     requires { IsMatched matched.now }
-    ensures reply { IfOk result (λ reply. IsReplayReply (F.content files.old name.now) (texts_of matched.now.old matched.now.new) (outcome_of reply)) }
-    ensures cause { IsErrOf result Stop.Failed → Rose (F.read_faults files.old name.now) (F.read_faults files.new name.now) }
+    ensures reply { IfOk result (λ reply. IsReplayReply (F.content files.old name.now)
+        (texts_of matched.now.old matched.now.new) (outcome_of reply)) }
+    ensures cause { IsErrOf result Stop.Failed → Rose (F.read_faults files.old name.now)
+        (F.read_faults files.new name.now) }
     ensures stay { AllStay F.content files.old files.new }
-    ensures no_fault { result ≢ Err Stop.Failed → NoFault F.read_faults F.start_faults F.append_faults files.old files.new }
+    ensures no_fault { result ≢ Err Stop.Failed
+        → NoFault F.read_faults F.start_faults F.append_faults files.old files.new }
 {
     let bytes = match read_up_to(alloc, files, name, CERTIFICATE_BYTES) {
         Ok(bytes) => bytes,

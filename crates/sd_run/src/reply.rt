@@ -100,7 +100,9 @@ pub fn report_on(
 ) -> Result<Report, NoMemory>
     requires matched { IsMatched matched.now }
     requires size { length table.now ≡ length (claims_in matched.now.work) }
-    ensures { IfOk result (λ report. (deaths : List Death) (certificate : Option (List ℕ × List ℕ)) → IsReport otherwise (texts_of matched.now.old matched.now.new) table.now (outcome_with report deaths certificate)) }
+    ensures { IfOk result (λ report. (deaths : List Death) (certificate : Option (List ℕ × List ℕ))
+        → IsReport otherwise (texts_of matched.now.old matched.now.new) table.now
+        (outcome_with report deaths certificate)) }
 {
     let work = &matched.work;
     let pairs = verdicts_of(alloc, work, table, otherwise)?;

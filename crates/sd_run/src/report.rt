@@ -85,7 +85,8 @@ fn push_all_only(
     procs: &[CoreProc],
     others: &Procedures<'_>,
 ) -> Result<(), NoMemory>
-    ensures { OnOk result (out.new.items ≡ out.old.items ++ flat_map (only_line word.now others.now.procs.now) procs.now) }
+    ensures { OnOk result (out.new.items ≡ out.old.items
+        ++ flat_map (only_line word.now others.now.procs.now) procs.now) }
 {
     'procs: for proc in procs {
         push_only(out, word, proc, others)?;

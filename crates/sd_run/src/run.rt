@@ -66,7 +66,8 @@ fn write_certificate<F: Files>(
         → FileRose (named certificate.now) (F.start_faults files.old) (F.start_faults files.new) }
     ensures cut { result ≡ CertificateFile.Cut
         → FileRose (named certificate.now) (F.append_faults files.old) (F.append_faults files.new) }
-    ensures no_fault { (IsBroken result → ⊥) → NoFault F.read_faults F.start_faults F.append_faults files.old files.new }
+    ensures no_fault { (IsBroken result → ⊥)
+        → NoFault F.read_faults F.start_faults F.append_faults files.old files.new }
 {
     let Some(file) = certificate else {
         return CertificateFile::Untouched;
@@ -107,7 +108,8 @@ fn end_with(reply: Reply<'_>, code: u8, certificate_file: CertificateFile) -> En
     ensures status { result.status.code ≡ code }
     ensures file { result.certificate_file ≡ certificate_file }
     ensures length { result.certificate_length ≡ certificate_size (named reply.entry.certificate) }
-    ensures outcome { outcome reply.entry.status reply.entry.text.items (named reply.entry.certificate) result ≡ outcome_of reply.entry }
+    ensures outcome { outcome reply.entry.status reply.entry.text.items
+        (named reply.entry.certificate) result ≡ outcome_of reply.entry }
 {
     Ended {
         status: Status { code },
@@ -155,25 +157,30 @@ pub fn run<R: Threads + Sync, F: Files, S: Sink, G: Gate>(
         × IsCutShort certificate result.certificate_file text (S.written out.old) (S.written out.new) }
 
     // With 6 and 8 nothing was written, and nothing is said of pairs.
-    ensures silent { (result.status.code ≡ 6) ⊎ (result.status.code ≡ 8) → SaysNothing result × AllStay F.content files.old files.new × (S.written out.new ≡ S.written out.old) }
+    ensures silent { (result.status.code ≡ 6) ⊎ (result.status.code ≡ 8) → SaysNothing result
+        × AllStay F.content files.old files.new × (S.written out.new ≡ S.written out.old) }
 
     // The faults have their causes, and the first one ends the run.
-    ensures read_fault { result.status.code ≡ 6 → ReadRose (map string_bytes words.now) (F.read_faults files.old) (F.read_faults files.new) }
+    ensures read_fault { result.status.code ≡ 6 → ReadRose (map string_bytes words.now) (F.read_faults files.old)
+        (F.read_faults files.new) }
     ensures write_fault { result.status.code ≡ 7
         → (result.certificate_file ≡ CertificateFile.NotStarted
         → CertificateWriteRose (map string_bytes words.now) (F.start_faults files.old) (F.start_faults files.new))
         × (result.certificate_file ≡ CertificateFile.Cut
         → CertificateWriteRose (map string_bytes words.now) (F.append_faults files.old) (F.append_faults files.new))
         × ((IsBroken result.certificate_file → ⊥) → Rose (S.faults out.old) (S.faults out.new)) }
-    ensures first_fault { result.status.code ≢ 6 → (IsBroken result.certificate_file → ⊥) → NoFault F.read_faults F.start_faults F.append_faults files.old files.new }
-    ensures first_write_fault { result.status.code ≢ 7 ⊎ IsBroken result.certificate_file → S.faults out.new ≡ S.faults out.old }
+    ensures first_fault { result.status.code ≢ 6 → (IsBroken result.certificate_file → ⊥)
+        → NoFault F.read_faults F.start_faults F.append_faults files.old files.new }
+    ensures first_write_fault { result.status.code ≢ 7 ⊎ IsBroken result.certificate_file
+        → S.faults out.new ≡ S.faults out.old }
 
     // Where a pair is said to be safe, no meaning and no equal input let the old procedure end while the new one fails.
     ensures headline { Headline (map string_bytes words.now) (F.content files.old) result.pairs.items }
 
     // Where a pair is said to be unknown, no search for a candidate of it was spent, and the texts are over truth values without
     // calls and loops, such an input is there.
-    ensures unknown { UnknownIsFailure (map string_bytes words.now) (F.content files.old) result.deaths.items result.pairs.items }
+    ensures unknown { UnknownIsFailure (map string_bytes words.now)
+        (F.content files.old) result.deaths.items result.pairs.items }
 {
     let reply = match reply_to(alloc, words, files) {
         Ok(reply) => reply,

@@ -83,13 +83,16 @@ fn accept(alloc: Global, bytes: &[u8]) -> Result<Typed, TextFault>
 pub fn read_text<F: Files>(alloc: Global, files: &mut F, name: &str) -> Result<Text, TextFault>
     ensures content { IfOk result (λ text. Holds (F.content files.old name.now) text.bytes.items) }
     ensures accepted { IfOk result (λ text. IsAccepted text.bytes.items text.program) }
-    ensures refused { (r : Refusal) → result ≡ Err (TextFault.Refused r) → WhereKnown (F.content files.old name.now) (λ bytes. IsTextRefusal bytes r) }
-    ensures cause { result ≡ Err TextFault.Failed → Rose (F.read_faults files.old name.now) (F.read_faults files.new name.now) }
+    ensures refused { (r : Refusal) → result ≡ Err (TextFault.Refused r)
+        → WhereKnown (F.content files.old name.now) (λ bytes. IsTextRefusal bytes r) }
+    ensures cause { result ≡ Err TextFault.Failed → Rose (F.read_faults files.old name.now)
+        (F.read_faults files.new name.now) }
     ensures stay { AllStay F.content files.old files.new }
     ensures reads { NeverFall (F.read_faults files.old) (F.read_faults files.new) }
     ensures starts { NeverFall (F.start_faults files.old) (F.start_faults files.new) }
     ensures appends { NeverFall (F.append_faults files.old) (F.append_faults files.new) }
-    ensures no_fault { result ≢ Err TextFault.Failed → NoFault F.read_faults F.start_faults F.append_faults files.old files.new }
+    ensures no_fault { result ≢ Err TextFault.Failed
+        → NoFault F.read_faults F.start_faults F.append_faults files.old files.new }
 {
     let bytes = match read_up_to(alloc, files, name, TEXT_BYTES) {
         Ok(bytes) => bytes,
