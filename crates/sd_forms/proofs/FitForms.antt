@@ -1,6 +1,8 @@
 -- the form of each tree is within the bounds
 use Rattle.std.proofs.Common.{◌≡◌, ℕ, zero, suc, ◌≤◌, ◌^◌, List, [], ◌∷◌, ◌++◌, map, take, arith, pos, negsuc, unsigned_abs, subst, sym, Ok, Err}
 use Rattle.std.specs.Prelude.{Result, IfOk}
+use Rattle.std.specs.List.{AllByRecursion}
+use Rattle.sd_base.proofs.Lists.{all-push}
 use Rattle.sd_term.specs.declared.node.Head.{Head}
 use Rattle.sd_term.specs.declared.node.Head.TheVariants.{Num}
 use Rattle.sd_term.specs.Heads.{Add, Sub, Mul, Neg}
@@ -12,12 +14,7 @@ use Rattle.sd_rows.proofs.FormLemmas.{IsFit-column, IsFit-number, IsFit-bounded,
 use Rattle.sd_forms.specs.LinearForms.{place_of, form_at, form_by, form_of}
 
 abbrev pub AllFit : List Form → Type 0
-AllFit [] = Unit {0}
-AllFit (f ∷ fs) = IsFit f × AllFit fs
-
-fit-snoc : (fs : List Form) (f : Form) → AllFit fs → IsFit f → AllFit (fs ++ f ∷ [])
-fit-snoc [] f a h = (h, tt)
-fit-snoc (g ∷ fs) f a h = (a.0, fit-snoc fs f a.1 h)
+AllFit fs = AllByRecursion IsFit fs
 
 pub IsFit-at : (fs : List Form) (k : ℕ) → AllFit fs → IsFit (form_at fs k)
 IsFit-at [] k a = IsFit-number (pos 0) (omega arith)
@@ -35,7 +32,7 @@ IsFit-by _ k fs a = IsFit-column k
 AllFit-parts : (terms : List Tree) (t : Tree) → AllFit (at_parts (λ u fs. form_by (head_of u) (place_of terms u) fs) t)
 AllFit-parts terms (leaf h) = tt
 AllFit-parts terms (call f x) =
-    fit-snoc (at_parts (λ u fs. form_by (head_of u) (place_of terms u) fs) f) (form_of terms x) (AllFit-parts terms f)
+    all-push IsFit (at_parts (λ u fs. form_by (head_of u) (place_of terms u) fs) f) (form_of terms x) (AllFit-parts terms f)
     (IsFit-by (head_of x) (place_of terms x) (at_parts (λ u fs. form_by (head_of u) (place_of terms u) fs) x) (AllFit-parts terms x))
 
 pub IsFit-form_of : (terms : List Tree) (t : Tree) → IsFit (form_of terms t)

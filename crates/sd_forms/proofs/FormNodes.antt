@@ -4,6 +4,7 @@ use Rattle.sd_term.specs.declared.node.Head.{Head}
 use Rattle.sd_term.specs.declared.node.Head.TheVariants.{Num}
 use Rattle.sd_term.specs.declared.node.TermNode.{TermNode}
 use Rattle.sd_term.specs.Heads.{True, Add, Sub, Mul, Neg}
+use Rattle.sd_base.proofs.Lists.{get_or-map_none}
 use Rattle.std.proofs.lemmas.List.{get_or-map, get_or-take, length-take}
 use Rattle.sd_term.specs.Tree.{Tree, leaf, head_of}
 use Rattle.sd_term.specs.Closed.{IsClosed}
@@ -43,9 +44,7 @@ forms-parts f ts n (p ∷ ps) l a =
 
 -- the part that is not there
 pub form_at-none : (g : ℕ → Form) (ps : List ℕ) (k : ℕ) → slice_get ps k ≡ None → form_at (map g ps) k ≡ constant (pos 0)
-form_at-none g [] k e = refl
-form_at-none g (q ∷ ps) zero e = cc
-form_at-none g (q ∷ ps) (suc k) e = form_at-none g ps k e
+form_at-none g ps k e = get_or-map_none g ps k (constant (pos 0)) e
 
 pub form_of-next : (terms : List Tree) (forms : List Form) (node : TermNode) (id : ℕ) → id < length terms → AreDistinct terms → tree_of terms node ≡ tree_at terms id → PartsBelow id node
     → forms ≡ map (form_of terms) (take id terms)
