@@ -25,9 +25,7 @@ use Rattle.sd_linear.proofs.Marking.{marked-within}
 
 row_made-more : (inputs before more : List Row) (s : RowStep) → IsStep inputs before s → row_made inputs (before ++ more) s ≡ row_made inputs before s
 row_made-more inputs before more (Input i) h = refl
-row_made-more inputs before more (Add a m b n) h =
-    ap (λ (r : Row). added m r n (slice_index_or (before ++ more) b nothing)) (at-front before more a h.0)
-    ∙ ap (λ (r : Row). added m (slice_index_or before a nothing) n r) (at-front before more b h.1)
+row_made-more inputs before more (Add a m b n) h = λ i. added m (at-front before more a h.0 i) n (at-front before more b h.1 i)
 row_made-more inputs before more (Cut a) h = ap reduced (at-front before more a h)
 
 IsStep-more : (inputs before more : List Row) (s : RowStep) → IsStep inputs before s → IsStep inputs (before ++ more) s
@@ -110,8 +108,7 @@ IsStep-renumbered inputs all made numbers (Cut a) h f = (f a (eq-eqb a a refl)).
 row_made-renumbered : (inputs all made : List Row) (numbers : List ℕ) (s : RowStep) → ((j : ℕ) → names s j ≡ true → Matches numbers all made j) → row_made inputs made (renumbered numbers s) ≡ row_made inputs all s
 row_made-renumbered inputs all made numbers (Input i) f = refl
 row_made-renumbered inputs all made numbers (Add a m b n) f =
-    ap (λ (r : Row). added m r n (slice_index_or made (number_of numbers b) nothing)) (f a (names-first (Add a m b n) a m b n refl)).row
-    ∙ ap (λ (r : Row). added m (slice_index_or all a nothing) n r) (f b (names-second (Add a m b n) a m b n refl)).row
+    λ i. added m ((f a (names-first (Add a m b n) a m b n refl)).row i) n ((f b (names-second (Add a m b n) a m b n refl)).row i)
 row_made-renumbered inputs all made numbers (Cut a) f = ap reduced (f a (eq-eqb a a refl)).row
 
 IsUseful-renumbered : (all made : List Row) (numbers : List ℕ) (s : RowStep) → ((j : ℕ) → names s j ≡ true → Matches numbers all made j) → IsUseful all s → IsUseful made (renumbered numbers s)

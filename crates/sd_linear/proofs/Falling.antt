@@ -53,12 +53,7 @@ one_at k j = if j == k then pos 1 else pos 0
 factor-sum : (k : ℕ) (ps : Parts) → IsAscending ps → sum_at (one_at k) ps ≡ factor_of k ps
 unfolding one_at
 factor-sum k [] a = refl
-factor-sum k (p ∷ ps) a = go (p.0 == k) refl (factor-sum k ps a.1)
-  where
-    go : (b : Bool) → (p.0 == k) ≡ b → sum_at (one_at k) ps ≡ factor_of k ps
-        → p.1 *ℤ (if b then pos 1 else pos 0) +ℤ sum_at (one_at k) ps ≡ (if b then p.1 else factor_of k ps)
-    go true e i = let z : sum_at (one_at k) ps ≡ pos 0 = i ∙ same-above k ps (subst (λ (j : ℕ). AllAbove j ps) (eqb-true p.0 k e) a.0) in omega (arith, ints)
-    go false e i = let z : p.1 *ℤ pos 0 ≡ pos 0 = omega (arith, ints) in omega (arith, ints)
+factor-sum k (p ∷ ps) a = grind (arith, ints, factor-sum k ps a.1, λ (e : p.0 ≡ k). same-above k ps (subst (λ (j : ℕ). AllAbove j ps) e a.0))
 
 pub factor_of-added : (k m n : ℕ) (r s : Row) → 1 ≤ m → 1 ≤ n → IsProper r.parts → IsProper s.parts → factor_of k (added m r n s).parts ≡ pos m *ℤ factor_of k r.parts +ℤ pos n *ℤ factor_of k s.parts
 factor_of-added k m n r s h i p q =

@@ -61,24 +61,15 @@ pub record Strengthens (ks : List ℕ) (r : List Row) (old new : List Row) : Typ
   pub listed : AllListed ks new
   pub stronger : (x : ℕ → ℤ) → AllHold x new → AllHold x old × AllHold x r
 
+Holds-empty : (x : ℕ → ℤ) (ps : Parts) (b : ℤ) → is_empty ps ≡ true → int_lt b (pos 0) ≡ false → sum_at x ps ≤ℤ b
+Holds-empty x [] b f g = omega (arith, ints)
+Holds-empty x (p ∷ ps) b f g = absurd (cc)
+
 with_reduced-strengthens : (ks : List ℕ) (s : Row) (rows new : List Row) → IsGood ks s → AllListed ks rows → with_reduced s rows ≡ continues new → AllListed ks new × ((x : ℕ → ℤ) → AllHold x new → AllHold x rows × Holds x s)
-with_reduced-strengthens ks s rows new h a e = go (is_empty s.parts) refl (int_lt s.bound (pos 0)) refl (nat_le (length (joined s rows)) 20000) e
-  where
-    go : (b : Bool) → is_empty s.parts ≡ b → (c : Bool) → int_lt s.bound (pos 0) ≡ c → (d : Bool)
-        → (if b then (if c then ends refuted else continues rows) else (if d then continues (joined s rows) else ends many)) ≡ continues new
-        → AllListed ks new × ((x : ℕ → ℤ) → AllHold x new → AllHold x rows × Holds x s)
-    go true f true g d i = absurd (cc)
-    go true f false g d i =
-        let j : rows ≡ new = cc in
-        (subst (AllListed ks) j a, λ x k. (subst (AllHold x) (sym j) k, empty x s.parts s.bound f g))
-      where
-        empty : (x : ℕ → ℤ) (ps : Parts) (b : ℤ) → is_empty ps ≡ true → int_lt b (pos 0) ≡ false → sum_at x ps ≤ℤ b
-        empty x [] b f g = omega (arith, ints)
-        empty x (p ∷ ps) b f g = absurd (cc)
-    go false f c g true i =
-        let j : joined s rows ≡ new = cc in
-        (subst (AllListed ks) j (AllListed-joined ks s rows (record { good = h; full = f }) a), λ x k. AllHold-joined x s rows (subst (AllHold x) (sym j) k))
-    go false f c g false i = absurd (cc)
+with_reduced-strengthens ks s rows new h a e = (
+  grind (arith, a, λ (f : is_empty s.parts ≡ false). AllListed-joined ks s rows (record { good = h; full = f }) a),
+  λ x k. grind (arith, k, Holds-empty x s.parts s.bound, AllHold-joined x s rows),
+)
 
 IsGood-reduced : (ks : List ℕ) (r : Row) → IsGood ks r → IsGood ks (reduced r)
 IsGood-reduced ks r h = record { proper = IsProper-reduced r h.proper; columns = ColumnsIn-over ks (greatest_divisor (sizes r.parts)) r.parts h.columns }
