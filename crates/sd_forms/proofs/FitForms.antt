@@ -1,5 +1,5 @@
 -- the form of each tree is within the bounds
-use Rattle.std.proofs.Common.{◌≡◌, ℕ, zero, suc, ◌≤◌, ◌^◌, List, [], ◌∷◌, ◌++◌, map, take, arith, pos, negsuc, unsigned_abs, subst, sym, Ok, Err}
+use Rattle.std.proofs.Common.{◌≡◌, ℕ, zero, suc, ◌≤◌, ◌^◌, List, [], ◌∷◌, map, take, arith, pos, negsuc, unsigned_abs, subst, sym, Ok, Err}
 use Rattle.std.specs.Prelude.{Result, IfOk}
 use Rattle.std.specs.List.{AllByRecursion}
 use Rattle.sd_base.proofs.Lists.{all-push}

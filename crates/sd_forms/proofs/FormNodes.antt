@@ -1,5 +1,5 @@
 -- the form of a node's tree, from the forms of its parts
-use Rattle.std.proofs.Common.{◌≡◌, ℕ, zero, suc, subst, ◌<◌, ◌≤◌, List, [], ◌∷◌, map, take, get_or, All, refl, sym, ap, ◌∙◌, length, arith, pos, slice_get, None}
+use Rattle.std.proofs.Common.{◌≡◌, ℕ, suc, subst, ◌<◌, ◌≤◌, List, [], ◌∷◌, map, take, get_or, All, refl, sym, ap, ◌∙◌, length, arith, pos, slice_get, None}
 use Rattle.sd_term.specs.declared.node.Head.{Head}
 use Rattle.sd_term.specs.declared.node.Head.TheVariants.{Num}
 use Rattle.sd_term.specs.declared.node.TermNode.{TermNode}

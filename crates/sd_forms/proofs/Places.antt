@@ -1,6 +1,6 @@
 -- the least number of a tree
-use Rattle.std.proofs.Common.{◌≡◌, ℕ, suc, ◌<◌, List, [], ◌∷◌, ◌++◌, refl, ap, Bool, true, false, cond, ◌||◌, length, arith}
-use Rattle.sd_term.specs.Tree.{Tree, same_tree, same_tree-true}
+use Rattle.std.proofs.Common.{◌≡◌, ℕ, ◌<◌, List, [], ◌∷◌, ◌++◌, refl, true, false, length, arith}
+use Rattle.sd_term.specs.Tree.{Tree, same_tree-true}
 use Rattle.sd_term.specs.Bank.{tree_at}
 use Rattle.sd_term.specs.Numbering.{has}
 use Rattle.sd_term.specs.Distinct.{AreDistinct}

@@ -1,5 +1,5 @@
 -- a well-sorted comparison has two parts
-use Rattle.std.proofs.Common.{◌≡◌, ℕ, suc, ◌<◌, List, [], ◌∷◌, ◌++◌, map, length, get_or, slice_get, Some, None, zero, refl, sym, ap, ◌∙◌, Bool, true, false, ◌||◌, ◌&&◌, arith, length-append}
+use Rattle.std.proofs.Common.{◌≡◌, ℕ, ◌<◌, List, [], ◌∷◌, length, get_or, slice_get, Some, None, refl, sym, ap, ◌∙◌, Bool, true, false, ◌||◌, ◌&&◌, arith, length-append}
 use Rattle.sd_base.specs.declared.sort.Sort.{Sort, Int}
 use Rattle.sd_term.specs.declared.node.Head.{Head}
 use Rattle.sd_term.specs.declared.node.Head.TheVariants.{Op as Plain}

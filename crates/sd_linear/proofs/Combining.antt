@@ -1,16 +1,13 @@
 -- rows in which a column falls away
-use Rattle.std.proofs.Common.{◌≡◌, ◌≢◌, ℕ, zero, suc, ◌+◌, ◌<◌, ◌≤◌, ◌^◌, List, [], ◌∷◌, ◌++◌, length, refl, sym, ap, ◌∙◌, subst, Bool, true, false, cond, not, map, arith, nat_le, unsigned_abs, filter, drop, get_or, append_assoc, append-nil, add-one, drop-cons, ◌==◌}
+use Rattle.std.proofs.Common.{◌≡◌, ◌≢◌, ℕ, zero, suc, ◌+◌, ◌<◌, ◌≤◌, ◌^◌, List, [], ◌∷◌, ◌++◌, length, refl, sym, ap, ◌∙◌, subst, Bool, true, false, map, arith, unsigned_abs, filter, drop, get_or, append_assoc, append-nil, add-one, drop-cons}
 use Rattle.std.proofs.Common.{ℤ, pos, ◌≤ℤ◌, ◌<ℤ◌}
-use Rattle.std.specs.Prelude.{int_lt}
 use Rattle.std.proofs.lemmas.Int.{ints}
-use Rattle.std.specs.Prelude.{if◌then◌else◌}
 use Rattle.std.specs.List.{flat_map}
 use Rattle.std.proofs.lemmas.Bool.Decides.{nat_tests}
 use Rattle.sd_rows.specs.declared.row.Row.{Row}
 use Rattle.sd_linear.specs.declared.list.DerivedRow.{DerivedRow}
 use Rattle.sd_rows.specs.Rows.{Part, Parts, AllAbove, IsAscending, IsProper, are_small, is_within, AllComputable}
 use Rattle.sd_rows.specs.RowOps.{added, times, same_number}
-use Rattle.sd_rows.proofs.Integers.{same_number_is}
 use Rattle.sd_linear.specs.Elimination.{factor_of, combined, combined_with, combinations, eliminated, is_positive, is_negative, is_free, Next, continues, ends, after, come_in, all_come_in}
 use Rattle.sd_linear.specs.declared.step.RowStep.{RowStep}
 use Rattle.sd_linear.specs.declared.elimination.Stop.{Stop}
@@ -20,7 +17,6 @@ use Rattle.sd_linear.specs.DerivedRows.{rows_of, default_row, IsDerivedRow, AreD
 use Rattle.sd_linear.specs.Answers.{Stops}
 use Rattle.sd_linear.proofs.Coming.{all_come_in-append}
 use Rattle.sd_linear.proofs.Deriving.{AreDerivedRows-extended}
-use Rattle.sd_rows.proofs.Cuts.{and-left, and-right}
 use Rattle.sd_rows.proofs.Proper.{IsProper-sum_of, IsProper-times}
 
 pub IsProper-added : (m n : ℕ) (r s : Row) → 1 ≤ m → 1 ≤ n → IsProper r.parts → IsProper s.parts → IsProper (added m r n s).parts

@@ -1,6 +1,6 @@
 -- what more steps derive
-use Rattle.std.proofs.Common.{◌≡◌, ℕ, zero, suc, ◌+◌, ◌<◌, ◌≤◌, List, [], ◌∷◌, ◌++◌, length, refl, sym, ap, ◌∙◌, subst, Bool, true, false, arith, append_assoc, append-nil, length-append, nat_le, unsigned_abs}
-use Rattle.std.proofs.Common.{ℤ, pos, negsuc, ◌^◌}
+use Rattle.std.proofs.Common.{◌≡◌, ℕ, zero, suc, ◌+◌, ◌<◌, ◌≤◌, List, [], ◌∷◌, ◌++◌, length, refl, sym, ap, ◌∙◌, subst, Bool, true, false, arith, append_assoc, append-nil, length-append, unsigned_abs}
+use Rattle.std.proofs.Common.{ℤ, pos, negsuc}
 use Rattle.std.specs.Prelude.{slice_index_or, int_div}
 use Rattle.std.proofs.lemmas.Int.{ints}
 use Rattle.std.proofs.Math.Nat.{div-le_self}
@@ -16,7 +16,7 @@ use Rattle.sd_linear.specs.RowSteps.{row_made, made_from, rows_made, IsStep, Are
 use Rattle.sd_linear.specs.Values.{AllWithin}
 use Rattle.sd_rows.specs.Rows.{nothing, IsAbsurd}
 use Rattle.sd_linear.specs.DerivedRows.{IsDerivedRow, AreDerivedRows, with_cut}
-use Rattle.sd_rows.proofs.Cuts.{greatest_divisor-divides, and-left, and-right}
+use Rattle.sd_rows.proofs.Cuts.{greatest_divisor-divides}
 use Rattle.sd_rows.proofs.Proper.{IsProper-over}
 
 pub length-made_from : (inputs before : List Row) (ss : List RowStep) → length (made_from inputs before ss) ≡ length before + length ss

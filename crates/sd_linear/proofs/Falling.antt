@@ -1,14 +1,14 @@
 -- the columns of rows, and how one falls away
-use Rattle.std.proofs.Common.{◌≡◌, ◌⊎◌, inl, inr, ℕ, ◌+◌, ◌*◌, ◌/◌, ◌%◌, ◌≤◌, List, [], ◌∷◌, refl, sym, ap, ◌∙◌, subst, Bool, true, false, arith, nat_lt, ◌==◌, unsigned_abs}
+use Rattle.std.proofs.Common.{◌≡◌, ◌⊎◌, inl, inr, ℕ, ◌+◌, ◌*◌, ◌/◌, ◌%◌, ◌≤◌, List, [], ◌∷◌, refl, sym, ap, ◌∙◌, subst, true, arith, ◌==◌, unsigned_abs}
 use Rattle.std.proofs.Common.{ℤ, pos, negsuc, ◌+ℤ◌, ◌*ℤ◌, ◌<ℤ◌}
 use Rattle.std.specs.Prelude.{if◌then◌else◌}
 use Rattle.std.proofs.lemmas.Int.{ints}
 use Rattle.std.proofs.lemmas.Nat.{div-add-mod'}
-use borrow.Author.Tests.{eqb-true, eqb-false}
+use borrow.Author.Tests.{eqb-true}
 use Rattle.sd_rows.specs.declared.row.Row.{Row}
 use Rattle.sd_rows.specs.Rows.{Part, Parts, sum_at, AllAbove, IsAscending, HasNoZero, IsProper}
 use Rattle.sd_rows.specs.Divisors.{greatest_divisor, divides_all}
-use Rattle.sd_rows.specs.RowOps.{same_number, unless_zero, with_part, sum_of, times, over, added}
+use Rattle.sd_rows.specs.RowOps.{unless_zero, with_part, sum_of, times, over, added}
 use Rattle.sd_linear.specs.Elimination.{factor_of, with_column, with_columns, columns_and, columns}
 use Rattle.sd_rows.proofs.Sums.{sum_at-sum_of, sum_at-times}
 use Rattle.sd_rows.proofs.Cuts.{greatest_divisor-divides, and-left, and-right}

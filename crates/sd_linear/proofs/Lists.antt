@@ -1,6 +1,6 @@
 -- how a row joins a list
-use Rattle.std.proofs.Common.{◌≡◌, ℕ, zero, suc, ◌+◌, ◌<◌, ◌≤◌, List, [], ◌∷◌, ◌++◌, length, get_or, set, refl, ap, ◌∙◌, Bool, true, false, not, cond, arith, ◌==◌, nat_eq, nat_lt, ◌&&◌, Some, None}
-use Rattle.std.specs.Prelude.{if◌then◌else◌, int_lt}
+use Rattle.std.proofs.Common.{◌≡◌, ℕ, zero, suc, ◌<◌, ◌≤◌, List, [], ◌∷◌, ◌++◌, length, get_or, set, refl, ap, Bool, true, false, not, arith, ◌==◌, nat_eq, ◌&&◌, Some, None}
+use Rattle.std.specs.Prelude.{int_lt}
 use Rattle.std.specs.List.{position, prefix_len}
 use Rattle.std.specs.Ordering.{int_eq}
 use Rattle.std.proofs.lemmas.List.Quantifiers.{position-Some}

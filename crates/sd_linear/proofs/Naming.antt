@@ -1,5 +1,5 @@
 -- the steps from which a step is made
-use Rattle.std.proofs.Common.{◌≡◌, ℕ, refl, ap, ◌∙◌, Bool, true, false, ◌==◌, ◌||◌}
+use Rattle.std.proofs.Common.{◌≡◌, ℕ, refl, ap, ◌∙◌, true, ◌==◌}
 use borrow.Author.Tests.{eq-eqb}
 use Rattle.std.proofs.Math.Bool.{or-true}
 use Rattle.sd_linear.specs.declared.step.RowStep.{RowStep}

@@ -7,7 +7,7 @@ use Rattle.std.proofs.lemmas.List.Quantifiers.{position-Some}
 use Rattle.std.specs.List.{list_any, position, IsDistinct, AllByRecursion}
 use Rattle.indexmap.specs.IndexSet.{insert_key}
 use Rattle.sd_term.specs.declared.node.TermNode.{TermNode}
-use Rattle.sd_term.specs.Tree.{Tree, same_tree, same_tree-true}
+use Rattle.sd_term.specs.Tree.{Tree, same_tree-true}
 use Rattle.sd_term.specs.Bank.{tree_at, tree_of, trees, PartsBelow}
 use Rattle.sd_term.specs.BankInvariant.{AreShared, IsBank}
 use Rattle.sd_base.specs.declared.sort.Sort.{Sort}
