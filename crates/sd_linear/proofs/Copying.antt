@@ -137,17 +137,6 @@ pub record Copies (steps : List RowStep) (marks : List Bool) (i : ℕ) (numbers 
   pub latest : (k : ℕ) → k + 1 ≡ i → is_marked marks k ≡ true → number_of numbers k + 1 ≡ length kept
   pub rows_kept : (inputs : List Row) → AreSteps inputs [] steps → AllWithin (rows_made inputs steps) → AreUseful inputs [] steps → KeepsRows inputs steps marks i numbers kept
 
-pub copies-start : (steps : List RowStep) (marks : List Bool) → Copies steps marks 0 [] []
-copies-start steps marks = record {
-  count = refl;
-  room = omega arith;
-  below = λ k h. absurd (omega arith);
-  named = λ k j h. absurd (omega arith);
-  comes_from = λ j h. absurd (omega arith);
-  latest = λ k e. absurd (omega arith);
-  rows_kept = λ inputs a w v. record { are_steps = tt; within = tt; useful = tt; rows = λ k h. absurd (omega arith) };
-}
-
 number-old : (numbers : List ℕ) (x k : ℕ) → k < length numbers → number_of (numbers ++ x ∷ []) k ≡ number_of numbers k
 number-old numbers x k h = get_or-append numbers (x ∷ []) 0 k h
 
