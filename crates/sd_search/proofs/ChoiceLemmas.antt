@@ -1,7 +1,7 @@
 -- what comes next on a branch may be done
-use Rattle.std.proofs.Common.{◌≡◌, ◌≢◌, ℕ, zero, suc, ◌<◌, ◌≤◌, List, [], ◌∷◌, ◌++◌, map, length, get_or, refl, sym, ap, ◌∙◌, subst, Bool, true, false, not, cond, ◌||◌, inl, inr, Option, Some, None, unwrap_or, is_some, take, slice_get, arith, All, length-append}
+use Rattle.std.proofs.Common.{◌≡◌, ◌≢◌, ℕ, zero, suc, ◌<◌, List, [], ◌∷◌, ◌++◌, map, length, get_or, refl, sym, ap, ◌∙◌, subst, Bool, true, false, not, cond, ◌||◌, inl, inr, Option, Some, None, unwrap_or, is_some, take, slice_get, arith, All}
 use Rattle.std.specs.List.{AllByRecursion}
-use Rattle.std.specs.Prelude.{Result, Ok, Err, IfOk, IfNone}
+use Rattle.std.specs.Prelude.{Result, Ok, Err, IfOk}
 use Rattle.sd_linear.specs.Elimination.{refuted}
 use Rattle.sd_term.specs.Tree.{Tree, head_of, at_parts, same_tree, same_tree-self}
 use Rattle.sd_term.specs.Bank.{tree_at}
@@ -22,8 +22,8 @@ use Rattle.sd_euf.specs.Closed.{IsRequiredStep, AreSettled}
 use Rattle.sd_search.specs.declared.choice.Choice.{Choice}
 use Rattle.sd_search.specs.declared.choice.Choice.TheVariants as made
 use Rattle.sd_search.specs.Terms.{AreTerms, AllTruthValued, AreValuesUnder, IsOpenAtom, IsReachedAtom}
-use Rattle.sd_search.specs.Choice.{IsChoice, Begins, Asks, choice_of, IsLeftAtom}
-use Rattle.sd_search.proofs.WaysDown.{value-at}
+use Rattle.sd_search.specs.Choice.{IsChoice, Begins, choice_of, IsLeftAtom}
+use Rattle.sd_kernel.proofs.Lookups.{known_at-is as value-at}
 
 -- a fact of the query has its place in a branch, and is true by the first fact on it
 start-at : (facts : List Tree) (more : Trail) (k : ℕ) (t : Tree) → slice_get facts k ≡ Some t → slice_get (start facts ++ more) k ≡ Some (t, true)
@@ -152,17 +152,8 @@ module _ (facts terms : List Tree) (b : Trail) (ids : List ℕ) (values : List (
     }
     left-choice classes _ s a = absurd a
 
-pub asks : (terms : List Tree) (b : Trail) (step : Step) → IsRequiredStep terms b step → Asks step
-asks terms b (Term line) h = tt
-asks terms b (SplitStep n) h = tt
-asks terms b _ h = absurd h
-
 -- ---- what answers say
 
 pub if-made : {A E : Type 0} (r : Result A E) (x : A) (P : A → Type 0) → IfOk r (λ y. y ≡ x) → P x → IfOk r P
 if-made (Ok y) x P e p = subst P (sym e) p
 if-made (Err e) x P h p = tt
-
-pub none-holds : {A : Type 0} (o : Option A) (P : Type 0) → IfNone o P → o ≡ None → P
-none-holds None P h e = h
-none-holds (Some x) P h e = cc

@@ -6,6 +6,7 @@ use Rattle.sd_term.specs.declared.node.Head.{Head}
 use Rattle.sd_term.specs.Heads.{True, False, Not, And, Or, Eq, Ite}
 use Rattle.sd_term.specs.Sorts.{is_truth_sort, sort_at, Takes}
 use Rattle.sd_term.proofs.Typed.{is-truth-sort}
+use Rattle.sd_cube.proofs.Cubes.{AllTruth}
 use Rattle.sd_kernel.specs.Known.{not3, and3, or3, iff3, ite3, known_at, if_truth, by_parts}
 
 -- a truth-valued part has a value, and there are as many as sorts
@@ -96,16 +97,6 @@ judged-some _ ss ks t a = tt
 -- a choice by a false condition
 pub second-some : (ss : List Sort) (ks : List (Option Bool)) → known_at ks 0 ≡ Some false → is_some (known_at ks 2) ≡ true → IfJudged (by_parts Ite ss ks)
 second-some ss ks c e = if-truth-judged (sort_at ss 1) (ite3 (known_at ks 0) (known_at ks 1) (known_at ks 2)) (λ s. ap (λ o. is_some (ite3 o (known_at ks 1) (known_at ks 2))) c ∙ e)
-
--- all parts of a judged head are truth-valued
-abbrev pub AllTruth : List Sort → Type 0
-AllTruth [] = Unit {0}
-AllTruth (s ∷ ss) = (s ≡ Truth) × AllTruth ss
-
-pub truth-at : (ss : List Sort) (k : ℕ) → AllTruth ss → sort_at ss k ≡ Truth
-truth-at [] k a = refl
-truth-at (s ∷ ss) zero a = a.0
-truth-at (s ∷ ss) (suc k) a = truth-at ss k a.1
 
 if-truth-sort : (s : Sort) (k : Option Bool) → is_some (if_truth s k) ≡ true → s ≡ Truth
 if-truth-sort s k e = go (is_truth_sort s) refl e

@@ -1,4 +1,3 @@
-pub mod Everywhere
 pub mod Behind
 pub mod AtomFacts
 pub mod GrownRows
@@ -13,5 +12,3 @@ pub mod ChoiceLemmas
 pub mod Steps
 pub mod GrownTerms
 pub mod Runs
-pub mod Accepted
-pub mod Added

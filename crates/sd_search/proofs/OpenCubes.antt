@@ -9,12 +9,13 @@ use Rattle.sd_term.specs.declared.cube.Literal.{Literal}
 use Rattle.sd_term.specs.Heads.{True}
 use Rattle.sd_term.specs.Tree.{Tree, leaf, below, subterms, same_tree, same_tree-true, parts_of}
 use Rattle.sd_term.specs.Bank.{tree_at}
-use Rattle.sd_term.specs.Sorts.{is_truth_valued, IsWellSorted, AllWellSorted}
+use Rattle.sd_term.specs.Sorts.{is_truth_valued, AllWellSorted}
 use Rattle.sd_term.specs.Numbering.{has, numbered, AllIn}
 use Rattle.sd_term.proofs.Numbers.{has-at, AllIn-left, AllIn-right, below-parts}
 use Rattle.sd_term.specs.Closed.{IsClosed}
 use Rattle.sd_forms.specs.FactRows.{part_at}
 use Rattle.sd_kernel.specs.Known.{Trail, known, known_by_parts}
+use Rattle.sd_kernel.proofs.Members.{sorted-in}
 use Rattle.sd_cube.specs.Atoms.{is_atom}
 use Rattle.sd_cube.specs.Required.{ChoicesHold, OrdersHold, NoneJoined, IsThere, IsTrueEq, choice_eq, order_of, order_back}
 use Rattle.sd_cube.specs.CubeTerms.{cube_terms, literals_of}
@@ -44,11 +45,6 @@ has-place (u ∷ ts) t h =
     or-cases (same_tree u t) (has ts t) h
     (λ e. (0, omega arith, same_tree-true u t e))
     (λ e k. let r = has-place ts t k in (suc r.0, omega (arith, r.1), r.2))
-
-pub sorted-in : (ts : List Tree) (t : Tree) → AllWellSorted ts → has ts t ≡ true → IsWellSorted t
-sorted-in [] t a h = let f : false ≡ true = h in cc
-sorted-in (u ∷ ts) t a h =
-    or-cases (same_tree u t) (has ts t) h (λ e. subst IsWellSorted (same_tree-true u t e) a.0) (λ e k. sorted-in ts t a.1 k)
 
 -- the parts of terms are terms
 pub part-in : (terms : List Tree) (t : Tree) (k : ℕ) → AllIn terms (below t) → (has terms (part_at t k) ≡ true) ⊎ (part_at t k ≡ leaf True)

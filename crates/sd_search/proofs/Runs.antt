@@ -1,7 +1,7 @@
 -- each thing that a search does keeps it running
-use Rattle.std.proofs.Common.{◌≡◌, ℕ, zero, suc, ◌<◌, List, [], ◌∷◌, ◌++◌, map, length, get_or, refl, sym, ap, ◌∙◌, subst, Bool, true, false, ◌⊎◌, inl, inr, Option, Some, slice_get, All, append_assoc, append-nil, arith, length-append}
+use Rattle.std.proofs.Common.{◌≡◌, ℕ, suc, ◌<◌, List, [], ◌∷◌, ◌++◌, map, length, get_or, refl, sym, ap, ◌∙◌, subst, Bool, true, false, ◌⊎◌, inl, inr, Option, All, append_assoc, append-nil, arith, length-append}
 use Rattle.std.specs.List.{AllByRecursion}
-use Rattle.std.proofs.lemmas.List.Elements.{All-cons, All-nil}
+use Rattle.std.proofs.lemmas.List.Elements.{All-cons, All-nil, All-append}
 use Rattle.sd_term.specs.declared.node.TermNode.{TermNode}
 use Rattle.sd_term.specs.declared.cube.Cube.{Cube}
 use Rattle.sd_term.specs.declared.cube.Literal.{Literal}
@@ -18,7 +18,8 @@ use Rattle.sd_kernel.specs.declared.step.NodeLine.{NodeLine}
 use Rattle.sd_kernel.specs.declared.step.StepCause.TheVariants.{Shape}
 use Rattle.sd_kernel.specs.Known.{Fact, Trail}
 use Rattle.sd_kernel.specs.Steps.{leaves, named, needs, outcome}
-use Rattle.sd_kernel.specs.Proof.{State, IsOpen, front, start, next, goes, after}
+use Rattle.sd_kernel.specs.Proof.{State, IsOpen, front, start, next, continues, after}
+use Rattle.sd_kernel.proofs.Lookups.{get-tree}
 use Rattle.sd_cube.specs.Atoms.{is_atom}
 use Rattle.sd_cube.specs.Required.{IsRequired}
 use Rattle.sd_cube.specs.Needed.{IsNeeded}
@@ -26,7 +27,7 @@ use Rattle.sd_cube.specs.CubeTerms.{cube_terms, literals_of}
 use Rattle.sd_cube.specs.OpenCube.{AreExtra, IsOpenCube}
 use Rattle.sd_cube.specs.Spent.{IsDue, AreDue, IsClosedCube, ClosesBranch, cube_literals, IsSpent}
 use Rattle.sd_search.specs.Path.{waiting, IsBehind, IsPast, IsTurned, AllSecond}
-use Rattle.sd_search.specs.Reading.{Reads, Goes, others}
+use Rattle.sd_search.specs.Reading.{Reads, Continues, others}
 use Rattle.sd_search.specs.Outcome.{closings}
 use Rattle.sd_search.specs.Running.{IsRunning, IsSearch}
 use Rattle.sd_search.specs.Atoms.{atom_literals}
@@ -68,10 +69,6 @@ facts-more terms more (n ∷ ids) h =
     let rest = facts-more terms more ids (λ k d lt. h (suc k) d (omega (arith, lt))) in
     λ i. one i ∷ rest i
 
-all-append : {A : Type 0} (P : A → Type 0) (xs ys : List A) → All P xs → All P ys → All P (xs ++ ys)
-all-append P [] ys p q = q
-all-append P (x ∷ xs) ys p q = All-cons P x (xs ++ ys) (p 0 x (omega arith)) (all-append P xs ys (λ k d lt. p (suc k) d (omega (arith, lt))) q)
-
 all-left : {A : Type 0} (P : A → Type 0) (xs ys : List A) → All P (xs ++ ys) → All P xs
 all-left P [] ys p = All-nil P
 all-left P (x ∷ xs) ys p = All-cons P x xs (p 0 x (omega arith)) (all-left P xs ys (λ k d lt. p (suc k) d (omega (arith, lt))))
@@ -88,18 +85,13 @@ recursion-last : {A : Type 0} (P : A → Type 0) (xs : List A) (x : A) → AllBy
 recursion-last P [] x h p = (p, tt)
 recursion-last P (y ∷ xs) x h p = (h.0, recursion-last P xs x h.1 p)
 
-slice_get-tree : (ts : List Tree) (n : ℕ) → n < length ts → slice_get ts n ≡ Some (tree_at ts n)
-slice_get-tree [] n h = absurd (omega (arith, h))
-slice_get-tree (t ∷ ts) zero h = refl
-slice_get-tree (t ∷ ts) (suc n) h = slice_get-tree ts n (omega (arith, h))
-
-goes-state : (s t : State) → goes s ≡ goes t → s ≡ t
-goes-state s t e = cc
+continues-state : (s t : State) → continues s ≡ continues t → s ≡ t
+continues-state s t e = cc
 
 split-outcome : (terms : List Tree) (b : Trail) (n : ℕ) → n < length terms → is_atom (tree_at terms n) ≡ true
     → outcome terms b (Split n) ≡ leaves terms ((b ++ (tree_at terms n, true) ∷ []) ∷ (b ++ (tree_at terms n, false) ∷ []) ∷ [])
 split-outcome terms b n h a =
-    ap (λ o. named o (λ t. needs (is_truth_sort (sort_of t)) Shape (leaves terms ((b ++ (t, true) ∷ []) ∷ (b ++ (t, false) ∷ []) ∷ [])))) (slice_get-tree terms n h)
+    ap (λ o. named o (λ t. needs (is_truth_sort (sort_of t)) Shape (leaves terms ((b ++ (t, true) ∷ []) ∷ (b ++ (t, false) ∷ []) ∷ [])))) (get-tree terms n h)
     ∙ ap (λ q. needs q Shape (leaves terms ((b ++ (tree_at terms n, true) ∷ []) ∷ (b ++ (tree_at terms n, false) ∷ []) ∷ [])))
     (atom-truth (tree_at terms n) a)
 
@@ -122,11 +114,11 @@ module _ (facts : List Tree) (s : State) (ids : List ℕ) (path : List Literal) 
     abbrev two : List Trail
     two = (branch ++ (tree_at s.0 n, true) ∷ []) ∷ (branch ++ (tree_at s.0 n, false) ∷ []) ∷ rest
 
-    split-next : next s (Split n) ≡ goes (s.0, two)
+    split-next : next s (Split n) ≡ continues (s.0, two)
     split-next = next-first s branch rest (Split n) r.branches ∙ ap (after rest) (split-outcome s.0 branch n lt due.atom)
 
-    pub split-goes : Goes s (Split n)
-    split-goes = ((s.0, two), split-next)
+    pub split-continues : Continues s (Split n)
+    split-continues = ((s.0, two), split-next)
 
     due_here : IsDue facts s.0 branch (tree_at s.0 n)
     due_here = subst (λ b. IsDue facts s.0 b (tree_at s.0 n)) front-is due
@@ -140,9 +132,9 @@ module _ (facts : List Tree) (s : State) (ids : List ℕ) (path : List Literal) 
         ∙ ap (λ ws. (start facts ++ (lits ++ (tree_at s.0 n, true) ∷ [])) ∷ ws) (sym (waiting-true (start facts) lits (tree_at s.0 n)))
         ∙ ap (λ fs. (start facts ++ fs) ∷ waiting (start facts) fs) (sym longer)
 
-    pub split-running : (s' : State) → next s (Split n) ≡ goes s' → IsRunning facts s' ids (path ++ literal n true ∷ []) extra cubes
+    pub split-running : (s' : State) → next s (Split n) ≡ continues s' → IsRunning facts s' ids (path ++ literal n true ∷ []) extra cubes
     split-running s' e =
-        subst (λ w. IsRunning facts w ids (path ++ literal n true ∷ []) extra cubes) (goes-state (s.0, two) s' (sym split-next ∙ e)) (record {
+        subst (λ w. IsRunning facts w ids (path ++ literal n true ∷ []) extra cubes) (continues-state (s.0, two) s' (sym split-next ∙ e)) (record {
           branches = branches_two;
           grown_by = r.grown_by;
           are_extra = r.are_extra;
@@ -150,7 +142,7 @@ module _ (facts : List Tree) (s : State) (ids : List ℕ) (path : List Literal) 
           truths = r.truths;
           facts_are = r.facts_are;
           below = r.below;
-          path_below = all-append (λ (l : Literal). l.term < length s.0) path (literal n true ∷ []) r.path_below
+          path_below = All-append (λ (l : Literal). l.term < length s.0) path (literal n true ∷ []) r.path_below
               (All-cons (λ (l : Literal). l.term < length s.0) (literal n true) [] lt (All-nil (λ (l : Literal). l.term < length s.0)));
           due = subst (AreDue facts s.0 []) (sym longer) (due-last facts s.0 [] lits (tree_at s.0 n, true) r.due due_here);
           closed = r.closed;
@@ -165,27 +157,27 @@ module _ (facts : List Tree) (s : State) (ids : List ℕ) (path : List Literal) 
     abbrev more : List Tree
     more = s.0 ++ t ∷ []
 
-    term-next : next s (Term line) ≡ goes (more, branch ∷ rest)
+    term-next : next s (Term line) ≡ continues (more, branch ∷ rest)
     term-next =
         next-first s branch rest (Term line) r.branches
         ∙ ap (after rest) (subst (λ b. outcome s.0 b (Term line) ≡ leaves more (b ∷ [])) front-is made)
 
-    pub term-goes : Goes s (Term line)
-    term-goes = ((more, branch ∷ rest), term-next)
+    pub term-continues : Continues s (Term line)
+    term-continues = ((more, branch ∷ rest), term-next)
 
     pub term-new : IsNew s.0 t
     term-new = new-term s.0 (front s) line t r.terms.sorted r.terms.closed made
 
-    pub term-terms : (s' : State) → next s (Term line) ≡ goes s' → s'.0 ≡ more
-    term-terms s' e = ap (λ (w : State). w.0) (sym (goes-state (more, branch ∷ rest) s' (sym term-next ∙ e)))
+    pub term-terms : (s' : State) → next s (Term line) ≡ continues s' → s'.0 ≡ more
+    term-terms s' e = ap (λ (w : State). w.0) (sym (continues-state (more, branch ∷ rest) s' (sym term-next ∙ e)))
 
-    pub term-running : (s' : State) (node : TermNode) → next s (Term line) ≡ goes s' → PartsBelow (length s.0) node → tree_of s.0 node ≡ t → IsRunning facts s' ids path (extra ++ node ∷ []) cubes
+    pub term-running : (s' : State) (node : TermNode) → next s (Term line) ≡ continues s' → PartsBelow (length s.0) node → tree_of s.0 node ≡ t → IsRunning facts s' ids path (extra ++ node ∷ []) cubes
     term-running s' node e below is =
         let need : IsNeeded facts t = required-needed facts s.0 (front s) t r.terms required in
         let same : literals_of more path ≡ lits = literals-more s.0 (t ∷ []) path r.path_below in
         let up : (k : ℕ) → k < length s.0 → k < length more = λ k lt. omega (arith, lt, length-append s.0 (t ∷ [])) in
         let here : tree_of (grown (numbered facts) extra) node ≡ t = ap (λ ts. tree_of ts node) (sym r.grown_by) ∙ is in
-        subst (λ w. IsRunning facts w ids path (extra ++ node ∷ []) cubes) (goes-state (more, branch ∷ rest) s' (sym term-next ∙ e)) (record {
+        subst (λ w. IsRunning facts w ids path (extra ++ node ∷ []) cubes) (continues-state (more, branch ∷ rest) s' (sym term-next ∙ e)) (record {
           branches = ap (λ fs. (start facts ++ fs) ∷ waiting (start facts) fs) (sym same);
           grown_by = (λ i. r.grown_by i ++ sym here i ∷ []) ∙ sym (grown-append (numbered facts) extra node);
           are_extra = extra-last facts (numbered facts) extra node r.are_extra (subst (λ ts. PartsBelow (length ts) node) r.grown_by below)
@@ -270,7 +262,7 @@ module _ (facts : List Tree) (s : State) (ids : List ℕ) (path : List Literal) 
           let all = subst (All (λ (l : Literal). l.term < length s.0)) turned.old_is r.path_below in
           let last = all-right (λ (l : Literal). l.term < length s.0) turned.front (literal turned.term true ∷ turned.done) all in
           subst (All (λ (l : Literal). l.term < length s.0)) (sym turned.new_is)
-          (all-append (λ (l : Literal). l.term < length s.0) turned.front (literal turned.term false ∷ []) (all-left (λ (l : Literal). l.term < length s.0) turned.front (literal turned.term true ∷ turned.done) all)
+          (All-append (λ (l : Literal). l.term < length s.0) turned.front (literal turned.term false ∷ []) (all-left (λ (l : Literal). l.term < length s.0) turned.front (literal turned.term true ∷ turned.done) all)
           (All-cons (λ (l : Literal). l.term < length s.0) (literal turned.term false) [] (last 0 (literal 0 true) (omega arith)) (All-nil (λ (l : Literal). l.term < length s.0))))
 
       turned-running : IsRunning facts s' ids path' extra (cubes ++ c ∷ [])

@@ -1,6 +1,6 @@
 -- steps that are done one after another
-use Rattle.std.proofs.Common.{◌≡◌, ℕ, ◌+◌, List, [], ◌∷◌, ◌++◌, refl, sym, ap, ◌∙◌, subst, append-nil, append_assoc, arith, Option, Some, None, slice_get, take, Bool, true, false, length, length-append}
-use Rattle.std.specs.Prelude.{remove, if◌then◌else◌, not, ◌&&◌, ◌||◌, suc}
+use Rattle.std.proofs.Common.{◌≡◌, ℕ, ◌+◌, List, [], ◌∷◌, ◌++◌, refl, sym, ap, ◌∙◌, subst, append-nil, append_assoc, arith, Option, Some, None, slice_get, Bool, true, false, length, length-append}
+use Rattle.std.specs.Prelude.{remove, if◌then◌else◌, not, ◌&&◌, suc}
 use Rattle.std.specs.List.{list_all}
 use Rattle.sd_kernel.specs.declared.step.Step.{Step}
 use Rattle.sd_kernel.specs.declared.step.Step.TheVariants.{Split, Close, Term, Order, Ite as ChooseBranch, Chain, Rows}
@@ -9,31 +9,29 @@ use Rattle.sd_kernel.specs.declared.step.StepCause.{StepCause}
 use Rattle.sd_kernel.specs.declared.step.StepCause.TheVariants.{Shape, Known, Value as Value', Row as RowCause, Wide}
 use Rattle.sd_kernel.specs.declared.step.Verdict.{Verdict}
 use Rattle.sd_kernel.specs.declared.step.Verdict.TheVariants.{Accepted, Rejected}
-use Rattle.sd_kernel.specs.declared.step.BadLine.{BadLine}
 use Rattle.sd_rows.specs.declared.row.Row.{Row}
 use Rattle.sd_rows.specs.Rows.{is_within, is_absurd}
-use Rattle.sd_kernel.specs.Told.{told}
-use Rattle.sd_kernel.specs.Known.{Fact, Trail, known, known_by_parts, is_known, has_fact}
+use Rattle.sd_kernel.specs.Known.{Fact, Trail, known, is_known}
 use Rattle.sd_term.specs.Tree.{Tree, tree}
 use Rattle.sd_term.specs.Numbering.{has}
 use Rattle.sd_term.specs.Sorts.{is_truth_sort, sort_of}
-use Rattle.sd_kernel.specs.Steps.{Outcome, bad, leaves, outcome, named, needs, adds, fits, line_head, first_part, second_part, numbers_next, are_orders_of, is_choice_of, is_chosen, all_at, is_chain, Made, made, wrong, row_of_line, refuted_by}
-use Rattle.sd_kernel.specs.Proof.{after, State, IsOpen, front, fails, goes, next, at_end, lines_of, judged}
+use Rattle.sd_kernel.specs.Steps.{Outcome, bad, leaves, outcome, named, needs, adds, fits, line_head, first_part, second_part, numbers_next, are_orders_of, is_choice_of, is_chosen, all_at, is_chain, splits, is_contradicted, Made, made, wrong, row_of_line, if_within, gives_row, refuted_by}
+use Rattle.sd_kernel.specs.Proof.{after, State, front, fails, continues, next, at_end, lines_of, judged}
 use Rattle.sd_cube.specs.Spent.{ClosesBranch}
 use Rattle.sd_search.specs.Outcome.{closing, closings}
-use Rattle.sd_search.specs.Reading.{Reads, Goes, others, IsClosing}
+use Rattle.sd_search.specs.Reading.{Reads, Continues, others, IsClosing}
 
 -- ---- what has been read
 
 pub reads-none : (s : State) (steps : List Step) → steps ≡ [] → Reads s steps s
 reads-none s steps e = (0, λ rest. ap (λ l. judged s 0 (l ++ rest)) e)
 
-pub reads-more : (s t t' : State) (xs : List Step) (x : Step) → Reads s xs t → next t x ≡ goes t' → Reads s (xs ++ x ∷ []) t'
+pub reads-more : (s t t' : State) (xs : List Step) (x : Step) → Reads s xs t → next t x ≡ continues t' → Reads s (xs ++ x ∷ []) t'
 reads-more s t t' xs x r e = (
   r.0 + lines_of x,
   λ rest.
       ap (λ l. judged s 0 l) (append_assoc xs (x ∷ []) rest) ∙ r.1 (x ∷ rest)
-      ∙ ap (λ k. elim k as (λ _. Verdict) [ fails n c ↦ Rejected (r.0 + n) c | goes u ↦ judged u (r.0 + lines_of x) rest ]) e,
+      ∙ ap (λ k. elim k as (λ _. Verdict) [ fails n c ↦ Rejected (r.0 + n) c | continues u ↦ judged u (r.0 + lines_of x) rest ]) e,
 )
 
 -- a closed walk has read a proof
@@ -43,14 +41,6 @@ reads-accepted s t xs r n = ap (λ l. judged s 0 l) (sym (append-nil xs)) ∙ r.
     closed : (bs : List Trail) → ((bs ≡ [] → ⊥) → ⊥) → at_end bs r.0 ≡ Accepted
     closed [] n = refl
     closed (b ∷ bs) n = absurd (n (λ e. cc))
-
-pub told-none : (o : Option BadLine) (s t : State) → told o s ≡ goes t → o ≡ None
-told-none None s t e = refl
-told-none (Some b) s t e = cc
-
-pub told-goes : (o : Option BadLine) (s t : State) → told o s ≡ goes t → goes t ≡ goes s
-told-goes None s t e = sym e
-told-goes (Some b) s t e = cc
 
 -- ---- the first open branch
 
@@ -66,23 +56,23 @@ others-first s b bs e = ap (λ (l : List Trail). others (s.0, l)) e
 -- ---- steps that close it
 
 module _ (terms : List Tree) (rest : List Trail) where
-  pub closing-goes : (s : State) (x : Step) (xs : List Step) → IsClosing terms rest s (x ∷ xs) → Goes s x
-  closing-goes s x xs h = go xs h.3
+  pub closing-continues : (s : State) (x : Step) (xs : List Step) → IsClosing terms rest s (x ∷ xs) → Continues s x
+  closing-continues s x xs h = go xs h.3
     where
       at : (o : Outcome) → outcome terms h.0 x ≡ o → next s x ≡ after rest o
       at o e = next-first s h.0 rest x h.2 ∙ ap (λ ts. after rest (outcome ts h.0 x)) h.1 ∙ ap (after rest) e
 
-      go : (ys : List Step) → ClosesBranch terms h.0 (x ∷ ys) → Goes s x
+      go : (ys : List Step) → ClosesBranch terms h.0 (x ∷ ys) → Continues s x
       go [] k = ((terms, rest), at (leaves terms []) k)
       go (y ∷ ys) k = ((terms, k.0 ∷ rest), at (leaves terms (k.0 ∷ [])) k.1)
 
-  pub closing-more : (s s' : State) (x : Step) (xs : List Step) → IsClosing terms rest s (x ∷ xs) → next s x ≡ goes s' → IsClosing terms rest s' xs
+  pub closing-more : (s s' : State) (x : Step) (xs : List Step) → IsClosing terms rest s (x ∷ xs) → next s x ≡ continues s' → IsClosing terms rest s' xs
   closing-more s s' x xs h e = go xs h.3
     where
-      at : (o : Outcome) → outcome terms h.0 x ≡ o → goes s' ≡ after rest o
+      at : (o : Outcome) → outcome terms h.0 x ≡ o → continues s' ≡ after rest o
       at o k = sym e ∙ next-first s h.0 rest x h.2 ∙ ap (λ ts. after rest (outcome ts h.0 x)) h.1 ∙ ap (after rest) k
 
-      state : (t : State) → goes s' ≡ goes t → s' ≡ t
+      state : (t : State) → continues s' ≡ continues t → s' ≡ t
       state t k = cc
 
       go : (ys : List Step) → ClosesBranch terms h.0 (x ∷ ys) → IsClosing terms rest s' ys
@@ -116,31 +106,26 @@ leaves-needs : (n : ℕ) (b : Bool) (c : StepCause) (o : Outcome) → Leaves n o
 leaves-needs n true c o h = h
 leaves-needs n false c o h = tt
 
+leaves-within : (n i : ℕ) (r : Row) (o : Outcome) → Leaves n o → Leaves n (if_within i r o)
+leaves-within n i r o h = go (is_within r)
+  where
+    go : (b : Bool) → Leaves n (if b then o else bad i Wide)
+    go true = h
+    go false = tt
+
+leaves-row : (n i : ℕ) (m : Made) (f : Row → Outcome) → ((r : Row) → Leaves n (f r)) → Leaves n (gives_row i m f)
+leaves-row n i (wrong c) f h = tt
+leaves-row n i (made r) f h = h r
+
 leaves-rows : (terms : List Tree) (trail : Trail) (i : ℕ) (rows : List Row) (lines : List RowLine) → Leaves 0 (refuted_by terms trail i rows lines)
 leaves-rows terms trail i rows [] = tt
-leaves-rows terms trail i rows (l ∷ []) = go (row_of_line terms trail rows l)
+leaves-rows terms trail i rows (l ∷ []) = leaves-row 0 i (row_of_line terms trail rows l) _ (λ r. go r (is_absurd r))
   where
-    inner : (b : Bool) → Leaves 0 (if b then leaves terms [] else bad i Wide)
-    inner true = refl
-    inner false = tt
-
-    outer : (b : Bool) (r : Row) → Leaves 0 (if b then (if is_within r then leaves terms [] else bad i Wide) else bad i RowCause)
-    outer true r = inner (is_within r)
-    outer false r = tt
-
-    go : (m : Made) → Leaves 0 (elim m [ wrong c ↦ bad i c | made r ↦ (if is_absurd r then (if is_within r then leaves terms [] else bad i Wide) else bad i RowCause) ])
-    go (wrong c) = tt
-    go (made r) = outer (is_absurd r) r
-leaves-rows terms trail i rows (l ∷ k ∷ ls) = go (row_of_line terms trail rows l) (λ r. leaves-rows terms trail (suc i) (rows ++ r ∷ []) (k ∷ ls))
-  where
-    inner : (b : Bool) (r : Row) → Leaves 0 (refuted_by terms trail (suc i) (rows ++ r ∷ []) (k ∷ ls)) → Leaves 0 (if b then refuted_by terms trail (suc i) (rows ++ r ∷ []) (k ∷ ls) else bad i Wide)
-    inner true r h = h
-    inner false r h = tt
-
-    go : (m : Made) → ((r : Row) → Leaves 0 (refuted_by terms trail (suc i) (rows ++ r ∷ []) (k ∷ ls)))
-        → Leaves 0 (elim m [ wrong c ↦ bad i c | made r ↦ (if is_within r then refuted_by terms trail (suc i) (rows ++ r ∷ []) (k ∷ ls) else bad i Wide) ])
-    go (wrong c) h = tt
-    go (made r) h = inner (is_within r) r (h r)
+    go : (r : Row) (b : Bool) → Leaves 0 (if b then if_within i r (leaves terms []) else bad i RowCause)
+    go r true = leaves-within 0 i r (leaves terms []) refl
+    go r false = tt
+leaves-rows terms trail i rows (l ∷ k ∷ ls) =
+    leaves-row 0 i (row_of_line terms trail rows l) _ (λ r. leaves-within 0 i r (refuted_by terms trail (suc i) (rows ++ r ∷ []) (k ∷ ls)) (leaves-rows terms trail (suc i) (rows ++ r ∷ []) (k ∷ ls)))
 
 outcome-leaves : (terms : List Tree) (trail : Trail) (s : Step) → Leaves (branches_of s) (outcome terms trail s)
 outcome-leaves terms trail (Term line) =
@@ -148,7 +133,7 @@ outcome-leaves terms trail (Term line) =
     leaves-needs 1 (fits line (sort_of a) (sort_of b)) Shape (numbers_next terms trail (tree (line_head line) (a ∷ b ∷ [])))
     (leaves-needs 1 (not (has terms (tree (line_head line) (a ∷ b ∷ [])))) Known (leaves (terms ++ tree (line_head line) (a ∷ b ∷ []) ∷ []) (trail ∷ [])) refl)))
 outcome-leaves terms trail (Split n) =
-    leaves-named 2 (slice_get terms n) _ (λ t. leaves-needs 2 (is_truth_sort (sort_of t)) Shape (leaves terms ((trail ++ (t, true) ∷ []) ∷ (trail ++ (t, false) ∷ []) ∷ [])) refl)
+    leaves-named 2 (slice_get terms n) _ (λ t. leaves-needs 2 (is_truth_sort (sort_of t)) Shape (splits terms trail t) refl)
 outcome-leaves terms trail (Order e l r) =
     leaves-named 1 (slice_get terms e) _ (λ t. leaves-named 1 (slice_get terms l) _ (λ p. leaves-named 1 (slice_get terms r) _ (λ q.
     leaves-needs 1 (are_orders_of t p q) Shape (needs (is_known (known trail t) false && is_known (known trail p) true) Value' (adds terms trail q false))
@@ -161,7 +146,7 @@ outcome-leaves terms trail (Chain e fs) =
     leaves-needs 1 (is_chain t ts) Shape (needs (list_all (λ u. is_known (known trail u) true) ts) Value' (adds terms trail t true))
     (leaves-needs 1 (list_all (λ u. is_known (known trail u) true) ts) Value' (adds terms trail t true) refl)))
 outcome-leaves terms trail (Close k) =
-    leaves-named 0 (slice_get trail k) _ (λ (f : Fact). leaves-needs 0 (is_known (known_by_parts trail f.0) (not f.1) || has_fact (take k trail) f.0 (not f.1)) Value' (leaves terms []) refl)
+    leaves-named 0 (slice_get trail k) _ (λ (f : Fact). leaves-needs 0 (is_contradicted trail k f) Value' (leaves terms []) refl)
 outcome-leaves terms trail (Rows lines) = leaves-rows terms trail 1 [] lines
 
 leaves-count : (terms mid : List Tree) (trail : Trail) (bs : List Trail) (s : Step) → outcome terms trail s ≡ leaves mid bs → length bs ≡ branches_of s

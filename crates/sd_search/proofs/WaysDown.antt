@@ -1,21 +1,24 @@
 -- the way from a fact without a value down to an atom without a value
-use Rattle.std.proofs.Common.{◌≡◌, ◌≢◌, ℕ, zero, suc, ◌<◌, ◌≤◌, List, [], ◌∷◌, ◌++◌, map, length, get_or, refl, sym, ap, ◌∙◌, subst, Bool, true, false, not, ◌&&◌, ◌⊎◌, inl, inr, Option, Some, None, unwrap_or, is_some, All, arith}
+use Rattle.std.proofs.Common.{◌≡◌, ◌≢◌, ℕ, suc, ◌<◌, ◌≤◌, List, [], ◌∷◌, ◌++◌, map, length, get_or, refl, sym, ap, ◌∙◌, subst, Bool, true, false, not, ◌&&◌, ◌⊎◌, inl, inr, Option, Some, None, unwrap_or, is_some, All, arith}
 use Rattle.std.specs.Prelude.{Contains}
+use Rattle.std.proofs.lemmas.List.{get_or-map, length-map}
 use Rattle.sd_base.specs.declared.sort.Sort.{Sort}
 use Rattle.sd_base.specs.declared.sort.Sort.{Bool as Truth}
 use Rattle.sd_term.specs.declared.node.TermNode.{TermNode}
 use Rattle.sd_term.specs.Heads.{Ite}
 use Rattle.sd_term.specs.Tree.{Tree, head_of, parts_of, at_parts}
 use Rattle.sd_term.specs.Bank.{tree_at, tree_of, PartsBelow}
-use Rattle.sd_term.specs.Sorts.{sort_of, sorts_of, sort_by, sort_at, is_truth_sort, is_truth_valued, Takes, IsWellSorted, AllWellSorted}
+use Rattle.sd_term.specs.Sorts.{sort_of, sorts_of, sort_by, sort_at, is_truth_sort, is_truth_valued, Takes, AllWellSorted}
 use Rattle.sd_term.proofs.Folds.{at_parts-node, head_of-node}
 use Rattle.sd_term.proofs.Numbers.{node-parts}
 use Rattle.sd_kernel.specs.Known.{Trail, first_fact, known_at, by_parts, known_by, known}
+use Rattle.sd_kernel.proofs.Lookups.{sorted-at, known_at-is as value-at}
 use Rattle.sd_cube.specs.Atoms.{is_atom}
 use Rattle.sd_cube.specs.Spent.{Reaches}
 use Rattle.sd_search.specs.Terms.{AreValuesUnder, AreValues, IsOpenAtom, IsOpenPart, IsReachedAtom}
 use Rattle.sd_search.proofs.AtomFacts.{judged-same}
-use Rattle.sd_search.proofs.Judged.{AreKnown, IfJudged, judged-some, second-some, judged-truths, truth-at}
+use Rattle.sd_search.proofs.Judged.{AreKnown, IfJudged, judged-some, second-some, judged-truths}
+use Rattle.sd_cube.proofs.Cubes.{truth-at}
 use Rattle.sd_search.proofs.Same.{not-none-some}
 
 pub reaches-more : (b : Trail) (t : Tree) (way : List Tree) (u p : Tree) → Reaches b t way u → Contains (parts_of u) p → known b p ≡ None → Reaches b t (way ++ p ∷ []) p
@@ -24,27 +27,8 @@ reaches-more b t (w ∷ way) u p r c n = (r.0, r.1, reaches-more b w way u p r.2
 
 -- ---- lists by place
 
-get_or-map : {A B : Type 0} (f : A → B) (xs : List A) (k : ℕ) (d : A) (e : B) → k < length xs → get_or (map f xs) k e ≡ f (get_or xs k d)
-get_or-map f [] k d e h = absurd (omega (arith, h))
-get_or-map f (x ∷ xs) zero d e h = refl
-get_or-map f (x ∷ xs) (suc k) d e h = get_or-map f xs k d e (omega (arith, h))
-
-length-map : {A B : Type 0} (f : A → B) (xs : List A) → length (map f xs) ≡ length xs
-length-map f [] = refl
-length-map f (x ∷ xs) = ap (λ n. suc n) (length-map f xs)
-
 pub contains-map : {A B : Type 0} (f : A → B) (xs : List A) (k : ℕ) (x : A) → k < length xs → x ≡ get_or xs k x → Contains (map f xs) (f x)
-contains-map f xs k x h e = (k, subst (λ n. k < n) (sym (length-map f xs)) h, get_or-map f xs k x (f x) h ∙ ap f (sym e))
-
--- ---- values by number
-
-pub known-tree : (b : Trail) (ts : List Tree) (n : ℕ) → n < length ts → known_at (map (λ t. known b t) ts) n ≡ known b (tree_at ts n)
-known-tree b [] n h = absurd (omega (arith, h))
-known-tree b (t ∷ ts) zero h = refl
-known-tree b (t ∷ ts) (suc n) h = known-tree b ts n (omega (arith, h))
-
-pub value-at : (b : Trail) (terms : List Tree) (values : List (Option Bool)) (n : ℕ) → AreValuesUnder b terms values → n < length terms → known_at values n ≡ known b (tree_at terms n)
-value-at b terms values n is h = ap (λ vs. known_at vs n) is ∙ known-tree b terms n h
+contains-map f xs k x h e = (k, subst (λ n. k < n) (sym (length-map xs f)) h, get_or-map f xs k x (f x) h ∙ ap f (sym e))
 
 known-judged : (b : Trail) (t : Tree) → is_truth_valued t ≡ true → is_atom t ≡ false → IfJudged (by_parts (head_of t) (sorts_of t) (at_parts (known_by b) t)) → is_some (known b t) ≡ true
 known-judged b t s a j = go (by_parts (head_of t) (sorts_of t) (at_parts (known_by b) t)) refl j
@@ -62,11 +46,6 @@ judged t s a = go (is_some (by_parts (head_of t) (sorts_of t) [])) refl
     go : (q : Bool) → is_some (by_parts (head_of t) (sorts_of t) []) ≡ q → is_some (by_parts (head_of t) (sorts_of t) []) ≡ true
     go true e = e
     go false e = let f : true ≡ false = (λ i. sym s i && not (sym e i)) ∙ a in cc
-
-sorted-at : (ts : List Tree) (n : ℕ) → AllWellSorted ts → n < length ts → IsWellSorted (tree_at ts n)
-sorted-at [] n w h = absurd (omega (arith, h))
-sorted-at (t ∷ ts) zero w h = w.0
-sorted-at (t ∷ ts) (suc n) w h = sorted-at ts n w.1 (omega (arith, h))
 
 -- a node of a judged, well-sorted term
 module _ (terms : List Tree) (id : ℕ) (node : TermNode) (lt : id < length terms) (sorted : AllWellSorted terms) (tree : tree_of terms node ≡ tree_at terms id)
@@ -128,7 +107,7 @@ module _ (terms : List Tree) (id : ℕ) (node : TermNode) (lt : id < length term
     pub last-part : node.head ≡ Ite → known_at part_values 0 ≡ Some false → ((k : ℕ) → 2 ≤ k → k < length node.parts → known_at values (get_or node.parts k 0) ≢ None) → is_some (known b (tree_at terms id)) ≡ true
     last-part e c h =
         let t : Takes Ite part_sorts = subst (λ d. Takes d part_sorts) e takes in
-        let long : length node.parts ≡ 3 = sym (length-map (λ p. sort_of (tree_at terms p)) node.parts) ∙ ap length t.1 in
+        let long : length node.parts ≡ 3 = sym (length-map node.parts (λ p. sort_of (tree_at terms p))) ∙ ap length t.1 in
         let third : is_some (known_at part_values 2) ≡ true =
         ap (λ (o : Option Bool). is_some o) (get_or-map (λ p. known_at values p) node.parts 2 0 None (omega (arith, long))) ∙ not-none-some (known_at values (get_or node.parts 2 0)) (h 2 (omega arith) (omega (arith, long))) in
         known_if (subst (λ d. IfJudged (by_parts d part_sorts part_values)) (sym e) (second-some part_sorts part_values c third))

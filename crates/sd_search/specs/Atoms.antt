@@ -8,4 +8,6 @@ use Rattle.sd_cube.specs.Atoms.{is_atom}
 abbrev pub atom_literals : ℕ → List Tree → List (Option Bool) → List Literal
 atom_literals i [] ks = []
 atom_literals i (t ∷ ts) [] = []
-atom_literals i (t ∷ ts) (k ∷ ks) = cond (is_atom t) (record { term = i; value = unwrap_or k false } ∷ atom_literals (suc i) ts ks) (atom_literals (suc i) ts ks)
+atom_literals i (t ∷ ts) (k ∷ ks) =
+    cond (is_atom t) (record { term = i; value = unwrap_or k false } ∷ atom_literals (suc i) ts ks)
+    (atom_literals (suc i) ts ks)

@@ -18,7 +18,8 @@ use Rattle.sd_search.specs.Settled.{IsSettled}
 -- steps that close the branch, a new term that is asked for, an atom that is due to be split, or nothing
 abbrev pub IsChoice : List Tree → List Tree → Trail → Choice → Type 0
 IsChoice facts terms trail (Close steps) = ClosesBranch terms trail steps
-IsChoice facts terms trail (Number line) = (t : Tree) × IsRequired terms trail t × (outcome terms trail (Term line) ≡ leaves (terms ++ t ∷ []) (trail ∷ []))
+IsChoice facts terms trail (Number line) =
+    (t : Tree) × IsRequired terms trail t × (outcome terms trail (Term line) ≡ leaves (terms ++ t ∷ []) (trail ∷ []))
 IsChoice facts terms trail (Split n) = (n < length terms) × IsDue facts terms trail (tree_at terms n)
 IsChoice facts terms trail Settled = IsSettled facts terms trail
 
@@ -41,5 +42,6 @@ choice_of _ = Settled
 -- an atom without a value is split, where there is one
 abbrev pub IsLeftAtom : List Tree → List (Option Bool) → Choice → Type 0
 IsLeftAtom terms values (Split n) = IsOpenAtom terms values n
-IsLeftAtom terms values Settled = (n : ℕ) → n < length terms → is_atom (tree_at terms n) ≡ true → known_at values n ≢ None
+IsLeftAtom terms values Settled =
+    (n : ℕ) → n < length terms → is_atom (tree_at terms n) ≡ true → known_at values n ≢ None
 IsLeftAtom terms values _ = ⊥

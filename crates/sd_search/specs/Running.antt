@@ -19,7 +19,8 @@ use Rattle.sd_search.specs.Terms.{AreTerms, AllTruthValued}
 
 -- The first open branch has the facts and then the literals of the path, and the others wait for its splits. The cubes
 -- that were closed lie behind the path.
-pub record IsRunning (facts : List Tree) (walk : State) (ids : List ℕ) (path : List Literal) (extra : List TermNode) (cubes : List Cube) : Type 0 where
+pub record IsRunning (facts : List Tree) (walk : State) (ids : List ℕ) (path : List Literal) (extra : List TermNode)
+    (cubes : List Cube) : Type 0 where
   pub branches : walk.1 ≡ (start facts ++ literals_of walk.0 path) ∷ waiting (start facts) (literals_of walk.0 path)
   pub grown_by : walk.0 ≡ grown (numbered facts) extra
   pub are_extra : AreExtra facts (numbered facts) extra

@@ -1,11 +1,12 @@
 ghost use Rattle.std.specs.Prelude.{◌≡◌, ℕ, ◌<◌, IfOk, [], map, length, is_some, unwrap_or, false};
 ghost use Rattle.sd_term.specs.Bank.{tree_at, PartsBelow};
-ghost use Rattle.sd_term.specs.Sorts.{is_truth_sort, sort_at, sort_of};
+ghost use Rattle.sd_term.specs.Sorts.{sort_of};
 ghost use Rattle.sd_kernel.specs.Known.{by_parts};
 ghost use Rattle.sd_cube.specs.Atoms.{is_atom};
 ghost use Rattle.sd_search.specs.Atoms.{atom_literals};
 
 use sd_base::NoMemory;
+use sd_kernel::is_truth_part;
 use sd_term::{Bank, Head, Literal, Op, TermId, TermNode};
 use sqlite_items::Items;
 use std::alloc::Global;
@@ -35,17 +36,6 @@ fn is_judged(terms: &Bank, node: &TermNode) -> bool
         Op::Eq => is_truth_part(terms, node, 0),
         Op::Ite => is_truth_part(terms, node, 1),
         _ => false,
-    }
-}
-
-/// Whether the part at a place is truth-valued.
-fn is_truth_part(terms: &Bank, node: &TermNode, place: usize) -> bool
-    requires { PartsBelow (length terms.now) node.now }
-    ensures { result ≡ is_truth_sort (sort_at (map (λ p. sort_of (tree_at terms.now p)) node.now.parts) place) }
-{
-    match node.parts.get(place) {
-        Some(part) => terms.is_truth_valued(*part),
-        None => true,
     }
 }
 

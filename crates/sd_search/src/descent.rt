@@ -15,8 +15,10 @@ use sd_term::{Bank, Head, Op, TermId};
 pub fn false_fact(facts: &[TermId], values: &[Option<bool>]) -> Option<u32>
     requires facts { All (λ f. f < length values.now) facts.now }
     requires short { length facts.now < 2 ^ 32 }
-    ensures some { IfSome result (λ k. (k < length facts.now) × (known_at values.now (get_or facts.now k 0) ≡ Some false)) }
-    ensures none { IfNone result ((k : ℕ) → k < length facts.now → known_at values.now (get_or facts.now k 0) ≢ Some false) }
+    ensures some { IfSome result (λ k. (k < length facts.now)
+        × (known_at values.now (get_or facts.now k 0) ≡ Some false)) }
+    ensures none { IfNone result ((k : ℕ) → k < length facts.now
+        → known_at values.now (get_or facts.now k 0) ≢ Some false) }
 {
     for i in 0..facts.len() {
         if is_false(values[facts[i].number() as usize]) {
@@ -39,7 +41,8 @@ fn is_false(value: Option<bool>) -> bool
 pub fn open_atom(terms: &Bank, values: &[Option<bool>]) -> Option<u32>
     requires { length values.now ≡ length terms.now }
     ensures some { IfSome result (λ n. IsOpenAtom terms.now values.now n) }
-    ensures none { IfNone result ((n : ℕ) → n < length terms.now → is_atom (tree_at terms.now n) ≡ true → known_at values.now n ≢ None) }
+    ensures none { IfNone result ((n : ℕ) → n < length terms.now → is_atom (tree_at terms.now n) ≡ true
+        → known_at values.now n ≢ None) }
 {
     for i in 0..terms.len() {
         if values[i].is_none() && is_atom(terms, TermId::new(i as u32)) {
@@ -74,7 +77,8 @@ fn atom_below(terms: &Bank, values: &[Option<bool>], fact: TermId) -> u32
     requires truth { is_truth_valued (tree_at terms.now fact) ≡ true }
     requires unknown { known_at values.now fact ≡ None }
     ensures atom { IsOpenAtom terms.now values.now result }
-    ensures reached { (trail : Trail) → AreValuesUnder trail terms.now values.now → (way : List Tree) × Reaches trail (tree_at terms.now fact) way (tree_at terms.now result) }
+    ensures reached { (trail : Trail) → AreValuesUnder trail terms.now values.now → (way : List Tree)
+        × Reaches trail (tree_at terms.now fact) way (tree_at terms.now result) }
 {
     let mut term = fact;
     while !is_atom(terms, term) {

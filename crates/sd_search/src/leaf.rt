@@ -1,8 +1,8 @@
 ghost use Rattle.std.specs.Prelude.{◌≡◌, ◌⊎◌, ℕ, ◌<◌, [], ◌∷◌, ◌++◌, List, IfOk, OnOk};
-ghost use Rattle.sd_kernel.specs.Proof.{State, IsOpen, front, next, goes};
+ghost use Rattle.sd_kernel.specs.Proof.{State, IsOpen, front, next, continues};
 ghost use Rattle.sd_cube.specs.Spent.{ClosesBranch};
 ghost use Rattle.sd_search.specs.Path.{IsTurned, AllSecond};
-ghost use Rattle.sd_search.specs.Reading.{Reads, Goes, others};
+ghost use Rattle.sd_search.specs.Reading.{Reads, Continues, others};
 
 use sd_base::{CloneOf, NoMemory};
 use sd_kernel::{Step, Walk};
@@ -12,8 +12,8 @@ use std::alloc::Global;
 
 /// Does a step that isn't bad, and keeps it.
 pub fn do_step(walk: &mut Walk, steps: &mut Items<Step>, step: Step) -> Result<(), NoMemory>
-    requires { Goes walk.old step }
-    ensures walk { OnOk result (next walk.old step ≡ goes walk.new) }
+    requires { Continues walk.old step }
+    ensures walk { OnOk result (next walk.old step ≡ continues walk.new) }
     ensures steps { OnOk result (steps.new ≡ steps.old ++ step ∷ []) }
 {
     let bad = walk.step(&step)?;

@@ -6,7 +6,8 @@ use Rattle.sd_kernel.specs.declared.step.Step.TheVariants.{Close as CloseStep}
 use Rattle.sd_euf.specs.Closed.{IfMissing, IfClasses, IsRequiredStep, AreSettled}
 use Rattle.sd_search.specs.declared.choice.Choice.TheVariants.{Close}
 use Rattle.sd_search.specs.Choice.{IsChoice}
-use Rattle.sd_search.proofs.ChoiceLemmas.{closes-by, facts-truth, reached-choice, required-choice, left-choice, if-made, none-holds}
+use Rattle.sd_search.proofs.ChoiceLemmas.{closes-by, facts-truth, reached-choice, required-choice, left-choice, if-made}
+use Rattle.sd_kernel.proofs.Lookups.{none-holds}
 use Rattle.sd_search.proofs.choice.branch_choice.Goals as goal
 use Rattle.sd_search.proofs.choice.branch_choice.Goals.{in-Missing, in-Classes}
 

@@ -1,6 +1,6 @@
 use Rattle.std.proofs.Common.{sym, ap, ◌∙◌, subst, [], ◌∷◌, ◌++◌, append_assoc}
 use Rattle.sd_search.specs.Reading.{Reads, others, IsClosing}
-use Rattle.sd_search.proofs.Steps.{remove-first, closing-goes, closing-more, reads-more}
+use Rattle.sd_search.proofs.Steps.{remove-first, closing-continues, closing-more, reads-more}
 use Rattle.sd_search.proofs.leaf.do_all.Goals as goal
 
 pub do_step-requires : goal.do_step-requires
@@ -8,7 +8,7 @@ do_step-requires c =
     let step = c.remove-step.result in
     let rest = c.remove-step.new.self in
     let first = remove-first c.closing.closing rest step c.remove-step.ensures.item c.remove-step.ensures.rest in
-    closing-goes c.args.walk.now.0 (others c.args.walk.now) c.closing.walk step rest (subst (IsClosing c.args.walk.now.0 (others c.args.walk.now) c.closing.walk) first c.closing.invariant.0)
+    closing-continues c.args.walk.now.0 (others c.args.walk.now) c.closing.walk step rest (subst (IsClosing c.args.walk.now.0 (others c.args.walk.now) c.closing.walk) first c.closing.invariant.0)
 
 pub closing-preserved : goal.closing-preserved
 closing-preserved c =

@@ -1,7 +1,7 @@
 use Rattle.std.proofs.Common.{◌≡◌, sym, ◌∙◌, [], ◌∷◌, true, false, arith}
 use Rattle.sd_term.specs.Numbering.{numbered}
 use Rattle.sd_kernel.specs.Proof.{start}
-use Rattle.sd_search.proofs.Accepted.{accepted-proves}
+use Rattle.sd_kernel.proofs.Walks.{accepted-proves}
 use Rattle.sd_search.proofs.Steps.{reads-accepted}
 use Rattle.sd_search.proofs.Runs.{spent}
 use Rattle.sd_search.proofs.search.refute.Goals as goal

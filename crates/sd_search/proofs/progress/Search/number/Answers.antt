@@ -5,13 +5,13 @@ use Rattle.sd_kernel.specs.Proof.{start}
 use Rattle.sd_search.specs.Reading.{Reads}
 use Rattle.sd_search.specs.Running.{IsRunning}
 use Rattle.sd_search.proofs.Steps.{reads-more, closings-same}
-use Rattle.sd_search.proofs.Runs.{term-goes, term-terms, term-running, new-node}
+use Rattle.sd_search.proofs.Runs.{term-continues, term-terms, term-running, new-node}
 use Rattle.sd_search.proofs.progress.Search.number.Goals as goal
 
 pub do_step-requires : goal.do_step-requires
 do_step-requires c =
     let s = c.args.self.now in
-    term-goes c.args.query.now s.walk s.facts s.path s.extra s.cubes (c.requires.search.running c.requires.open) c.args.line c.requires.required.0 c.requires.required.1 c.requires.required.2
+    term-continues c.args.query.now s.walk s.facts s.path s.extra s.cubes (c.requires.search.running c.requires.open) c.args.line c.requires.required.0 c.requires.required.1 c.requires.required.2
 
 pub returns-clause-search : goal.returns-clause-search
 returns-clause-search c =

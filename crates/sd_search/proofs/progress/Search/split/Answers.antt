@@ -5,13 +5,13 @@ use Rattle.sd_kernel.specs.Proof.{start}
 use Rattle.sd_search.specs.Reading.{Reads}
 use Rattle.sd_search.specs.Running.{IsRunning}
 use Rattle.sd_search.proofs.Steps.{reads-more, closings-same}
-use Rattle.sd_search.proofs.Runs.{split-goes, split-running}
+use Rattle.sd_search.proofs.Runs.{split-continues, split-running}
 use Rattle.sd_search.proofs.progress.Search.split.Goals as goal
 
 pub do_step-requires : goal.do_step-requires
 do_step-requires c =
     let s = c.args.self.now in
-    split-goes c.args.query.now s.walk s.facts s.path s.extra s.cubes (c.requires.search.running c.requires.open) c.args.atom c.requires.due.0 c.requires.due.1
+    split-continues c.args.query.now s.walk s.facts s.path s.extra s.cubes (c.requires.search.running c.requires.open) c.args.atom c.requires.due.0 c.requires.due.1
 
 pub returns-clause-search : goal.returns-clause-search
 returns-clause-search c =
