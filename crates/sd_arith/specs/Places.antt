@@ -2,7 +2,6 @@
 use Rattle.std.specs.Prelude.{◌≡◌, ℕ, suc, ◌<◌, Bool, true, cond, List, [], ◌∷◌, length, Option, Some, None, slice_index_or, slice_get}
 use Rattle.sd_term.specs.Tree.{Tree, same_tree}
 use Rattle.sd_term.specs.Bank.{tree_at}
-use Rattle.sd_term.specs.Numbering.{IsFirst}
 use Rattle.sd_forms.specs.FactRows.{is_comparison}
 use Rattle.sd_kernel.specs.Known.{Trail}
 
@@ -14,10 +13,10 @@ place_from k (f ∷ fs) t = cond (same_tree f.0 t) (Some k) (place_from (suc k) 
 abbrev pub place_in : List (Option ℕ) → ℕ → Option ℕ
 place_in places n = slice_index_or places n None
 
--- the table has that place for each tree, at the least number of the tree
+-- the table has that place for each tree
 pub record HasPlaces (terms : List Tree) (k : ℕ) (facts : Trail) (places : List (Option ℕ)) : Type 0 where
   pub long : length places ≡ length terms
-  pub exact : (n : ℕ) → n < length terms → IsFirst terms n → place_in places n ≡ place_from k facts (tree_at terms n)
+  pub exact : (n : ℕ) → n < length terms → place_in places n ≡ place_from k facts (tree_at terms n)
 
 -- an order or an equality of integers has its truth value by the fact at this place
 abbrev pub IsPlace : Trail → Tree → Bool → ℕ → Type 0

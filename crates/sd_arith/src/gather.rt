@@ -109,7 +109,7 @@ fn add_term(
     ensures { OnOk result ((trail : Trail) → HasPlaces terms.now 0 trail places.now → known trail (tree_at terms.now id)
         ≡ Some value → AddsRows terms.now trail (tree_at terms.now id) value gathered.old gathered.new) }
 {
-    match places[terms.first(id).number() as usize] {
+    match places[id.number() as usize] {
         Some(place) => add_rows(alloc, terms, forms, id, value, place, gathered),
         None => Ok(()),
     }

@@ -8,7 +8,7 @@ use sd_term::Bank;
 use sqlite_items::Items;
 use std::alloc::Global;
 
-/// The place of the first fact on each term, at the least number of the term.
+/// The place of the first fact on each term.
 pub(crate) fn first_places(
     alloc: Global,
     terms: &Bank,
@@ -20,8 +20,8 @@ pub(crate) fn first_places(
 {
     let mut places = Items::from_vec(vec![in alloc; None; terms.len()]?);
     for k in (0..trail.len()).rev() {
-        let first = terms.first(trail[k].term);
-        places.set(first.number() as usize, Some(k as u32));
+        let fact = trail[k];
+        places.set(fact.term.number() as usize, Some(k as u32));
     }
     Ok(places)
 }

@@ -4,8 +4,11 @@ use Rattle.sd_linear.specs.declared.step.RowStep.{RowStep}
 use Rattle.sd_linear.specs.Answers.{Justified}
 use Rattle.sd_arith.specs.Lines.{HasInput, line_of}
 use Rattle.sd_arith.specs.Gathered.{rows_of_terms}
-use Rattle.sd_arith.proofs.Closing.{takes-inputs, closes_branch}
+use Rattle.sd_arith.proofs.Closing.{takes-inputs, closes_branch, not-refuted}
 use Rattle.sd_arith.proofs.rows.refuting_rows.Goals as goal
+
+pub returns-then-not-compares-clause-none : goal.returns-then-not-compares-clause-none
+returns-then-not-compares-clause-none c = not-refuted c.args.terms.now (trail_of c.args.terms.now c.args.trail.now) c.args.values.now c.requires.values (c.compares.ensures c.if-not-compares.true)
 
 pub lines_of-requires : goal.lines_of-requires
 lines_of-requires c =
