@@ -34,7 +34,8 @@ IsRequiredStep terms trail _ = ⊥
 pub record AreClasses (terms : List Tree) (trail : Trail) (classes : List ℕ) : Type 0 where
   pub long : length classes ≡ length terms
   pub one : (i j : ℕ) → i < length terms → j < length terms
-      → (slice_index_or classes i 0 ≡ slice_index_or classes j 0) ↔ AreJoined terms trail (tree_at terms i) (tree_at terms j)
+      → (slice_index_or classes i 0 ≡ slice_index_or classes j 0)
+      ↔ AreJoined terms trail (tree_at terms i) (tree_at terms j)
 
 -- what is asked for is there, and no false equality has its sides joined
 pub record AreSettled (terms : List Tree) (trail : Trail) (classes : List ℕ) : Type 0 where

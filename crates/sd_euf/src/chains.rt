@@ -35,10 +35,8 @@ fn broken_chain(
     requires as_long { length classes.now ≡ length terms.now }
     requires classes { (trail : Trail) → HasValues terms.now trail values.now → AreClasses terms.now trail classes.now }
     ensures broken { IfOk result (λ r. IfSome r (λ step. Breaks terms.now values.now step)) }
-    ensures holds {
-        IfOk result (λ r. IfNone r ((trail : Trail) → HasValues terms.now trail values.now
-            → NotJoined terms.now (tree_at terms.now id) trail))
-    }
+    ensures holds { IfOk result (λ r. IfNone r ((trail : Trail) → HasValues terms.now trail values.now
+        → NotJoined terms.now (tree_at terms.now id) trail)) }
 {
     let Some(sides) = sides_of(terms, values, id, false) else {
         return Ok(None);
@@ -65,10 +63,8 @@ pub fn broken_chains(
     requires as_long { length classes.now ≡ length terms.now }
     requires classes { (trail : Trail) → HasValues terms.now trail values.now → AreClasses terms.now trail classes.now }
     ensures broken { IfOk result (λ r. IfSome r (λ step. Breaks terms.now values.now step)) }
-    ensures holds {
-        IfOk result (λ r. IfNone r ((trail : Trail) → HasValues terms.now trail values.now
-            → NoneJoined terms.now trail))
-    }
+    ensures holds { IfOk result (λ r. IfNone r ((trail : Trail) → HasValues terms.now trail values.now
+        → NoneJoined terms.now trail)) }
 {
     for i in 0..terms.len() {
         let broken = broken_chain(alloc, terms, values, classes, TermId::new(i as u32))?;

@@ -92,8 +92,8 @@ fn judged_choice(terms: &Bank, table: &LeftTable, values: &[Option<bool>], id: T
     }
 }
 
-/// Whether each choice with a known condition equals the part that it chooses. The first one that doesn't is answered before
-/// what is missing.
+/// Whether each choice with a known condition equals the part that it chooses. The first one that doesn't is answered
+/// before what is missing.
 pub fn judged_choices(terms: &Bank, table: &LeftTable, values: &[Option<bool>]) -> Judged
     requires table { IsLeftTable terms.now table.now (length terms.now) }
     requires sorted { AllWellSorted terms.now }

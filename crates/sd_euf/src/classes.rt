@@ -15,9 +15,8 @@ use std::alloc::Global;
 /// The first number of each term.
 fn first_numbers(alloc: Global, terms: &Bank) -> Result<Items<u32>, NoMemory>
     ensures long { IfOk result (λ classes. length classes ≡ length terms.now) }
-    ensures first {
-        IfOk result (λ classes. (k : ℕ) → k < length terms.now → IsFirstOf terms.now k (class_at classes k))
-    }
+    ensures first { IfOk result (λ classes. (k : ℕ) → k < length terms.now
+        → IsFirstOf terms.now k (class_at classes k)) }
 {
     let mut classes = Items::new(alloc);
     for i in 0..terms.len() {
@@ -48,10 +47,8 @@ pub fn classes_of(
     requires sorted { AllWellSorted terms.now }
     requires long { length values.now ≡ length terms.now }
     ensures long { IfOk result (λ classes. length classes ≡ length terms.now) }
-    ensures classes {
-        IfOk result (λ classes. (trail : Trail) → HasValues terms.now trail values.now
-            → AreClasses terms.now trail classes)
-    }
+    ensures classes { IfOk result (λ classes. (trail : Trail) → HasValues terms.now trail values.now
+        → AreClasses terms.now trail classes) }
 {
     let mut classes = first_numbers(alloc, terms)?;
     for i in 0..terms.len() {

@@ -25,12 +25,13 @@ pub enum Closed {
     Conflict(Items<Step>),
     /// A step that numbers a term that is asked for, or splits one without a value.
     Missing(Step),
-    /// No rule of choices, orders and chains is broken: a number for each term, one for all that are joined by true equalities.
+    /// No rule of choices, orders and chains is broken: a number for each term, one for all that are joined by true
+    /// equalities.
     Classes(Items<u32>),
 }
 
-/// Closes the equalities of a branch with these facts: chains of equalities, the equalities of choices with the parts that
-/// they choose, and the orders of false equalities of integers.
+/// Closes the equalities of a branch with these facts: chains of equalities, the equalities of choices with the parts
+/// that they choose, and the orders of false equalities of integers.
 pub fn close(
     alloc: Global,
     terms: &Bank,
@@ -42,15 +43,12 @@ pub fn close(
     requires closed { IsClosed terms.now }
     requires values { values.now ≡ map (λ t. known (trail_of terms.now trail.now) t) terms.now }
     requires short { length trail.now < 2 ^ 32 }
-    ensures conflict {
-        IfOk result (λ r. IfConflict r (λ steps. ClosesBranch terms.now (trail_of terms.now trail.now) steps))
-    }
-    ensures missing {
-        IfOk result (λ r. IfMissing r (λ step. IsRequiredStep terms.now (trail_of terms.now trail.now) step))
-    }
-    ensures classes {
-        IfOk result (λ r. IfClasses r (λ classes. AreSettled terms.now (trail_of terms.now trail.now) classes))
-    }
+    ensures conflict { IfOk result (λ r.
+        IfConflict r (λ steps. ClosesBranch terms.now (trail_of terms.now trail.now) steps)) }
+    ensures missing { IfOk result (λ r.
+        IfMissing r (λ step. IsRequiredStep terms.now (trail_of terms.now trail.now) step)) }
+    ensures classes { IfOk result (λ r.
+        IfClasses r (λ classes. AreSettled terms.now (trail_of terms.now trail.now) classes)) }
 {
     let table = left_table(alloc, terms)?;
     let missing_choice = match judged_choices(terms, &table, values) {

@@ -64,13 +64,10 @@ pub fn find(terms: &Bank, table: &LeftTable, op: Op, left: TermId, right: TermId
     requires table { IsLeftTable terms.now table.now (length terms.now) }
     requires left { left < length terms.now }
     requires right { right < length terms.now }
-    ensures some {
-        IfSome result (λ n. (n < length terms.now)
-            × (tree_at terms.now n ≡ pair_tree op (tree_at terms.now left) (tree_at terms.now right)))
-    }
-    ensures none {
-        IfNone result (has terms.now (pair_tree op (tree_at terms.now left) (tree_at terms.now right)) ≡ false)
-    }
+    ensures some { IfSome result (λ n. (n < length terms.now)
+        × (tree_at terms.now n ≡ pair_tree op (tree_at terms.now left) (tree_at terms.now right))) }
+    ensures none { IfNone result (has terms.now (pair_tree op (tree_at terms.now left) (tree_at terms.now right))
+        ≡ false) }
 {
     let first = terms.first(left).number() as usize;
     let mut place = table.last.as_slice()[first];

@@ -51,13 +51,10 @@ fn neighbour(terms: &Bank, values: &[Option<bool>], id: TermId, here: TermId) ->
     requires long { length values.now ≡ length terms.now }
     ensures below { IfSome result (λ n. n < length terms.now) }
     ensures by { IfSome result (λ n. IsEqAt terms.now values.now id true) }
-    ensures some {
-        IfSome result (λ n. other_side (tree_at terms.now id) (tree_at terms.now here) ≡ Some (tree_at terms.now n))
-    }
-    ensures none {
-        IfNone result (IsEqAt terms.now values.now id true → (t : Tree)
-            → other_side (tree_at terms.now id) (tree_at terms.now here) ≡ Some t → ⊥)
-    }
+    ensures some { IfSome result (λ n. other_side (tree_at terms.now id) (tree_at terms.now here)
+        ≡ Some (tree_at terms.now n)) }
+    ensures none { IfNone result (IsEqAt terms.now values.now id true → (t : Tree)
+        → other_side (tree_at terms.now id) (tree_at terms.now here) ≡ Some t → ⊥) }
 {
     let Some(pair) = sides_of(terms, values, id, true) else {
         return None;
@@ -132,9 +129,8 @@ fn links_from(
     requires long { length values.now ≡ length terms.now }
     ensures links { IfOk result (λ links. AreLinks terms.now values.now links) }
     ensures root { IfOk result (λ links. (link_at links 0).term ≡ root) }
-    ensures reached {
-        IfOk result (λ links. (k : ℕ) → k < length links → AreReached terms.now values.now links k (length terms.now))
-    }
+    ensures reached { IfOk result (λ links. (k : ℕ) → k < length links
+        → AreReached terms.now values.now links k (length terms.now)) }
 {
     let mut links = Items::new(alloc);
     links.push(Link {
@@ -154,10 +150,8 @@ fn links_from(
 fn chain_from(alloc: Global, links: &[Link], at: usize) -> Result<Items<u32>, NoMemory>
     requires at { at < length links.now }
     requires down { GoDown links.now }
-    ensures {
-        IfOk result (λ chain. (terms : List Tree) (values : List (Option Bool)) → AreLinks terms values links.now
-            → IsChain terms values (reached_at terms links.now at) chain (reached_at terms links.now 0))
-    }
+    ensures { IfOk result (λ chain. (terms : List Tree) (values : List (Option Bool)) → AreLinks terms values links.now
+        → IsChain terms values (reached_at terms links.now at) chain (reached_at terms links.now 0)) }
 {
     let mut chain = Items::new(alloc);
     let mut here = at;
@@ -180,14 +174,11 @@ pub fn chain_between(
     requires to { to < length terms.now }
     requires sorted { AllWellSorted terms.now }
     requires long { length values.now ≡ length terms.now }
-    ensures chain {
-        IfOk result (λ r. IfSome r (λ ns. IsChain terms.now values.now (tree_at terms.now from) ns (tree_at terms.now to)))
-    }
+    ensures chain { IfOk result (λ r.
+        IfSome r (λ ns. IsChain terms.now values.now (tree_at terms.now from) ns (tree_at terms.now to))) }
     ensures short { IfOk result (λ r. IfSome r (λ ns. tree_at terms.now from ≡ tree_at terms.now to → ns ≡ [])) }
-    ensures none {
-        IfOk result (λ r. IfNone r ((trail : Trail) → HasValues terms.now trail values.now
-            → AreJoined terms.now trail (tree_at terms.now from) (tree_at terms.now to) → ⊥))
-    }
+    ensures none { IfOk result (λ r. IfNone r ((trail : Trail) → HasValues terms.now trail values.now
+        → AreJoined terms.now trail (tree_at terms.now from) (tree_at terms.now to) → ⊥)) }
 {
     if terms.same_term(from, to) {
         return Ok(Some(Items::new(alloc)));

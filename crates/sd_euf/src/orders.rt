@@ -117,8 +117,8 @@ fn judged_equality(terms: &Bank, table: &LeftTable, values: &[Option<bool>], id:
     judged_sides(terms, table, values, id, sides)
 }
 
-/// Whether each false equality of integers has a false order. The first one whose orders are both true is answered before
-/// what is missing.
+/// Whether each false equality of integers has a false order. The first one whose orders are both true is answered
+/// before what is missing.
 pub fn judged_orders(terms: &Bank, table: &LeftTable, values: &[Option<bool>]) -> Judged
     requires table { IsLeftTable terms.now table.now (length terms.now) }
     requires sorted { AllWellSorted terms.now }

@@ -47,7 +47,8 @@ after_effect s e = elim s.1 [ [] ↦ fails 0 Shape | b ∷ others ↦ after othe
 abbrev pub IsEffectOn : List Tree → Effect → Type 0
 IsEffectOn terms (Bad line) = Unit {0}
 IsEffectOn terms (Grows op a b) =
-    (a < length terms) × (b < length terms) × (has terms (pair_of terms op a b) ≡ false) × IsWellSorted (pair_of terms op a b)
+    (a < length terms) × (b < length terms) × (has terms (pair_of terms op a b) ≡ false)
+    × IsWellSorted (pair_of terms op a b)
 IsEffectOn terms (Adds t value) = t < length terms
 IsEffectOn terms (Splits t) = t < length terms
 IsEffectOn terms Closes = Unit {0}

@@ -199,9 +199,11 @@ gives_row i (made r) f = f r
 abbrev pub refuted_by : List Tree → Trail → ℕ → List Row → List RowLine → Outcome
 refuted_by terms trail i rows [] = bad 0 RowCause
 refuted_by terms trail i rows (l ∷ []) =
-    gives_row i (row_of_line terms trail rows l) (λ r. if is_absurd r then if_within i r (leaves terms []) else bad i RowCause)
+    gives_row i (row_of_line terms trail rows l)
+    (λ r. if is_absurd r then if_within i r (leaves terms []) else bad i RowCause)
 refuted_by terms trail i rows (l ∷ ls) =
-    gives_row i (row_of_line terms trail rows l) (λ r. if_within i r (refuted_by terms trail (suc i) (rows ++ r ∷ []) ls))
+    gives_row i (row_of_line terms trail rows l)
+    (λ r. if_within i r (refuted_by terms trail (suc i) (rows ++ r ∷ []) ls))
 
 -- ---- closed branches
 

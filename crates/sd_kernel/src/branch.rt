@@ -27,8 +27,8 @@ pub fn split_effect(terms: &Bank, number: u32) -> Effect
     Effect::Splits(term)
 }
 
-/// What the step does that closes a branch: a fact of it has a term with the opposite value, by its parts or by an earlier
-/// fact.
+/// What the step does that closes a branch: a fact of it has a term with the opposite value, by its parts or by an
+/// earlier fact.
 pub fn close_effect(
     alloc: Global,
     terms: &Bank,

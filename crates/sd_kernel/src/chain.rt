@@ -22,9 +22,8 @@ fn across(terms: &Bank, link: TermId, side: TermId) -> Option<TermId>
     requires sorted { AllWellSorted terms.now }
     requires link { link < length terms.now }
     requires side { side < length terms.now }
-    ensures tree {
-        option_map (λ n. tree_at terms.now n) result ≡ across (tree_at terms.now link) (tree_at terms.now side)
-    }
+    ensures tree { option_map (λ n. tree_at terms.now n) result
+        ≡ across (tree_at terms.now link) (tree_at terms.now side) }
     ensures number { IfSome result (λ n. n < length terms.now) }
 {
     if !is_eq(terms, link) {
@@ -47,9 +46,8 @@ fn leads(terms: &Bank, first: TermId, links: &[u32], last: TermId) -> bool
     requires first { first < length terms.now }
     requires links { All (λ n. n < length terms.now) links.now }
     requires last { last < length terms.now }
-    ensures {
-        result ≡ leads (tree_at terms.now first) (map (λ n. tree_at terms.now n) links.now) (tree_at terms.now last)
-    }
+    ensures { result ≡ leads (tree_at terms.now first) (map (λ n. tree_at terms.now n) links.now)
+        (tree_at terms.now last) }
 {
     let mut side = first;
     for link in links {

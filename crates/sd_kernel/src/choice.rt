@@ -23,10 +23,8 @@ fn is_equal_part(terms: &Bank, choice: TermId, equality: TermId, place: usize) -
     requires equality { equality < length terms.now }
     requires is_ite { is_ite_head (head_of (tree_at terms.now choice)) ≡ true }
     requires place { place < 3 }
-    ensures {
-        result ≡ is_eq_of (tree_at terms.now equality) (tree_at terms.now choice)
-            (part_at (tree_at terms.now choice) place)
-    }
+    ensures { result ≡ is_eq_of (tree_at terms.now equality) (tree_at terms.now choice)
+        (part_at (tree_at terms.now choice) place) }
 {
     let chosen = part(terms, choice, place);
     is_node_of(terms, equality, Op::Eq, choice, chosen)

@@ -97,10 +97,8 @@ pub fn is_truth_part(terms: &Bank, node: &TermNode, place: usize) -> bool
 fn value_by_parts(terms: &Bank, node: &TermNode, values: &[Option<bool>]) -> Option<Option<bool>>
     requires terms { PartsBelow (length terms.now) node.now }
     requires values { PartsBelow (length values.now) node.now }
-    ensures {
-        result ≡ by_parts node.now.head (map (λ p. sort_of (tree_at terms.now p)) node.now.parts)
-            (map (λ p. known_at values.now p) node.now.parts)
-    }
+    ensures { result ≡ by_parts node.now.head (map (λ p. sort_of (tree_at terms.now p)) node.now.parts)
+        (map (λ p. known_at values.now p) node.now.parts) }
 {
     let first = part_known(node, 0, values);
     let second = part_known(node, 1, values);
@@ -158,10 +156,8 @@ fn known_value(
     requires id { id < length terms.now }
     requires long { length firsts.now ≡ length terms.now }
     requires values { length values.now ≡ id }
-    ensures {
-        (trail : Trail) → HasFirstFacts terms.now trail firsts.now
-        → values.now ≡ map (λ t. known trail t) (take id terms.now) → result ≡ known trail (tree_at terms.now id)
-    }
+    ensures { (trail : Trail) → HasFirstFacts terms.now trail firsts.now
+        → values.now ≡ map (λ t. known trail t) (take id terms.now) → result ≡ known trail (tree_at terms.now id) }
 {
     let node = terms.node(id);
     match value_by_parts(terms, node, values) {
@@ -220,9 +216,8 @@ pub fn is_contradicted(
     requires facts { All (λ f. f.term < length terms.now) trail.now }
     requires count { count ≤ length trail.now }
     requires id { id < length terms.now }
-    ensures {
-        IfOk result (λ r. r ≡ is_contradicted (trail_of terms.now trail.now) count (tree_at terms.now id, value))
-    }
+    ensures { IfOk result (λ r. r
+        ≡ is_contradicted (trail_of terms.now trail.now) count (tree_at terms.now id, value)) }
 {
     let values = known_values(alloc, terms, trail)?;
     let node = terms.node(id);
@@ -260,9 +255,8 @@ fn has_value(terms: &Bank, trail: &[Fact], count: usize, id: TermId, value: bool
 fn is_fact_on(terms: &Bank, fact: &Fact, id: TermId, value: bool) -> bool
     requires fact { fact.now.term < length terms.now }
     requires id { id < length terms.now }
-    ensures {
-        result ≡ (same_tree (tree_at terms.now fact.now.term) (tree_at terms.now id) && same_bool fact.now.value value)
-    }
+    ensures { result ≡ (same_tree (tree_at terms.now fact.now.term)
+        (tree_at terms.now id) && same_bool fact.now.value value) }
 {
     terms.same_term(fact.term, id) && fact.value == value
 }

@@ -36,10 +36,8 @@ fn are_parts(terms: &Bank, parts: &[TermId], first: TermId, second: TermId) -> b
     requires parts { All (λ p. p < length terms.now) parts.now }
     requires first { first < length terms.now }
     requires second { second < length terms.now }
-    ensures {
-        IsTrue result
-        ↔ (map (λ p. tree_at terms.now p) parts.now ≡ tree_at terms.now first ∷ tree_at terms.now second ∷ [])
-    }
+    ensures { IsTrue result
+        ↔ (map (λ p. tree_at terms.now p) parts.now ≡ tree_at terms.now first ∷ tree_at terms.now second ∷ []) }
 {
     if parts.len() != 2 {
         return false;

@@ -22,10 +22,8 @@ fn are_opposite(terms: &Bank, one: TermId, other: TermId, first: TermId, second:
     requires other { other < length terms.now }
     requires first { first < length terms.now }
     requires second { second < length terms.now }
-    ensures {
-        result ≡ (is_le_of (tree_at terms.now one) (tree_at terms.now first) (tree_at terms.now second)
-            && is_le_of (tree_at terms.now other) (tree_at terms.now second) (tree_at terms.now first))
-    }
+    ensures { result ≡ (is_le_of (tree_at terms.now one) (tree_at terms.now first) (tree_at terms.now second)
+        && is_le_of (tree_at terms.now other) (tree_at terms.now second) (tree_at terms.now first)) }
 {
     if !is_node_of(terms, one, Op::Le, first, second) {
         return false;
@@ -75,7 +73,8 @@ pub fn order_effect(
 ) -> Result<Effect, NoMemory>
     requires facts { All (λ f. f.term < length terms.now) trail.now }
     requires sorted { AllWellSorted terms.now }
-    ensures effect { IfOk result (IsEffectOf terms.now (trail_of terms.now trail.now) (Step.Order equality known other)) }
+    ensures effect { IfOk result (IsEffectOf terms.now (trail_of terms.now trail.now)
+        (Step.Order equality known other)) }
     ensures fits { IfOk result (IsEffectOn terms.now) }
 {
     if !are_numbers(terms, &[equality, known, other]) {
