@@ -3,6 +3,7 @@ use Rattle.std.proofs.Common.{◌≡◌, ◌<◌, sym, subst, ℕ, Bool, true, f
 use Rattle.std.specs.Prelude.{Option, Some, None, Result, Ok, Err, slice_get}
 use Rattle.std.specs.List.{AllByRecursion}
 use Rattle.std.proofs.lemmas.Option.{slice_get_within}
+use Rattle.sd_base.proofs.Lists.{all-weaker}
 use Rattle.sd_ast.specs.declared.Program.{Program}
 use Rattle.sd_meaning.specs.NewFailure.{NewFailure}
 use Rattle.sd_parse.specs.declared.answer.ReadError.{ReadError}
@@ -51,10 +52,6 @@ live_safe = live-flags-safe (no_new_failure_lem (mutual_summaries_lem (runs-are-
 open_fails : OpenFlagsAreFailures
 open_fails = open-flags-fail (open-cubes-fail (valuations-fail valuations-are-runs))
 
-all-map : {X : Type 0} (A B : X → Type 0) → ((x : X) → A x → B x) → (xs : List X) → AllByRecursion A xs → AllByRecursion B xs
-all-map A B f [] a = tt
-all-map A B f (x ∷ xs) a = (f x a.0, all-map A B f xs a.1)
-
 module _ (t : Texts) (old_read : IsAccepted t.old_bytes t.old) (new_read : IsAccepted t.new_bytes t.new) where
   abbrev AreRight : List Death → List PairVerdict → Type 0
   AreRight deaths vs = AllByRecursion (IsRight t.old t.new deaths) vs
@@ -90,8 +87,8 @@ module _ (t : Texts) (old_read : IsAccepted t.old_bytes t.old) (new_read : IsAcc
 
   -- no safe pair has a new failure
   pub right_safe : (deaths : List Death) (pairs : List PairVerdict) → AreRight deaths pairs → NoNewFailure t.old t.new pairs
-  right_safe deaths pairs a = all-map (IsRight t.old t.new deaths) (λ v. _) (λ v r. r.0) pairs a
+  right_safe deaths pairs a = all-weaker (IsRight t.old t.new deaths) (λ v. _) (λ v r. r.0) pairs a
 
   -- an unknown pair has one, without calls and loops
   pub right_unknown : (deaths : List Death) (pairs : List PairVerdict) → AreRight deaths pairs → IsPropositionalProgram t.old → IsPropositionalProgram t.new → AreNewFailures t.old t.new deaths pairs
-  right_unknown deaths pairs a old new = all-map (IsRight t.old t.new deaths) (λ v. _) (λ v r is none. r.1 is old new none) pairs a
+  right_unknown deaths pairs a old new = all-weaker (IsRight t.old t.new deaths) (λ v. _) (λ v r is none. r.1 is old new none) pairs a

@@ -7,9 +7,7 @@ use Rattle.sd_base.specs.Outside.{appended, emptied, AllStay, OthersStay}
 use Rattle.sd_run.specs.declared.run.Ended.{Ended}
 use Rattle.sd_run.specs.declared.run.CertificateFile.{CertificateFile}
 use Rattle.sd_run.specs.declared.run.CertificateFile.TheVariants.{Untouched, NotStarted, Cut, Whole}
-use Rattle.sd_parse.specs.declared.answer.ReadError.TheVariants as read
 use Rattle.sd_run.specs.declared.text.TextRefusal.{TextRefusal}
-use Rattle.sd_run.specs.declared.text.TextRefusal.TheVariants.{Reading, Typing, NotYet}
 use Rattle.sd_run.specs.TextRefusals.{refusal_status}
 use Rattle.sd_run.specs.Words.{JobNames, verify, job_of}
 use Rattle.sd_run.specs.Report.{is_safe}
@@ -18,7 +16,7 @@ use Rattle.sd_run.specs.Texts.{Texts}
 use Rattle.sd_run.specs.Outcome.{Outcome, message, status_of, IsCertified}
 use Rattle.sd_run.specs.Answer.{Answer, no_job, old_refused, new_refused, clashing, compared, too_long, certificate_refused, replayed, Headline, UnknownIsFailure, CertificateWriteRose}
 use Rattle.sd_run.specs.Writing.{outcome, IsBroken, FilesAfter, FileRose}
-use Rattle.sd_run.proofs.Rows.{row_known, row_headline, row_unknown}
+use Rattle.sd_run.proofs.Rows.{row_known, refusal_status_is, row_headline, row_unknown}
 
 -- ---- the status of a row is none of those of a stop
 
@@ -31,15 +29,10 @@ status_apart o code text is six eight (inl e) = six (sym (ap (λ (p : Outcome). 
 status_apart o code text is six eight (inr e) = eight (sym (ap (λ (p : Outcome). p.status) is) ∙ e)
 
 refusal_apart : (r : TextRefusal) (n : ℕ) → refusal_status r ≡ n → (n ≡ 6) ⊎ (n ≡ 8) → ⊥
-refusal_apart (Reading read.TooLong) n e h = code_apart n 9 e (λ k. omega arith) (λ k. omega arith) h
-refusal_apart (Reading (read.Deep at)) n e h = code_apart n 9 e (λ k. omega arith) (λ k. omega arith) h
-refusal_apart (Reading read.TooMany) n e h = code_apart n 9 e (λ k. omega arith) (λ k. omega arith) h
-refusal_apart (Reading read.NoMemory) n e h = code_apart n 3 e (λ k. omega arith) (λ k. omega arith) h
-refusal_apart (Reading (read.Lex x)) n e h = code_apart n 3 e (λ k. omega arith) (λ k. omega arith) h
-refusal_apart (Reading (read.Star at)) n e h = code_apart n 3 e (λ k. omega arith) (λ k. omega arith) h
-refusal_apart (Reading (read.Syntax at)) n e h = code_apart n 3 e (λ k. omega arith) (λ k. omega arith) h
-refusal_apart (Typing x) n e h = code_apart n 3 e (λ k. omega arith) (λ k. omega arith) h
-refusal_apart NotYet n e h = code_apart n 3 e (λ k. omega arith) (λ k. omega arith) h
+refusal_apart r n e h = elim (refusal_status_is r) [
+  | inl k ↦ code_apart n 3 (sym k ∙ e) (λ x. omega arith) (λ x. omega arith) h
+  | inr k ↦ code_apart n 9 (sym k ∙ e) (λ x. omega arith) (λ x. omega arith) h
+]
 
 zero_one_apart : (b : Bool) (n : ℕ) → n ≡ (if b then 0 else 1) → (n ≡ 6) ⊎ (n ≡ 8) → ⊥
 zero_one_apart true n e (inl h) = absurd (omega arith)

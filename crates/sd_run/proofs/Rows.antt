@@ -10,7 +10,7 @@ use Rattle.sd_run.specs.Words.{Task, JobNames, verify, replay, job_of}
 use Rattle.sd_run.specs.Report.{is_safe}
 use Rattle.sd_parse.specs.declared.answer.ReadError.TheVariants as read
 use Rattle.sd_run.specs.declared.text.TextRefusal.{TextRefusal}
-use Rattle.sd_run.specs.declared.text.TextRefusal.TheVariants.{Reading, Typing, NotYet}
+use Rattle.sd_run.specs.declared.text.TextRefusal.TheVariants.{Reading}
 use Rattle.sd_run.specs.declared.text.Text.{Text}
 use Rattle.sd_run.specs.declared.text.TextFault.{TextFault}
 use Rattle.sd_run.specs.declared.text.TextFault.TheVariants.{Memory, Failed, Refused}
@@ -52,16 +52,14 @@ three_known = (3, omega arith, refl)
 nine_known : Contains codes_known 9
 nine_known = (9, omega arith, refl)
 
+pub refusal_status_is : (r : TextRefusal) → (refusal_status r ≡ 3) ⊎ (refusal_status r ≡ 9)
+refusal_status_is (Reading read.TooLong) = inr refl
+refusal_status_is (Reading (read.Deep at)) = inr refl
+refusal_status_is (Reading read.TooMany) = inr refl
+refusal_status_is _ = inl refl
+
 refusal_known : (r : TextRefusal) → Contains codes_known (refusal_status r)
-refusal_known (Reading read.TooLong) = nine_known
-refusal_known (Reading (read.Deep at)) = nine_known
-refusal_known (Reading read.TooMany) = nine_known
-refusal_known (Reading read.NoMemory) = three_known
-refusal_known (Reading (read.Lex e)) = three_known
-refusal_known (Reading (read.Star at)) = three_known
-refusal_known (Reading (read.Syntax at)) = three_known
-refusal_known (Typing e) = three_known
-refusal_known NotYet = three_known
+refusal_known r = elim (refusal_status_is r) [ inl e ↦ known_by (refusal_status r) 3 e three_known | inr e ↦ known_by (refusal_status r) 9 e nine_known ]
 
 status_is : (o : Outcome) (code : ℕ) (text : List ℕ) → o ≡ message code text → o.status ≡ code
 status_is o code text e = ap (λ (p : Outcome). p.status) e

@@ -2,7 +2,8 @@
 use Rattle.std.proofs.Common.{◌≡◌, ◌∙◌, sym, ap, refl, subst, ℕ, suc, zero, ◌<◌, Bool, true, false, List, [], ◌∷◌, ◌++◌, length, set, inl, inr, arith}
 use Rattle.std.specs.Prelude.{Option, Some, ◌⊎◌, replicate, slice_get, Contains}
 use Rattle.std.proofs.lemmas.List.{get_or-replicate}
-use Rattle.std.proofs.lemmas.Option.{slice_get-get_or}
+use Rattle.std.proofs.lemmas.Option.{same_Some, slice_get-get_or}
+use Rattle.sd_base.proofs.Lists.{contains-head, contains-tail}
 use Rattle.std.proofs.Math.ListN.{length-replicate}
 use Rattle.sd_term.specs.Tree.{Tree}
 use Rattle.sd_term.specs.declared.cube.Cube.{Cube}
@@ -15,15 +16,6 @@ use Rattle.sd_rounds.specs.declared.settle.Death.{Death}
 use Rattle.sd_rounds.specs.Table.{cleared}
 use Rattle.sd_rounds.specs.Settled.{dead_of, IsCause, IsLegalDeath, AreLegal, IsSettled}
 use Rattle.sd_run.specs.Verdicts.{is_spent}
-
-contains_head : {X : Type 0} (x : X) (xs : List X) → Contains (x ∷ xs) x
-contains_head x xs = (0, omega arith, refl)
-
-contains_tail : {X : Type 0} (y : X) (xs : List X) (x : X) → Contains xs x → Contains (y ∷ xs) x
-contains_tail y xs x (k, within, is) = (suc k, omega arith, is)
-
-bool_is : (a b : Bool) → ◌≡◌ {A = Option Bool} (Some a) (Some b) → a ≡ b
-bool_is a b e = cc
 
 -- ---- dead candidates
 
@@ -49,8 +41,8 @@ set_false (x ∷ xs) (suc c) (suc i) e = elim (set_false xs c i e) [ inl h ↦ i
 cleared_false : (t : List Bool) (cs : List ℕ) (i : ℕ) → slice_get (cleared t cs) i ≡ Some false → (slice_get t i ≡ Some false) ⊎ Contains cs i
 cleared_false t [] i e = inl e
 cleared_false t (c ∷ cs) i e = elim (cleared_false (set t c false) cs i e) [
-  | inl h ↦ elim (set_false t c i h) [ inl k ↦ inl k | inr k ↦ inr (subst (λ (j : ℕ). Contains (c ∷ cs) j) k (contains_head c cs)) ]
-  | inr h ↦ inr (contains_tail c cs i h)
+  | inl h ↦ elim (set_false t c i h) [ inl k ↦ inl k | inr k ↦ inr (subst (λ (j : ℕ). Contains (c ∷ cs) j) k (contains-head c cs)) ]
+  | inr h ↦ inr (contains-tail c cs i h)
 ]
 
 module _ (leaves : ℕ) (h : Held) (table : List Bool) (deaths : List Death) (proofs : List Proved) (settled : IsSettled leaves h table deaths proofs) where
@@ -67,10 +59,10 @@ module _ (leaves : ℕ) (h : Held) (table : List Bool) (deaths : List Death) (pr
 
   lawful : (before : List ℕ) (ds : List Death) (c : ℕ) → AreLegal leaves h before ds → Contains (dead_of ds) c → LawfulIn ds c
   lawful before [] c a (k, within, is) = absurd (omega arith)
-  lawful before (d ∷ ds) c a (zero, within, is) = record { one = record { before = before; death = d; named = is; legal = a.0 }; died = contains_head d ds }
+  lawful before (d ∷ ds) c a (zero, within, is) = record { one = record { before = before; death = d; named = is; legal = a.0 }; died = contains-head d ds }
   lawful before (d ∷ ds) c a (suc k, within, is) =
       let l = lawful (before ++ d.candidate ∷ []) ds c a.1 (k, omega arith, is) in
-      record { one = l.one; died = contains_tail d ds l.one.death l.died }
+      record { one = l.one; died = contains-tail d ds l.one.death l.died }
 
   -- the query of a dead candidate was open, unless the search for its proof was spent
   pub dead_open : (c : ℕ) → c < length (claims_in h) → slice_get table c ≡ Some false → ((d : Death) → Contains deaths d → d.candidate ≡ c → is_spent d.cause ≡ true → ⊥) → IsOpenAt h c
@@ -80,7 +72,7 @@ module _ (leaves : ℕ) (h : Held) (table : List Bool) (deaths : List Death) (pr
       slice_get-get_or (replicate count true) c false (subst (λ (n : ℕ). c < n) (sym (length-replicate count true)) below) ∙ ap Some (get_or-replicate count c true false below) in
       let gone : slice_get (cleared (replicate count true) (dead_of deaths)) c ≡ Some false = ap (λ t. slice_get t c) (sym settled.table_is) ∙ dead in
       elim (cleared_false (replicate count true) (dead_of deaths) c gone) [
-        | inl bad ↦ absurd (let worse : false ≡ true = bool_is false true (sym bad ∙ full) in cc)
+        | inl bad ↦ absurd (let worse : false ≡ true = same_Some false true (sym bad ∙ full) in cc)
         | inr found ↦
             let in_deaths : LawfulIn deaths c = lawful [] deaths c settled.legal found in
             let l : Lawful c = in_deaths.one in

@@ -1,8 +1,11 @@
 -- Parts of the table of live candidates, and of the lists of pairs.
 use Rattle.std.proofs.Common.{◌≡◌, ◌∙◌, sym, ap, refl, ℕ, suc, zero, ◌+◌, ◌≤◌, ◌<◌, Bool, true, false, List, [], ◌∷◌, ◌++◌, length, drop, get_or, append_assoc, length-append, arith}
 use Rattle.std.specs.Prelude.{Option, Some, None, slice_get, ◌&&◌, ◌||◌}
-use Rattle.std.proofs.Math.Seq.{drop-cons}
-use Rattle.std.proofs.lemmas.Option.{get_or_from_slice_get, slice_get_within, slice_get-get_or}
+use Rattle.std.proofs.Math.Seq.{drop-nil}
+use Rattle.std.proofs.lemmas.List.{length-drop, length-map}
+use Rattle.std.proofs.lemmas.Option.{same_Some, slice_get-get_or}
+use Rattle.sd_base.proofs.Lists.{drop-at}
+use Rattle.sd_term.proofs.Numbers.{drop-some}
 use Rattle.sd_core.specs.declared.CoreProgram.{CoreProgram}
 use Rattle.sd_match.specs.declared.pair.Pair.{Pair}
 use Rattle.sd_cand.specs.declared.candidate.Candidate.{Candidate}
@@ -15,35 +18,15 @@ use Rattle.sd_run.specs.Verdicts.{is_flag, flag_live, verdict_of, verdicts_of}
 
 drop-drop : {X : Type 0} (m n : ℕ) (xs : List X) → drop m (drop n xs) ≡ drop (n + m) xs
 drop-drop m zero xs = let e : m ≡ 0 + m = omega arith in ap (λ k. drop k xs) e
-drop-drop zero (suc n) [] = drop_none (suc n + 0)
-  where
-    drop_none : {X : Type 0} (k : ℕ) → [] ≡ drop {A = X} k []
-    drop_none zero = refl
-    drop_none (suc k) = refl
-drop-drop (suc m) (suc n) [] = drop_none (suc n + suc m)
-  where
-    drop_none : {X : Type 0} (k : ℕ) → [] ≡ drop {A = X} k []
-    drop_none zero = refl
-    drop_none (suc k) = refl
+drop-drop m (suc n) [] = drop-nil m ∙ sym (drop-nil (suc n + m))
 drop-drop m (suc n) (x ∷ xs) = let e : suc n + m ≡ suc (n + m) = omega arith in drop-drop m n xs ∙ ap (λ k. drop k (x ∷ xs)) (sym e)
 
 -- ---- the claims on the flags of one pair
 
--- candidate i at the front
-candidates-front : (cs : List Candidate) (i : ℕ) (c : Candidate) → i < length cs → c ≡ get_or cs i c → drop i cs ≡ c ∷ drop (i + 1) cs
-candidates-front cs i c within at =
-    let next : suc i ≡ i + 1 = omega arith in
-    drop-cons cs i c within ∙ (ap (λ d. d ∷ drop (suc i) cs) (sym at) ∙ ap (λ n. c ∷ drop n cs) next)
-
-table-front : (t : List Bool) (n : ℕ) (b : Bool) → n < length t → slice_get t n ≡ Some b → drop n t ≡ b ∷ drop (n + 1) t
-table-front t n b within is =
-    let next : suc n ≡ n + 1 = omega arith in
-    drop-cons t n b within ∙ (ap (λ x. x ∷ drop (suc n) t) (get_or_from_slice_get t n b b is) ∙ ap (λ m. b ∷ drop m t) next)
-
 -- a candidate more
 flag_step : (cs : List Candidate) (t : List Bool) (i n : ℕ) (c : Candidate) (b : Bool) → i < length cs → n < length t → c ≡ get_or cs i c → slice_get t n ≡ Some b
     → flag_live (drop i cs) (drop n t) ≡ ((is_flag c.claim && b) || flag_live (drop (i + 1) cs) (drop (n + 1) t))
-flag_step cs t i n c b within below at is k = flag_live (candidates-front cs i c within at k) (table-front t n b below is k)
+flag_step cs t i n c b within below at is k = flag_live (drop-at cs i c within at k) (drop-some t n b is k)
 
 both : (a b : Bool) → a ≡ true → b ≡ true → (a && b) ≡ true
 both a b e f = ap (λ x. x && b) e ∙ f
@@ -71,31 +54,25 @@ flag_other cs t i n c within below at other =
     flag_step cs t i n c (get_or t n false) within below at (slice_get-get_or t n false below) ∙ ap (λ x. (x && get_or t n false) || flag_live (drop (i + 1) cs) (drop (n + 1) t)) other
 
 pub drop_shorter : {X : Type 0} (xs : List X) (i : ℕ) → i < length xs → length (drop i xs) ≡ suc (length (drop (i + 1) xs))
-drop_shorter [] i h = absurd (omega arith)
-drop_shorter (x ∷ xs) zero h = refl
-drop_shorter (x ∷ xs) (suc i) h = let next : suc i + 1 ≡ suc (i + 1) = omega arith in drop_shorter xs i (omega arith) ∙ ap (λ n. suc (length (drop n (x ∷ xs)))) (sym next)
+drop_shorter xs i h = omega (arith, length-drop i xs, length-drop (i + 1) xs)
 
 -- ---- pairs
 
-pub mapped : (pair : Pair) (cs : List Candidate) → length (claimed pair cs) ≡ length cs
-mapped pair [] = refl
-mapped pair (c ∷ cs) = ap suc (mapped pair cs)
+mapped : (pair : Pair) (cs : List Candidate) → length (claimed pair cs) ≡ length cs
+mapped pair cs = length-map cs _
 
 pub count_first : (pair : Pair) (pairs : List Pair) → length (claims_of (pair ∷ pairs)) ≡ length (candidates_of pair) + length (claims_of pairs)
 count_first pair pairs = length-append (claimed pair (candidates_of pair)) (claims_of pairs) ∙ ap (λ n. n + length (claims_of pairs)) (mapped pair (candidates_of pair))
 
-some_same : {X : Type 0} (x y : X) → ◌≡◌ {A = Option X} (Some x) (Some y) → x ≡ y
-some_same x y e = cc
-
 -- the candidates of pair i come first from there on
 pub count_at : (pairs : List Pair) (i : ℕ) (cs : List Candidate) → slice_get (all_candidates pairs) i ≡ Some cs → length (claims_of (drop i pairs)) ≡ length cs + length (claims_of (drop (i + 1) pairs))
 count_at [] i cs e = absurd (let bad : ◌≡◌ {A = Option (List Candidate)} None (Some cs) = e in cc)
-count_at (p ∷ ps) zero cs e = count_first p ps ∙ ap (λ n. n + length (claims_of ps)) (ap length (some_same (candidates_of p) cs e))
+count_at (p ∷ ps) zero cs e = count_first p ps ∙ ap (λ n. n + length (claims_of ps)) (ap length (same_Some (candidates_of p) cs e))
 count_at (p ∷ ps) (suc i) cs e = let next : suc i + 1 ≡ suc (i + 1) = omega arith in count_at ps i cs e ∙ ap (λ n. length cs + length (claims_of (drop n (p ∷ ps)))) (sym next)
 
 pub candidates_at : (pairs : List Pair) (i : ℕ) (pair : Pair) (cs : List Candidate) → slice_get pairs i ≡ Some pair → slice_get (all_candidates pairs) i ≡ Some cs → cs ≡ candidates_of pair
 candidates_at [] i pair cs e f = absurd (let bad : ◌≡◌ {A = Option Pair} None (Some pair) = e in cc)
-candidates_at (p ∷ ps) zero pair cs e f = sym (some_same (candidates_of p) cs f) ∙ ap candidates_of (some_same p pair e)
+candidates_at (p ∷ ps) zero pair cs e f = sym (same_Some (candidates_of p) cs f) ∙ ap candidates_of (same_Some p pair e)
 candidates_at (p ∷ ps) (suc i) pair cs e f = candidates_at ps i pair cs e f
 
 -- a pair more
@@ -104,9 +81,7 @@ pub record PairStep (o : Otherwise) (P Q : CoreProgram) (pairs : List Pair) (tab
 
 pub pair_step : (o : Otherwise) (P Q : CoreProgram) (pairs : List Pair) (table : List Bool) (i : ℕ) (pair : Pair) (first count : ℕ) → slice_get pairs i ≡ Some pair → count ≡ length (candidates_of pair) → PairStep o P Q pairs table i pair first count
 pair_step o P Q pairs table i pair first count at sum =
-    let within : i < length pairs = slice_get_within pairs i pair at in
-    let next : suc i ≡ i + 1 = omega arith in
-    let cut : drop i pairs ≡ pair ∷ drop (i + 1) pairs = drop-cons pairs i pair within ∙ (ap (λ p. p ∷ drop (suc i) pairs) (get_or_from_slice_get pairs i pair pair at) ∙ ap (λ n. pair ∷ drop n pairs) next) in
+    let cut : drop i pairs ≡ pair ∷ drop (i + 1) pairs = drop-some pairs i pair at in
     record {
       front =
           ap (λ ps. verdicts_of o P Q ps (drop first table)) cut

@@ -1,8 +1,10 @@
 -- What the verdicts on two programs tell.
-use Rattle.std.proofs.Common.{◌≡◌, ◌∙◌, sym, ap, refl, subst, ℕ, suc, zero, ◌+◌, ◌≤◌, ◌<◌, Bool, true, false, List, [], ◌∷◌, ◌++◌, length, drop, length-append, arith}
+use Rattle.std.proofs.Common.{◌≡◌, ◌∙◌, sym, ap, refl, subst, ℕ, suc, zero, ◌+◌, ◌≤◌, ◌<◌, Bool, true, false, List, [], ◌∷◌, ◌++◌, length, drop, arith}
 use Rattle.std.specs.Prelude.{Option, Some, None, ◌↔◌, ◌&&◌, ◌||◌, map, is_some, slice_get, Contains, if◌then◌else◌}
 use Rattle.std.specs.List.{AllByRecursion}
-use Rattle.std.proofs.lemmas.Option.{slice_get_within}
+use Rattle.std.proofs.lemmas.Option.{none-some, same_Some}
+use Rattle.std.proofs.lemmas.List.{length-drop, length-map}
+use Rattle.sd_base.proofs.Lists.{all-append, all-at, slice_get-append_right, slice_get-map_some}
 use Rattle.sd_ast.specs.declared.Program.{Program}
 use Rattle.sd_meaning.specs.NewFailure.{NewFailure}
 use Rattle.sd_types.specs.Declarations.{WellTyped}
@@ -41,44 +43,18 @@ use Rattle.sd_run.specs.Verdicts.{is_flag, flag_live, said, state_of, verdict_by
 
 -- ---- lists
 
-none_is_some : {X : Type 0} (x : X) → ◌≡◌ {A = Option X} None (Some x) → ⊥
-none_is_some x e = cc
-
-some_same : {X : Type 0} (x y : X) → ◌≡◌ {A = Option X} (Some x) (Some y) → x ≡ y
-some_same x y e = cc
-
 slice_get-front : {X : Type 0} (xs ys : List X) (c : ℕ) (x : X) → slice_get xs c ≡ Some x → slice_get (xs ++ ys) c ≡ Some x
-slice_get-front [] ys c x e = absurd (none_is_some x e)
+slice_get-front [] ys c x e = absurd (none-some x e)
 slice_get-front (y ∷ xs) ys zero x e = e
 slice_get-front (y ∷ xs) ys (suc c) x e = slice_get-front xs ys c x e
 
-slice_get-back : {X : Type 0} (xs ys : List X) (c : ℕ) → slice_get (xs ++ ys) (length xs + c) ≡ slice_get ys c
-slice_get-back [] ys c = let z : 0 + c ≡ c = omega arith in ap (λ n. slice_get ys n) z
-slice_get-back (y ∷ xs) ys c = let z : suc (length xs) + c ≡ suc (length xs + c) = omega arith in ap (λ n. slice_get (y ∷ (xs ++ ys)) n) z ∙ slice_get-back xs ys c
-
-slice_get-map : {X Y : Type 0} (f : X → Y) (xs : List X) (c : ℕ) (x : X) → slice_get xs c ≡ Some x → slice_get (map f xs) c ≡ Some (f x)
-slice_get-map f [] c x e = absurd (none_is_some x e)
-slice_get-map f (y ∷ xs) zero x e = ap Some (ap f (some_same y x e))
-slice_get-map f (y ∷ xs) (suc c) x e = slice_get-map f xs c x e
-
 slice_get-drop : {X : Type 0} (k : ℕ) (xs : List X) (c : ℕ) (x : X) → slice_get (drop k xs) c ≡ Some x → slice_get xs (k + c) ≡ Some x
 slice_get-drop zero xs c x e = let z : 0 + c ≡ c = omega arith in ap (λ n. slice_get xs n) z ∙ e
-slice_get-drop (suc k) [] c x e = absurd (none_is_some x e)
+slice_get-drop (suc k) [] c x e = absurd (none-some x e)
 slice_get-drop (suc k) (y ∷ xs) c x e = let z : suc k + c ≡ suc (k + c) = omega arith in ap (λ n. slice_get (y ∷ xs) n) z ∙ slice_get-drop k xs c x e
 
 length-drop_front : {X : Type 0} (k : ℕ) (xs : List X) (n : ℕ) → length xs ≡ k + n → length (drop k xs) ≡ n
-length-drop_front zero xs n e = omega arith
-length-drop_front (suc k) [] n e = absurd (omega arith)
-length-drop_front (suc k) (y ∷ xs) n e = length-drop_front k xs n (omega arith)
-
-length-mapped : {X Y : Type 0} (f : X → Y) (xs : List X) → length (map f xs) ≡ length xs
-length-mapped f [] = refl
-length-mapped f (x ∷ xs) = ap suc (length-mapped f xs)
-
-all-at : {X : Type 0} (A : X → Type 0) (xs : List X) (n : ℕ) (x : X) → slice_get xs n ≡ Some x → AllByRecursion A xs → A x
-all-at A [] n x e a = absurd (none_is_some x e)
-all-at A (y ∷ xs) zero x e a = subst A (some_same y x e) a.0
-all-at A (y ∷ xs) (suc n) x e a = all-at A xs n x e a.1
+length-drop_front k xs n e = omega (arith, length-drop k xs)
 
 abbrev claim : Pair → Candidate → Claimed
 claim pair c = record { pair = pair; candidate = c }
@@ -98,8 +74,7 @@ flag_is Flag e = refl
 flag_is (Output r) e = absurd (let bad : false ≡ true = e in cc)
 
 and_both : (a b : Bool) → (a && b) ≡ true → (a ≡ true) × (b ≡ true)
-and_both true true e = (refl, refl)
-and_both true false e = absurd (let bad : false ≡ true = e in cc)
+and_both true b e = (refl, e)
 and_both false b e = absurd (let bad : false ≡ true = e in cc)
 
 later : (c : Candidate) (cs : List Candidate) (b : Bool) (table : List Bool) (live : Bool) → FlagIn cs table live → FlagIn (c ∷ cs) (b ∷ table) live
@@ -120,10 +95,10 @@ or_none false b e = (refl, e)
 
 -- where none is live, each claim on the flags is dead
 dead_at : (cs : List Candidate) (table : List Bool) (k : ℕ) (c : Candidate) → length cs ≤ length table → flag_live cs table ≡ false → slice_get cs k ≡ Some c → c.claim ≡ Flag → slice_get table k ≡ Some false
-dead_at [] table k c long none at flag = absurd (none_is_some c at)
+dead_at [] table k c long none at flag = absurd (none-some c at)
 dead_at (d ∷ cs) [] k c long none at flag = absurd (omega arith)
 dead_at (d ∷ cs) (b ∷ table) zero c long none at flag =
-    let same : d ≡ c = some_same d c at in
+    let same : d ≡ c = same_Some d c at in
     let on : is_flag d.claim ≡ true = ap is_flag (ap (λ (x : Candidate). x.claim) same ∙ flag) in
     ap Some (let off = (or_none (is_flag d.claim && b) (flag_live cs table) none).0 in sym (ap (λ x. x && b) on) ∙ off)
 dead_at (d ∷ cs) (b ∷ table) (suc k) c long none at flag =
@@ -216,9 +191,9 @@ module _ (P Q : Program) (old_typed : WellTyped P) (new_typed : WellTyped Q) whe
       new_root : (n : ℕ) (x : Claimed) (q : CoreProc) → IsFlagAt h n x → slice_get h.new.procs x.pair.new ≡ Some q → q.parent ≡ None
       new_root n x q f found =
           let each : (p : CoreProc) → slice_get h.old.procs x.pair.old ≡ Some p → p.parent ≡ None → IsRootPair (work_of h.old h.new) x =
-          all-at (IsRootedClaim h.old h.new) (claims_in h) n x f.at (claims-rooted h.old h.new) in
+          all-at (IsRootedClaim h.old h.new) (claims_in h) n x (claims-rooted h.old h.new) f.at in
           let rooted : IsRootPair (work_of h.old h.new) x = each f.old f.found f.root in
-          let same : rooted.new ≡ q = some_same rooted.new q (sym rooted.new_found ∙ found) in
+          let same : rooted.new ≡ q = same_Some rooted.new q (sym rooted.new_found ∙ found) in
           ap (λ (r : CoreProc). r.parent) (sym same) ∙ rooted.new_root
 
       -- a spent search for a candidate of the pair
@@ -281,7 +256,7 @@ module _ (P Q : Program) (old_typed : WellTyped P) (new_typed : WellTyped Q) whe
         where
           here_with : p.parent ≡ None → IsHere n pair table p q
           here_with root = record {
-            claims = λ k c e. here.claims k (record { pair = pair; candidate = c }) (slice_get-front (map (claim pair) (candidates_of pair)) (claims_of pairs) k (record { pair = pair; candidate = c }) (slice_get-map (claim pair) (candidates_of pair) k c e));
+            claims = λ k c e. here.claims k (record { pair = pair; candidate = c }) (slice_get-front (map (claim pair) (candidates_of pair)) (claims_of pairs) k (record { pair = pair; candidate = c }) (slice_get-map_some (claim pair) (candidates_of pair) k c e));
             rest = here.rest;
             long = omega (arith, here.size, count_first pair pairs);
             old_found = at;
@@ -294,26 +269,22 @@ module _ (P Q : Program) (old_typed : WellTyped P) (new_typed : WellTyped Q) whe
           go None e = subst (λ (x : Option (ℕ × ℕ)). AllByRecursion (IsRight P Q deaths) (if is_some x then [] else verdict_with p q (state_of o pair.state (flag_live (candidates_of pair) table)) ∷ [])) (sym e) (right_state n pair table p q (here_with e) pair.state refl, tt)
           go (Some parent) e = subst (λ (x : Option (ℕ × ℕ)). AllByRecursion (IsRight P Q deaths) (if is_some x then [] else verdict_with p q (state_of o pair.state (flag_live (candidates_of pair) table)) ∷ [])) (sym e) tt
 
-      all-joined : (vs ws : List PairVerdict) → AllByRecursion (IsRight P Q deaths) vs → AllByRecursion (IsRight P Q deaths) ws → AllByRecursion (IsRight P Q deaths) (vs ++ ws)
-      all-joined [] ws a b = b
-      all-joined (v ∷ vs) ws a b = (a.0, all-joined vs ws a.1 b)
-
       right_pairs : (n : ℕ) (pairs : List Pair) (table : List Bool) → AreHere n pairs table → AllByRecursion (IsRight P Q deaths) (verdicts_of o h.old h.new pairs table)
       right_pairs n [] table here = tt
       right_pairs n (pair ∷ pairs) table here =
           let count : ℕ = length (candidates_of pair) in
           let first : List Claimed = map (claim pair) (candidates_of pair) in
-          let long : length first ≡ count = length-mapped (claim pair) (candidates_of pair) in
+          let long : length first ≡ count = length-map (candidates_of pair) (claim pair) in
           let next : AreHere (n + count) pairs (drop count table) = record {
             claims = λ k x e.
                 let shift : n + (length first + k) ≡ (n + count) + k = omega arith in
-                ap (λ m. slice_get (claims_in h) m) (sym shift) ∙ here.claims (length first + k) x (slice_get-back first (claims_of pairs) k ∙ e);
+                ap (λ m. slice_get (claims_in h) m) (sym shift) ∙ here.claims (length first + k) x (slice_get-append_right first (claims_of pairs) k ∙ e);
             rest = λ k b e.
                 let shift : n + (count + k) ≡ (n + count) + k = omega arith in
                 ap (λ m. slice_get live m) (sym shift) ∙ here.rest (count + k) b (slice_get-drop count table k b e);
             size = length-drop_front count table (length (claims_of pairs)) (here.size ∙ count_first pair pairs);
           } in
-          all-joined (verdict_of o h.old h.new pair (flag_live (candidates_of pair) table)) (verdicts_of o h.old h.new pairs (drop count table))
+          all-append (IsRight P Q deaths) (verdict_of o h.old h.new pair (flag_live (candidates_of pair) table)) (verdicts_of o h.old h.new pairs (drop count table))
           (right_found n pair pairs table here (slice_get h.old.procs pair.old) (slice_get h.new.procs pair.new) refl refl) (right_pairs (n + count) pairs (drop count table) next)
 
       -- the verdicts of the pairs of the programs are right
