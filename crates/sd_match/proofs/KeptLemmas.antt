@@ -1,13 +1,13 @@
 -- What a table of places tells, where it has only those things that a test keeps.
-use Rattle.std.proofs.Common.{◌≡◌, ◌∙◌, sym, ap, refl, ℕ, suc, ◌+◌, ◌-◌, ◌<◌, ◌≤◌, Bool, true, false, cond, List, [], ◌∷◌, length, get_or, drop, arith, map}
-use Rattle.std.proofs.Math.Seq.{drop-cons}
+use Rattle.std.proofs.Common.{◌≡◌, ◌∙◌, sym, ap, refl, ℕ, suc, ◌+◌, ◌-◌, ◌<◌, ◌≤◌, Bool, true, false, List, [], ◌∷◌, length, arith, map}
 use Rattle.std.specs.Prelude.{◌&&◌, Option, Some, None, slice_get, is_none, if◌then◌else◌}
 use Rattle.sd_base.specs.Value.{Text, same_text}
+use Rattle.sd_base.proofs.Texts.{same_text-flip}
 use Rattle.sd_core.specs.declared.CoreProc.{CoreProc}
-use Rattle.sd_match.specs.Places.{place_from, first_named}
+use Rattle.sd_base.specs.Names.{place_from}
+use Rattle.sd_match.specs.Places.{first_named}
 use Rattle.sd_match.specs.Pairs.{root_from}
 use Rattle.sd_match.proofs.ListLemmas.{some_is}
-use Rattle.sd_match.proofs.PlaceLemmas.{flip}
 
 -- the place of the first kept thing of this name, where places are counted from n on
 abbrev pub kept_from : {A : Type 0} → (A → Bool) → (A → Text) → ℕ → List A → Text → Option ℕ
@@ -81,6 +81,6 @@ named_kept name [] f = refl
 named_kept name (x ∷ xs) f = ap (λ o. if same_text f (name x) then Some x else o) (named_kept name xs f)
 
 -- a table after an insertion
-pub put_kept : (keep : Bool) (name key f : Text) (place : ℕ) (was now : Option ℕ) → keep ≡ true → key ≡ name → now ≡ cond (same_text key f) (Some place) was → now ≡ (if keep && same_text f name then Some place else was)
-put_kept keep name key f place was now kept same updated =
-    updated ∙ ap (λ t. cond (same_text t f) (Some place) was) same ∙ ap (λ b. cond b (Some place) was) (flip name f) ∙ sym (ap (λ b. if b && same_text f name then Some place else was) kept)
+pub put_kept : (keep : Bool) (name f : Text) (place : ℕ) (was now : Option ℕ) → keep ≡ true → now ≡ (if same_text name f then Some place else was) → now ≡ (if keep && same_text f name then Some place else was)
+put_kept keep name f place was now kept updated =
+    updated ∙ ap (λ b. if b then Some place else was) (same_text-flip name f) ∙ sym (ap (λ b. if b && same_text f name then Some place else was) kept)

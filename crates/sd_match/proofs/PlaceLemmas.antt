@@ -1,11 +1,10 @@
 -- What the table of places tells of the named things.
-use Rattle.std.proofs.Common.{◌≡◌, ◌∙◌, sym, ap, refl, ℕ, suc, ◌+◌, ◌-◌, ◌<◌, ◌≤◌, Bool, true, false, cond, List, [], ◌∷◌, length, get_or, drop, arith, nat_lt, map}
+use Rattle.std.proofs.Common.{◌≡◌, ◌∙◌, sym, ap, refl, ℕ, suc, ◌+◌, ◌-◌, ◌<◌, ◌≤◌, Bool, true, false, List, [], ◌∷◌, length, get_or, arith, nat_lt, map}
 use Rattle.std.proofs.lemmas.Bool.Decides.{nat_tests}
-use Rattle.std.proofs.Math.Seq.{drop-cons}
 use Rattle.std.specs.Prelude.{Option, Some, None, if◌then◌else◌}
-use Rattle.std.specs.Cmp.Lexicographic.{nat_list_eq_equiv}
 use Rattle.sd_base.specs.Value.{Text, same_text}
-use Rattle.sd_match.specs.Places.{place_from, first_named}
+use Rattle.sd_base.specs.Names.{place_from}
+use Rattle.sd_match.specs.Places.{first_named}
 
 some_is : (a b : ℕ) → ◌≡◌ {A = Option ℕ} (Some a) (Some b) → a ≡ b
 some_is a b e = cc
@@ -47,25 +46,12 @@ place_none name n (x ∷ xs) f none = go (same_text f (name x)) refl none (λ h.
     go true is h rest = absurd (let bad : ◌≡◌ {A = Option ℕ} (Some n) None = h in cc)
     go false is h rest = ap (λ b. if b then Some x else first_named name xs f) is ∙ rest h
 
-pub flip : (a b : Text) → same_text a b ≡ same_text b a
-flip a b = nat_list_eq_equiv.symm a b
-
--- one thing more at the front
-pub place_more : {A : Type 0} (name : A → Text) (place : ℕ) (xs : List A) (f : Text) (x : A) (next : ℕ) (was now : Option ℕ) → next ≡ suc place → place < length xs → x ≡ get_or xs place x
-    → now ≡ cond (same_text (name x) f) (Some place) was → was ≡ place_from next (map name (drop next xs)) f → now ≡ place_from place (map name (drop place xs)) f
-place_more name place xs f x next was now is within at updated before =
-    updated ∙ ap (λ b. cond b (Some place) was) (flip (name x) f) ∙ ap (λ o. if same_text f (name x) then Some place else o) (before ∙ ap (λ n. place_from n (map name (drop n xs)) f) is)
-    ∙ sym (ap (λ ys. place_from place (map name ys) f) (drop-cons xs place x within ∙ ap (λ y. y ∷ drop (suc place) xs) (sym at)))
-
 pub found_is : {A : Type 0} (name : A → Text) (xs : List A) (f : Text) (i : ℕ) (d : A) → place_from 0 (map name xs) f ≡ Some i → d ≡ get_or xs i d → Some d ≡ first_named name xs f
 found_is name xs f i d found at = let none : i - 0 ≡ i = omega arith in ap Some at ∙ (ap (λ k. Some (get_or xs k d)) (sym none) ∙ (place_stands name 0 xs f i d found).is)
 
 pub place_within : {A : Type 0} (name : A → Text) (xs : List A) (f : Text) (i : ℕ) → place_from 0 (map name xs) f ≡ Some i → i < length xs
 place_within name [] f i found = absurd (let bad : ◌≡◌ {A = Option ℕ} None (Some i) = found in cc)
 place_within name (x ∷ xs) f i found = let h : i < 0 + length (x ∷ xs) = (place_stands name 0 (x ∷ xs) f i x found).within in omega arith
-
-pub found_at : {A : Type 0} (name : A → Text) (xs : List A) (f : Text) (i : ℕ) (d : A) → place_from 0 (map name xs) f ≡ Some i → Some (get_or xs i d) ≡ first_named name xs f
-found_at name xs f i d found = let none : i - 0 ≡ i = omega arith in ap (λ k. Some (get_or xs k d)) (sym none) ∙ (place_stands name 0 xs f i d found).is
 
 -- a place is within the list
 pub place_not_past : {A : Type 0} (name : A → Text) (xs : List A) (f : Text) (i : ℕ) → place_from 0 (map name xs) f ≡ Some i → false ≡ nat_lt i (length xs) → ⊥

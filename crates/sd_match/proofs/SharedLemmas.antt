@@ -5,11 +5,12 @@ use Rattle.std.specs.List.{AllByRecursion, IsDistinct}
 use Rattle.std.specs.Cmp.Lexicographic.{bytes_decides}
 use Rattle.sd_base.specs.declared.Sort.{Sort, Int, Bool as BoolSort, Named}
 use Rattle.sd_base.specs.declared.Var.{Var}
-use Rattle.sd_base.specs.Value.{Text, same_text}
+use Rattle.sd_base.specs.Value.{same_text}
 use Rattle.sd_base.specs.Sorts.{MapOf}
 use Rattle.sd_core.specs.Formed.{names_of, same_sort}
 use Rattle.sd_core.specs.Failure as failure
-use Rattle.sd_match.specs.Places.{place_from, first_named}
+use Rattle.sd_base.specs.Names.{place_from}
+use Rattle.sd_match.specs.Places.{first_named}
 
 -- ---- the test of types
 

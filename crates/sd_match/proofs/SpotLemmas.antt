@@ -1,7 +1,7 @@
 -- Places in states, by position and by name.
 use Rattle.std.proofs.Common.{◌≡◌, ◌∙◌, sym, ap, refl, ℕ, zero, suc, ◌+◌, ◌<◌, ◌≤◌, min, Bool, true, false, List, [], ◌∷◌, length, get_or, drop, add-one, arith}
 use Rattle.std.proofs.lemmas.List.{drop_more}
-use Rattle.std.specs.Prelude.{◌&&◌, ◌↔◌, IsTrue, Option, Some, None, slice_get, if◌then◌else◌}
+use Rattle.std.specs.Prelude.{◌&&◌, ◌↔◌, IsTrue, Option, Some, slice_get, if◌then◌else◌}
 use Rattle.std.specs.List.{AllByRecursion, IsDistinct}
 use Rattle.std.specs.Cmp.Lexicographic.{bytes_decides}
 use Rattle.sd_base.specs.declared.Var.{Var}
@@ -9,10 +9,10 @@ use Rattle.sd_base.specs.Value.{Text, same_text}
 use Rattle.sd_core.specs.declared.Spot.TheVariants.{Slot}
 use Rattle.sd_core.specs.Formed.{names_of, same_sort}
 use Rattle.sd_core.specs.Failure as failure
-use Rattle.sd_match.specs.Places.{place_from}
+use Rattle.sd_base.specs.Names.{place_from}
 use Rattle.sd_match.specs.Pairs.{by_position}
 use Rattle.sd_match.proofs.ListLemmas.{some_is, rest_at}
-use Rattle.sd_match.proofs.PlaceLemmas.{flip}
+use Rattle.sd_base.proofs.Texts.{same_text-flip}
 
 -- ---- names and types
 
@@ -40,7 +40,7 @@ later n k false r e = (refl, e ∙ ap Some (omega arith))
 
 apart : (y : Var) (ys : List Var) → ((k : ℕ) (x : Var) → slice_get ys k ≡ Some x → same_text x.name y.name ≡ false) → AllByRecursion (λ z. same_text y.name z ≡ false) (names_of ys)
 apart y [] h = tt
-apart y (z ∷ zs) h = (flip y.name z.name ∙ h 0 z refl, apart y zs (λ k x e. h (suc k) x e))
+apart y (z ∷ zs) h = (same_text-flip y.name z.name ∙ h 0 z refl, apart y zs (λ k x e. h (suc k) x e))
 
 firsts_distinct : (n : ℕ) (xs : List Var) → ((k : ℕ) (x : Var) → slice_get xs k ≡ Some x → place_from n (names_of xs) x.name ≡ Some (n + k)) → IsDistinct same_text (names_of xs)
 unfolding IsDistinct

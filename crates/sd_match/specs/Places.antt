@@ -1,12 +1,7 @@
--- Where names stand.
-use Rattle.std.specs.Prelude.{ℕ, suc, List, [], ◌∷◌, map, Option, Some, None, if◌then◌else◌}
+-- Things by their names.
+use Rattle.std.specs.Prelude.{List, [], ◌∷◌, map, Option, Some, None, if◌then◌else◌}
 use Rattle.sd_base.specs.Value.{Text, same_text}
 use Rattle.sd_core.specs.declared.CoreProc.{CoreProc}
-
--- the place of the first of these names that is f, where they begin at place n
-abbrev pub place_from : ℕ → List Text → Text → Option ℕ
-place_from n [] f = None
-place_from n (x ∷ xs) f = if same_text f x then Some n else place_from (suc n) xs f
 
 abbrev pub proc_names : List CoreProc → List Text
 proc_names = map (λ p. p.name)

@@ -1,15 +1,14 @@
 //! The partners of procedures and loops.
 ghost use Rattle.std.specs.Prelude.{◌≡◌, ◌+◌, ◌^◌, ◌<◌, ◌&&◌, IfOk, OnOk, Some, None, is_none, get_or, length, map, slice_get, take, if◌then◌else◌};
-ghost use Rattle.std.specs.HashMap.{get};
+ghost use Rattle.sd_base.specs.FirstPlaces.{place_of};
 ghost use Rattle.sd_base.specs.Value.{Text, same_text};
 ghost use Rattle.sd_core.specs.Formed.{WellFormed};
 ghost use Rattle.sd_match.specs.Pairs.{same_sorts, same_types, root_from, is_loop_of, loop_at, loop_partner_at, partner};
 
-use sd_base::{CloneOf, Name, NoMemory, Var, is_same_sort};
+use sd_base::{FirstPlaces, Name, NoMemory, Var, is_same_sort};
 use sd_core::{CoreProc, CoreProgram};
 use sqlite_items::at;
 use std::alloc::Global;
-use std::collections::HashMap;
 
 /// The number at this place, where there is one.
 pub(crate) fn number_at(numbers: &[Option<u32>], place: u32) -> Option<u32>
@@ -49,24 +48,24 @@ pub(crate) fn have_same_types(old: &CoreProc, new: &CoreProc) -> bool
 
 fn put_root(
     alloc: Global,
-    places: &mut HashMap<Name, usize>,
+    places: &mut FirstPlaces,
     proc: &CoreProc,
     place: usize,
 ) -> Result<(), NoMemory>
-    ensures { OnOk result ((f : Text) → get same_text places.new f ≡ (if is_none proc.now.parent && same_text f proc.now.name then Some place else get same_text places.old f)) }
+    ensures { OnOk result ((f : Text) → place_of places.new f ≡ (if is_none proc.now.parent && same_text f proc.now.name then Some place else place_of places.old f)) }
 {
     if proc.parent.is_some() {
         return Ok(());
     }
-    places.insert(proc.name.clone_of(alloc)?, place)?;
+    places.enter(alloc, &proc.name, place)?;
     Ok(())
 }
 
 /// The places of the procedures of the text by their names.
-fn roots_of(alloc: Global, procs: &[CoreProc]) -> Result<HashMap<Name, usize>, NoMemory>
-    ensures { IfOk result (λ places. (f : Text) → get same_text places f ≡ root_from 0 procs.now f) }
+fn roots_of(alloc: Global, procs: &[CoreProc]) -> Result<FirstPlaces, NoMemory>
+    ensures { IfOk result (λ places. (f : Text) → place_of places f ≡ root_from 0 procs.now f) }
 {
-    let mut places = HashMap::new(alloc);
+    let mut places = FirstPlaces::new(alloc);
     let mut place = procs.len();
     'procs: while place > 0 {
         place -= 1;
@@ -75,12 +74,12 @@ fn roots_of(alloc: Global, procs: &[CoreProc]) -> Result<HashMap<Name, usize>, N
     Ok(places)
 }
 
-fn root_named(procs: &[CoreProc], roots: &HashMap<Name, usize>, name: &Name) -> Option<u32>
+fn root_named(procs: &[CoreProc], roots: &FirstPlaces, name: &Name) -> Option<u32>
     requires small { length procs.now < 2 ^ 32 }
-    requires roots { (f : Text) → get same_text roots.now f ≡ root_from 0 procs.now f }
+    requires roots { (f : Text) → place_of roots.now f ≡ root_from 0 procs.now f }
     ensures { result ≡ root_from 0 procs.now name.now }
 {
-    match roots.get(name).copied() {
+    match roots.find(name) {
         None => None,
         Some(place) => Some(place as u32),
     }
@@ -145,13 +144,13 @@ fn loop_partner(
 fn partner_after(
     old: &CoreProgram,
     new: &CoreProgram,
-    roots: &HashMap<Name, usize>,
+    roots: &FirstPlaces,
     partners: &[Option<u32>],
     proc: &CoreProc,
 ) -> Option<u32>
     requires formed { WellFormed old.now }
     requires small { length new.now.procs < 2 ^ 32 }
-    requires roots { (f : Text) → get same_text roots.now f ≡ root_from 0 new.now.procs f }
+    requires roots { (f : Text) → place_of roots.now f ≡ root_from 0 new.now.procs f }
     requires partners { partners.now ≡ map (partner old.now new.now) (take (length partners.now) old.now.procs) }
     requires proc { slice_get old.now.procs (length partners.now) ≡ Some proc.now }
     ensures { result ≡ partner old.now new.now proc.now }

@@ -3,18 +3,18 @@
 ghost use Rattle.std.specs.Prelude.{◌≡◌, ◌&&◌, IfOk, IfErr, OnOk, Some, None, true, false, if◌then◌else◌};
 ghost use Rattle.std.specs.Bool.{beq};
 ghost use Rattle.std.specs.Option.{option_copied};
-ghost use Rattle.std.specs.HashMap.{get};
 ghost use Rattle.sd_base.specs.Value.{Text, same_text};
 ghost use Rattle.sd_core.specs.Formed.{names_of, same_sort, declared_as};
-ghost use Rattle.sd_match.specs.Places.{place_from, first_named};
+ghost use Rattle.sd_base.specs.FirstPlaces.{place_of};
+ghost use Rattle.sd_base.specs.Names.{place_from};
+ghost use Rattle.sd_match.specs.Places.{first_named};
 ghost use Rattle.sd_match.specs.Refusals.{Answers, refusal_of, retyped_global, retyped_function, sort_named, is_other_sort, all_same_sorts, is_other_function, function_from};
 
 use crate::shared::places_of;
-use sd_base::{CloneOf, Name, NoMemory, Sort, Var, is_same_sort};
+use sd_base::{CloneOf, FirstPlaces, Name, NoMemory, Sort, Var, is_same_sort};
 use sd_core::{CoreProgram, Function};
 use sqlite_items::at;
 use std::alloc::{AllocError, AllocFailed, Global};
-use std::collections::HashMap;
 use thiserror::Error;
 
 /// Why two programs can't be compared.
@@ -66,19 +66,19 @@ impl<T: Drop> From<AllocFailed<T>> for MatchError {
 // ---- globals
 
 /// The variable of this name.
-fn var_named<'a>(places: &HashMap<Name, usize>, vars: &'a [Var], name: &Name) -> Option<&'a Var>
-    requires { (f : Text) → get same_text places.now f ≡ place_from 0 (names_of vars.now) f }
+fn var_named<'a>(places: &FirstPlaces, vars: &'a [Var], name: &Name) -> Option<&'a Var>
+    requires { (f : Text) → place_of places.now f ≡ place_from 0 (names_of vars.now) f }
     ensures { option_copied result ≡ first_named (λ x. x.name) vars.now name.now }
 {
-    match places.get(name).copied() {
+    match places.find(name) {
         None => None,
         Some(place) => at(vars, place),
     }
 }
 
 /// Whether the new globals have one of this name and another type.
-fn is_retyped(places: &HashMap<Name, usize>, old: &Var, news: &[Var]) -> bool
-    requires { (f : Text) → get same_text places.now f ≡ place_from 0 (names_of news.now) f }
+fn is_retyped(places: &FirstPlaces, old: &Var, news: &[Var]) -> bool
+    requires { (f : Text) → place_of places.now f ≡ place_from 0 (names_of news.now) f }
     ensures { result ≡ is_other_sort old.now.sort (sort_named news.now old.now.name) }
 {
     match var_named(places, news, &old.name) {
@@ -115,17 +115,17 @@ fn is_as(function: &Function, constant: bool) -> bool
 
 fn put_function(
     alloc: Global,
-    places: &mut HashMap<Name, usize>,
+    places: &mut FirstPlaces,
     constant: bool,
     function: &Function,
     place: usize,
 ) -> Result<(), NoMemory>
-    ensures { OnOk result ((f : Text) → get same_text places.new f ≡ (if beq function.now.constant constant && same_text f function.now.name then Some place else get same_text places.old f)) }
+    ensures { OnOk result ((f : Text) → place_of places.new f ≡ (if beq function.now.constant constant && same_text f function.now.name then Some place else place_of places.old f)) }
 {
     if !is_as(function, constant) {
         return Ok(());
     }
-    places.insert(function.name.clone_of(alloc)?, place)?;
+    places.enter(alloc, &function.name, place)?;
     Ok(())
 }
 
@@ -134,10 +134,10 @@ fn places_of_functions(
     alloc: Global,
     constant: bool,
     functions: &[Function],
-) -> Result<HashMap<Name, usize>, NoMemory>
-    ensures { IfOk result (λ places. (f : Text) → get same_text places f ≡ function_from constant 0 functions.now f) }
+) -> Result<FirstPlaces, NoMemory>
+    ensures { IfOk result (λ places. (f : Text) → place_of places f ≡ function_from constant 0 functions.now f) }
 {
-    let mut places = HashMap::new(alloc);
+    let mut places = FirstPlaces::new(alloc);
     let mut place = functions.len();
     'functions: while place > 0 {
         place -= 1;
@@ -148,15 +148,15 @@ fn places_of_functions(
 
 /// The function, or the constant, of this name.
 fn function_named<'a>(
-    places: &HashMap<Name, usize>,
+    places: &FirstPlaces,
     constant: bool,
     functions: &'a [Function],
     name: &Name,
 ) -> Option<&'a Function>
-    requires { (f : Text) → get same_text places.now f ≡ function_from constant 0 functions.now f }
+    requires { (f : Text) → place_of places.now f ≡ function_from constant 0 functions.now f }
     ensures { option_copied result ≡ declared_as constant functions.now name.now }
 {
-    match places.get(name).copied() {
+    match places.find(name) {
         None => None,
         Some(place) => at(functions, place),
     }
@@ -197,13 +197,13 @@ fn is_other_function(old: &Function, new: Option<&Function>) -> bool
 
 /// The new function, or the new constant, of an old one's name.
 fn declared_again<'a>(
-    functions: &HashMap<Name, usize>,
-    constants: &HashMap<Name, usize>,
+    functions: &FirstPlaces,
+    constants: &FirstPlaces,
     old: &Function,
     news: &'a [Function],
 ) -> Option<&'a Function>
-    requires functions { (f : Text) → get same_text functions.now f ≡ function_from false 0 news.now f }
-    requires constants { (f : Text) → get same_text constants.now f ≡ function_from true 0 news.now f }
+    requires functions { (f : Text) → place_of functions.now f ≡ function_from false 0 news.now f }
+    requires constants { (f : Text) → place_of constants.now f ≡ function_from true 0 news.now f }
     ensures { option_copied result ≡ declared_as old.now.constant news.now old.now.name }
 {
     if old.constant {

@@ -1,38 +1,37 @@
 ghost use Rattle.std.specs.Prelude.{◌≡◌, ◌<◌, length, IfOk, IfSome};
 ghost use Rattle.std.specs.List.{IsDistinct};
-ghost use Rattle.std.specs.HashMap.{get};
 ghost use Rattle.sd_base.specs.Value.{Text, same_text};
 ghost use Rattle.sd_core.specs.Formed.{names_of};
 ghost use Rattle.sd_core.specs.Failure.{shared_at, shared_of};
 ghost use Rattle.sd_core.specs.Failure as failure;
-ghost use Rattle.sd_match.specs.Places.{place_from};
+ghost use Rattle.sd_base.specs.FirstPlaces.{place_of};
+ghost use Rattle.sd_base.specs.Names.{place_from};
 
-use sd_base::{CloneOf, Name, NoMemory, Var, is_same_sort};
+use sd_base::{FirstPlaces, NoMemory, Var, is_same_sort};
 use sd_core::Shared;
 use std::alloc::Global;
-use std::collections::HashMap;
 
 /// The places of these variables by their names.
-pub(crate) fn places_of(alloc: Global, vars: &[Var]) -> Result<HashMap<Name, usize>, NoMemory>
-    ensures { IfOk result (λ places. (f : Text) → get same_text places f ≡ place_from 0 (names_of vars.now) f) }
+pub(crate) fn places_of(alloc: Global, vars: &[Var]) -> Result<FirstPlaces, NoMemory>
+    ensures { IfOk result (λ places. (f : Text) → place_of places f ≡ place_from 0 (names_of vars.now) f) }
 {
-    let mut places = HashMap::new(alloc);
+    let mut places = FirstPlaces::new(alloc);
     let mut place = vars.len();
     'vars: while place > 0 {
         place -= 1;
-        places.insert(vars[place].name.clone_of(alloc)?, place)?;
+        places.enter(alloc, &vars[place].name, place)?;
     }
     Ok(places)
 }
 
 /// The place of the new global that has the old one's name and type.
-pub(crate) fn partner(places: &HashMap<Name, usize>, old: &Var, news: &[Var]) -> Option<usize>
-    requires places { (f : Text) → get same_text places.now f ≡ place_from 0 (names_of news.now) f }
+pub(crate) fn partner(places: &FirstPlaces, old: &Var, news: &[Var]) -> Option<usize>
+    requires places { (f : Text) → place_of places.now f ≡ place_from 0 (names_of news.now) f }
     requires distinct { IsDistinct same_text (names_of news.now) }
     ensures place { result ≡ failure.place_from 0 news.now old.now }
     ensures within { IfSome result (λ i. i < length news.now) }
 {
-    match places.get(&old.name).copied() {
+    match places.find(&old.name) {
         None => None,
         Some(place) => match news.get(place) {
             None => None,

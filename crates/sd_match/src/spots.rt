@@ -1,21 +1,20 @@
 //! The places in the states of a pair that are compared.
 ghost use Rattle.std.specs.Prelude.{◌≡◌, ◌+◌, ◌&&◌, ◌++◌, [], ◌∷◌, ℕ, IfOk, OnOk, IsTrue, take, drop, slice_get};
-ghost use Rattle.std.specs.HashMap.{get};
 ghost use Rattle.std.specs.List.{IsDistinct};
 ghost use Rattle.sd_base.specs.Value.{Text, same_text};
 ghost use Rattle.sd_core.specs.declared.Spot.TheVariants as spot;
 ghost use Rattle.sd_core.specs.Formed.{names_of, same_sort};
 ghost use Rattle.sd_core.specs.Failure as failure;
-ghost use Rattle.sd_match.specs.Places.{place_from};
+ghost use Rattle.sd_base.specs.FirstPlaces.{place_of};
+ghost use Rattle.sd_base.specs.Names.{place_from};
 ghost use Rattle.sd_match.specs.Pairs.{by_position, by_name, named_pair, shared_pair, shared_pairs, in_pairs, out_pairs};
 
 use crate::pair::SpotPair;
 use crate::shared::{partner, places_of};
-use sd_base::{CloneOf, Name, NoMemory, Sort, Var, is_same_sort};
+use sd_base::{CloneOf, FirstPlaces, NoMemory, Sort, Var, is_same_sort};
 use sd_core::{Shared, Spot};
 use sqlite_items::{Items, at};
 use std::alloc::Global;
-use std::collections::HashMap;
 
 // ---- numbers of slots
 
@@ -86,12 +85,12 @@ fn put_by_position(
 }
 
 /// Whether each name stands at its own place, as it does where no two are one.
-fn are_distinct(places: &HashMap<Name, usize>, vars: &[Var]) -> bool
-    requires places { (f : Text) → get same_text places.now f ≡ place_from 0 (names_of vars.now) f }
+fn are_distinct(places: &FirstPlaces, vars: &[Var]) -> bool
+    requires places { (f : Text) → place_of places.now f ≡ place_from 0 (names_of vars.now) f }
     ensures { IsTrue result → IsDistinct same_text (names_of vars.now) }
 {
     'vars: for place in 0..vars.len() {
-        if places.get(&vars[place].name).copied() != Some(place) {
+        if places.find(&vars[place].name) != Some(place) {
             return false;
         }
     }
@@ -120,8 +119,8 @@ fn first_alike(old: &Var, news: &[Var]) -> Option<usize>
 }
 
 /// The same place, by the table where the names are distinct.
-fn alike(places: &HashMap<Name, usize>, distinct: bool, old: &Var, news: &[Var]) -> Option<usize>
-    requires places { (f : Text) → get same_text places.now f ≡ place_from 0 (names_of news.now) f }
+fn alike(places: &FirstPlaces, distinct: bool, old: &Var, news: &[Var]) -> Option<usize>
+    requires places { (f : Text) → place_of places.now f ≡ place_from 0 (names_of news.now) f }
     requires distinct { IsTrue distinct → IsDistinct same_text (names_of news.now) }
     ensures { result ≡ failure.place_from 0 news.now old.now }
 {

@@ -8,7 +8,7 @@ returns-in-None c =
     let k = c.args.constant in
     let gs = c.args.functions.now in
     let f = c.args.name.now in
-    let found = sym (function_kept k 0 gs f) ∙ (sym (c.requires f) ∙ (sym c.get.ensures.value ∙ (sym c.copied.ensures ∙ c.in-None.is))) in
+    let found = sym (function_kept k 0 gs f) ∙ (sym (c.requires f) ∙ (sym c.find.ensures ∙ c.in-None.is)) in
     sym (declared_kept k gs f ∙ kept_none (is_as k) function_name 0 gs f found)
 
 pub returns-in-Some : goal.returns-in-Some
@@ -16,5 +16,5 @@ returns-in-Some c =
     let k = c.args.constant in
     let gs = c.args.functions.now in
     let f = c.args.name.now in
-    let found = sym (function_kept k 0 gs f) ∙ (sym (c.requires f) ∙ (sym c.get.ensures.value ∙ (sym c.copied.ensures ∙ c.in-Some.is))) in
+    let found = sym (function_kept k 0 gs f) ∙ (sym (c.requires f) ∙ (sym c.find.ensures ∙ c.in-Some.is)) in
     c.at.ensures ∙ kept_is (is_as k) function_name gs f c.in-Some.place found ∙ sym (declared_kept k gs f)

@@ -1,9 +1,9 @@
-use Rattle.std.proofs.Common.{◌≡◌, ◌∙◌, sym, ap, arith, ◌-◌, ◌<◌, suc, length, cond}
-use Rattle.std.specs.Prelude.{Some}
-use Rattle.std.specs.HashMap.{get}
+use Rattle.std.proofs.Common.{◌≡◌, ◌∙◌, sym, ap, ◌<◌, ◌-◌, suc, length, arith}
+use Rattle.std.specs.Prelude.{Some, if◌then◌else◌}
+use Rattle.sd_base.specs.FirstPlaces.{place_of}
 use Rattle.sd_base.specs.Value.{same_text}
 use Rattle.sd_base.specs.declared.Var.{Var}
-use Rattle.sd_match.proofs.PlaceLemmas.{place_more}
+use Rattle.sd_base.proofs.Places.{place_from-more_of}
 use Rattle.sd_match.proofs.shared.places_of.Goals as goal
 
 pub vars-preserved : goal.vars-preserved
@@ -12,6 +12,6 @@ vars-preserved c =
     let within : c.vars.place - 1 < length c.args.vars.now = omega arith in
     record {
       within = omega arith;
-      found = λ f. place_more (λ (x : Var). x.name) (c.vars.place - 1) c.args.vars.now f c.index-vars-place.result c.vars.place (get same_text c.vars.places f) (get same_text c.insert.new.self f) next within c.index-vars-place.is
-          (c.in_ok-insert.ensures.updates.0 f ∙ ap (λ t. cond (same_text t f) (Some (c.vars.place - 1)) (get same_text c.vars.places f)) c.in_ok-clone_of.ensures ∙ ap (λ (x : Var). cond (same_text x.name f) (Some (c.vars.place - 1)) (get same_text c.vars.places f)) (sym c.index-vars-place.is)) (c.vars.invariant.found f);
+      found = λ f. place_from-more_of (λ (x : Var). x.name) c.args.vars.now (c.vars.place - 1) c.vars.place c.index-vars-place.result f _ _ next within c.index-vars-place.is (c.vars.invariant.found f)
+          (c.in_ok-enter.ensures f ∙ ap (λ (x : Var). if same_text x.name f then Some (c.vars.place - 1) else place_of c.vars.places f) (sym c.index-vars-place.is));
     }

@@ -1,14 +1,14 @@
 use Rattle.std.proofs.Common.{◌≡◌, ◌≤◌, length, drop}
-use Rattle.std.specs.HashMap.{get}
-use Rattle.sd_base.specs.Value.{Text, same_text}
+use Rattle.sd_base.specs.FirstPlaces.{place_of}
+use Rattle.sd_base.specs.Value.{Text}
 use Rattle.sd_core.specs.Formed.{names_of}
-use Rattle.sd_match.specs.Places.{place_from}
+use Rattle.sd_base.specs.Names.{place_from}
 use Rattle.sd_match.proofs.shared.places_of.Given as goal
 
 abbrev pub invariant-vars : goal.invariant-vars
 invariant-vars l = record {
   within : l.place ≤ length l.vars;
-  found : (f : Text) → get same_text l.places f ≡ place_from l.place (names_of (drop l.place l.vars)) f;
+  found : (f : Text) → place_of l.places f ≡ place_from l.place (names_of (drop l.place l.vars)) f;
 }
 
 abbrev pub decreases-vars : goal.decreases-vars

@@ -2,7 +2,7 @@ use Rattle.std.proofs.Common.{◌≡◌, ◌<◌, ℕ}
 use Rattle.std.specs.Prelude.{Some, slice_get}
 use Rattle.sd_base.specs.declared.Var.{Var}
 use Rattle.sd_core.specs.Formed.{names_of}
-use Rattle.sd_match.specs.Places.{place_from}
+use Rattle.sd_base.specs.Names.{place_from}
 use Rattle.sd_match.proofs.spots.are_distinct.Given as goal
 
 abbrev pub invariant-vars : goal.invariant-vars

@@ -1,9 +1,9 @@
-use Rattle.std.proofs.Common.{◌≡◌, ◌∙◌, sym, ap, arith, ◌-◌, ◌<◌, suc, length, cond}
-use Rattle.std.specs.Prelude.{Some}
-use Rattle.std.specs.HashMap.{get}
+use Rattle.std.proofs.Common.{◌≡◌, ◌∙◌, sym, ap, ◌<◌, ◌-◌, suc, length, arith}
+use Rattle.std.specs.Prelude.{Some, if◌then◌else◌}
+use Rattle.sd_base.specs.FirstPlaces.{place_of}
 use Rattle.sd_base.specs.Value.{same_text}
 use Rattle.sd_core.specs.declared.CoreProc.{CoreProc}
-use Rattle.sd_match.proofs.PlaceLemmas.{place_more}
+use Rattle.sd_base.proofs.Places.{place_from-more_of}
 use Rattle.sd_match.proofs.procedures.Procedures.new.Goals as goal
 
 pub procs-preserved : goal.procs-preserved
@@ -12,6 +12,6 @@ procs-preserved c =
     let within : c.procs.place - 1 < length c.args.procs.now = omega arith in
     record {
       within = omega arith;
-      found = λ f. place_more (λ (x : CoreProc). x.name) (c.procs.place - 1) c.args.procs.now f c.index-procs-place.result c.procs.place (get same_text c.procs.places f) (get same_text c.insert.new.self f) next within c.index-procs-place.is
-          (c.in_ok-insert.ensures.updates.0 f ∙ ap (λ t. cond (same_text t f) (Some (c.procs.place - 1)) (get same_text c.procs.places f)) c.in_ok-clone_of.ensures ∙ ap (λ (x : CoreProc). cond (same_text x.name f) (Some (c.procs.place - 1)) (get same_text c.procs.places f)) (sym c.index-procs-place.is)) (c.procs.invariant.found f);
+      found = λ f. place_from-more_of (λ (x : CoreProc). x.name) c.args.procs.now (c.procs.place - 1) c.procs.place c.index-procs-place.result f _ _ next within c.index-procs-place.is (c.procs.invariant.found f)
+          (c.in_ok-enter.ensures f ∙ ap (λ (x : CoreProc). if same_text x.name f then Some (c.procs.place - 1) else place_of c.procs.places f) (sym c.index-procs-place.is));
     }
