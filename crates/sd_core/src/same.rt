@@ -21,12 +21,10 @@ pub fn same_body(a: &CoreProc, b: &CoreProc, procs: &[Option<u32>], globals: &[O
 // ---- variables
 
 fn have_same_variables(a: &CoreProc, b: &CoreProc) -> bool
-    ensures {
-        IsTrue result ↔ ((sorts_of a.now.ins ≡ sorts_of b.now.ins)
-            × (sorts_of a.now.outs ≡ sorts_of b.now.outs)
-            × (sorts_of a.now.locals ≡ sorts_of b.now.locals)
-            × (((a.now.parent ≡ None) × (b.now.parent ≡ None)) ⊎ SameNames a.now b.now))
-    }
+    ensures { IsTrue result ↔ ((sorts_of a.now.ins ≡ sorts_of b.now.ins)
+        × (sorts_of a.now.outs ≡ sorts_of b.now.outs)
+        × (sorts_of a.now.locals ≡ sorts_of b.now.locals)
+        × (((a.now.parent ≡ None) × (b.now.parent ≡ None)) ⊎ SameNames a.now b.now)) }
 {
     have_same_sorts(a.ins.as_slice(), b.ins.as_slice())
         && have_same_sorts(a.outs.as_slice(), b.outs.as_slice())

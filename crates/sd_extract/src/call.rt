@@ -30,7 +30,8 @@ pub(crate) fn push_requires_on(
     assumed: bool,
     out: &mut Items<CoreStmt>,
 ) -> Result<(), NoMemory>
-    ensures { OnOk result (out.new ≡ out.old ++ map (clause_stmt (spec.on_args (names_in scope.now) callee.now spots.now)
+    ensures { OnOk result
+        (out.new ≡ out.old ++ map (clause_stmt (spec.on_args (names_in scope.now) callee.now spots.now)
         assumed) (requires_of callee.now.specs)) }
 {
     let mut names = Items::new(alloc);
@@ -68,7 +69,8 @@ fn push_call(
     args: &[Expr],
     out: &mut Items<CoreStmt>,
 ) -> Result<(), NoMemory>
-    ensures { OnOk result (out.new ≡ out.old ++ call_with (names_in scope.now) number (slots_from first args.now) names.now
+    ensures { OnOk result
+        (out.new ≡ out.old ++ call_with (names_in scope.now) number (slots_from first args.now) names.now
         args.now callee.now) }
 {
     let mut spots = Items::new(alloc);

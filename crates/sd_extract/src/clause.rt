@@ -66,7 +66,8 @@ pub(crate) fn push_requires(
     clauses: &[Spec],
     out: &mut Items<CoreStmt>,
 ) -> Result<(), NoMemory>
-    ensures { OnOk result (out.new ≡ out.old ++ map (clause_stmt (names_in scope.now) assumed) (requires_of clauses.now)) }
+    ensures { OnOk result
+        (out.new ≡ out.old ++ map (clause_stmt (names_in scope.now) assumed) (requires_of clauses.now)) }
 {
     for clause in clauses {
         push_requirement(alloc, scope, assumed, clause, out)?;

@@ -65,7 +65,8 @@ fn push_loop_left(
     body: &[Stmt],
     lefts: &mut Items<Var>,
 ) -> Result<Counts, NoMemory>
-    ensures lefts { OnOk result (lefts.new ≡ lefts.old ++ left_var (counts_in at) (has_return_among (kinds_of body.now))) }
+    ensures lefts { OnOk result
+        (lefts.new ≡ lefts.old ++ left_var (counts_in at) (has_return_among (kinds_of body.now))) }
     ensures next { IfOk result (λ next. counts_in next ≡ spec.plus (counts_in at)
         (of_loop (has_return_among (kinds_of body.now)) (counts_each (kinds_of body.now)))) }
 {
@@ -120,7 +121,8 @@ fn push_all_hidden(
     args: &mut Items<Var>,
     lefts: &mut Items<Var>,
 ) -> Result<Counts, NoMemory>
-    ensures args { OnOk result (args.new ≡ args.old ++ each_args_in (program_of callees.now) (counts_in at) (kinds_of stmts.now)) }
+    ensures args { OnOk result
+        (args.new ≡ args.old ++ each_args_in (program_of callees.now) (counts_in at) (kinds_of stmts.now)) }
     ensures lefts { OnOk result (lefts.new ≡ lefts.old ++ each_left_in (counts_in at) (kinds_of stmts.now)) }
     ensures next { IfOk result (λ next. counts_in next ≡ spec.plus (counts_in at) (counts_each (kinds_of stmts.now))) }
 {
@@ -139,7 +141,8 @@ pub(crate) fn push_hidden(
     stmts: &[Stmt],
     out: &mut Items<Var>,
 ) -> Result<(), NoMemory>
-    ensures { OnOk result (out.new ≡ out.old ++ spec.hidden (program_of callees.now) (counts_in at) (kinds_of stmts.now)) }
+    ensures { OnOk result
+        (out.new ≡ out.old ++ spec.hidden (program_of callees.now) (counts_in at) (kinds_of stmts.now)) }
 {
     let mut lefts = Items::new(alloc);
     push_all_hidden(alloc, callees, at, stmts, out, &mut lefts)?;

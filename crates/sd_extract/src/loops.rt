@@ -209,7 +209,8 @@ fn loop_proc(
 ) -> Result<CoreProc, NoMemory>
     requires globals { AreGlobals source.now.globals.now }
     requires layout { IsLayout (source_in source.now) layout.now }
-    ensures { IfOk result (λ p. p ≡ spec.loop_proc (program_of callees.now) (number_of callees.now) (source_in source.now)
+    ensures { IfOk result
+        (λ p. p ≡ spec.loop_proc (program_of callees.now) (number_of callees.now) (source_in source.now)
         number guard.now (clauses_of invariants.now) (has_return_among (kinds_of body.now)) (kinds_of body.now)) }
 {
     let inside = count_stmts(body)?;

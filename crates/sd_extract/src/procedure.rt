@@ -85,7 +85,8 @@ fn body_proc(
 ) -> Result<CoreProc, NoMemory>
     requires globals { AreGlobals source.now.globals.now }
     requires layout { IsLayout (source_in source.now) layout.now }
-    ensures { IfOk result (λ p. p ≡ spec.body_proc (program_of callees.now) (number_of callees.now) (source_in source.now)) }
+    ensures { IfOk result
+        (λ p. p ≡ spec.body_proc (program_of callees.now) (number_of callees.now) (source_in source.now)) }
 {
     let inside = count_stmts(source.body.stmts.as_slice())?;
     let frame = body_frame(source, layout);
@@ -120,7 +121,8 @@ pub(crate) fn push_procs(
     requires { AreGlobals source.now.globals.now }
     ensures out { OnOk result (out.new ≡ out.old ++ procs_of (program_of callees.now) (number_of callees.now)
         (source_in source.now)) }
-    ensures next { IfOk result (λ next. next ≡ source.now.number + suc (counts_each (kinds (source_in source.now))).loops) }
+    ensures next { IfOk result
+        (λ next. next ≡ source.now.number + suc (counts_each (kinds (source_in source.now))).loops) }
 {
     let layout = layout_of(alloc, source)?;
     out.push(body_proc(alloc, callees, source, &layout)?)?;

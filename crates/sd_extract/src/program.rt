@@ -31,7 +31,8 @@ fn push_routine(
     requires { AreGlobals globals.now }
     ensures out { OnOk result (out.new ≡ out.old ++ procs_of (program_of callees.now) (number_of callees.now)
         (source_of globals.now.vars number (routine_in routine.now))) }
-    ensures next { IfOk result (λ next. next ≡ number + suc (counts_each (kinds_of (routine_in routine.now).body.stmts)).loops) }
+    ensures next { IfOk result
+        (λ next. next ≡ number + suc (counts_each (kinds_of (routine_in routine.now).body.stmts)).loops) }
 {
     let names = modified_names(alloc, routine.declared.specs.as_slice())?;
     let source = Source {

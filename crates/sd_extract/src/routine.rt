@@ -33,7 +33,8 @@ fn own_body<'a>(declared: &'a Proc) -> Option<Routine<'a>>
 
 /// The procedure of this name, if it has a body.
 pub(crate) fn find_routine<'a>(routines: &Routines<'a>, name: &Name) -> Option<Routine<'a>>
-    ensures { option_map routine_in result ≡ routine_named (record { decls = routines.now.procedures.decls.now }) name.now }
+    ensures { option_map routine_in result
+        ≡ routine_named (record { decls = routines.now.procedures.decls.now }) name.now }
 {
     let Some(declared) = routines.procedures.named(name) else {
         return None;
@@ -50,7 +51,8 @@ pub(crate) fn find_routine<'a>(routines: &Routines<'a>, name: &Name) -> Option<R
 
 /// How many core procedures a procedure becomes.
 pub(crate) fn core_size(routines: &Routines, name: &Name) -> Result<u32, NoMemory>
-    ensures { IfOk result (λ n. n ≡ size_of (routine_named (record { decls = routines.now.procedures.decls.now }) name.now)) }
+    ensures { IfOk result
+        (λ n. n ≡ size_of (routine_named (record { decls = routines.now.procedures.decls.now }) name.now)) }
 {
     match find_routine(routines, name) {
         None => Ok(0),

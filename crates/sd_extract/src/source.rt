@@ -164,7 +164,8 @@ fn head_names(alloc: Global, head: &Head) -> Result<NameTable, NoMemory>
 
 /// The spots of the ins and outs of a procedure.
 fn head_places(alloc: Global, head: &Head) -> Result<Items<Spot>, NoMemory>
-    ensures { IfOk result (λ places. places ≡ slots_from 0 head.now.ins ++ slots_from (length head.now.ins) head.now.outs) }
+    ensures { IfOk result
+        (λ places. places ≡ slots_from 0 head.now.ins ++ slots_from (length head.now.ins) head.now.outs) }
 {
     let mut places = Items::new(alloc);
     let next = push_vars(0, head.ins.as_slice(), &mut places)?;

@@ -49,7 +49,8 @@ loop_at procs q k (Some p) = if is_loop_of q k p.parent then Some (q + k) else N
 -- the partner of loop k of a procedure, whose own partner is this one at place j, where their types agree
 abbrev pub loop_partner : CoreProgram → CoreProc → ℕ → ℕ → Option CoreProc → Option ℕ
 loop_partner Q root k j None = None
-loop_partner Q root k j (Some other) = if same_types root other then loop_at Q.procs j k (slice_get Q.procs (j + k)) else None
+loop_partner Q root k j (Some other) =
+    if same_types root other then loop_at Q.procs j k (slice_get Q.procs (j + k)) else None
 
 abbrev pub loop_partner_at : CoreProgram → CoreProc → ℕ → Option ℕ → Option ℕ
 loop_partner_at Q root k None = None
@@ -75,7 +76,8 @@ is_unmatched P Q (Some p) = is_none (partner P Q p)
 
 -- the slots from i on with those from j on, by position
 abbrev pub by_position : ℕ → ℕ → List Var → List Var → List SpotPair
-by_position i j (x ∷ xs) (y ∷ ys) = record { old = Slot i; new = Slot j; sort = x.sort } ∷ by_position (suc i) (suc j) xs ys
+by_position i j (x ∷ xs) (y ∷ ys) =
+    record { old = Slot i; new = Slot j; sort = x.sort } ∷ by_position (suc i) (suc j) xs ys
 by_position i j _ _ = []
 
 abbrev pub named_pair : ℕ → ℕ → Sort → Option ℕ → List SpotPair
@@ -127,7 +129,8 @@ in_pairs a b olds news = by_position 0 0 (take a olds) (take b news) ++ by_name 
 -- out-parameters, in slots from i and from j on: by position, then a loop's locals by name, and last whether it left the procedure
 abbrev pub out_pairs : (i j a b d e : ℕ) → (olds news : List Var) → List SpotPair
 out_pairs i j a b d e olds news =
-    by_position i j (take a olds) (take b news) ++ (by_name (i + a) (j + b) (take d (drop a olds)) (take e (drop b news)) ++
+    by_position i j (take a olds) (take b news)
+    ++ (by_name (i + a) (j + b) (take d (drop a olds)) (take e (drop b news)) ++
     by_position (i + (a + d)) (j + (b + e)) (drop (a + d) olds) (drop (b + e) news))
 
 abbrev pub is_among : ℕ → List ℕ → Bool
@@ -139,11 +142,15 @@ abbrev pub modified_globals : CoreProc → CoreProc → List Shared → List Sha
 modified_globals p q = filter (λ s. is_among s.old p.modifies || is_among s.new q.modifies)
 
 abbrev pub inputs_of : CoreProgram → CoreProgram → CoreProc → CoreProc → List SpotPair
-inputs_of P Q p q = in_pairs (fixed_ins p (root_of P p)) (fixed_ins q (root_of Q q)) p.ins q.ins ++ shared_pairs P.globals (shared_of P.globals Q.globals)
+inputs_of P Q p q =
+    in_pairs (fixed_ins p (root_of P p)) (fixed_ins q (root_of Q q)) p.ins q.ins
+    ++ shared_pairs P.globals (shared_of P.globals Q.globals)
 
 abbrev pub outputs_of : CoreProgram → CoreProgram → CoreProc → CoreProc → List SpotPair
 outputs_of P Q p q =
-    out_pairs (length p.ins) (length q.ins) (fixed_outs p (root_of P p)) (fixed_outs q (root_of Q q)) (carried_count p (root_of P p)) (carried_count q (root_of Q q)) p.outs q.outs ++
+    out_pairs (length p.ins) (length q.ins) (fixed_outs p (root_of P p)) (fixed_outs q (root_of Q q))
+    (carried_count p (root_of P p)) (carried_count q (root_of Q q)) p.outs q.outs
+    ++
     shared_pairs P.globals (modified_globals p q (shared_of P.globals Q.globals))
 
 -- ---- states
@@ -156,7 +163,9 @@ owner n (Some parent) = parent.0
 -- the unmatched procedures that the body of procedure i and those of its loops call
 abbrev pub unmatched_calls : CoreProgram → CoreProgram → ℕ → ℕ → List CoreProc → List ℕ
 unmatched_calls P Q i n [] = []
-unmatched_calls P Q i n (p ∷ ps) = (if owner n p.parent == i then filter (λ q. is_unmatched P Q (slice_get P.procs q)) (callees_of p.body) else []) ++ unmatched_calls P Q i (suc n) ps
+unmatched_calls P Q i n (p ∷ ps) =
+    (if owner n p.parent == i then filter (λ q. is_unmatched P Q (slice_get P.procs q)) (callees_of p.body) else [])
+    ++ unmatched_calls P Q i (suc n) ps
 
 abbrev pub least_with : ℕ → Option ℕ → ℕ
 least_with n None = n
@@ -183,7 +192,8 @@ state_by None None = Open
 
 -- the state of the pair of two procedures of the texts at these places
 abbrev pub state_of : CoreProgram → CoreProgram → ℕ → ℕ → Option CoreProc → Option CoreProc → PairState
-state_of P Q i j (Some p) (Some q) = if same_types p q then state_by (first_unmatched P Q i) (first_unmatched Q P j) else Signature
+state_of P Q i j (Some p) (Some q) =
+    if same_types p q then state_by (first_unmatched P Q i) (first_unmatched Q P j) else Signature
 state_of P Q i j _ _ = Signature
 
 -- ---- pairs
@@ -191,13 +201,17 @@ state_of P Q i j _ _ = Signature
 -- a pair whose types differ has no inputs and no outputs
 abbrev pub pair_with : PairState → CoreProgram → CoreProgram → ℕ → ℕ → CoreProc → CoreProc → Pair
 pair_with Signature P Q i j p q = record { old = i; new = j; state = Signature; inputs = []; outputs = [] }
-pair_with state P Q i j p q = record { old = i; new = j; state = state; inputs = inputs_of P Q p q; outputs = outputs_of P Q p q }
+pair_with state P Q i j p q =
+    record { old = i; new = j; state = state; inputs = inputs_of P Q p q; outputs = outputs_of P Q p q }
 
 -- A loop's pair has the state of the procedures' pair.
 abbrev pub pair_at : CoreProgram → CoreProgram → ℕ → ℕ → CoreProc → Option CoreProc → List Pair
 pair_at P Q i j p None = []
 pair_at P Q i j p (Some q) =
-    pair_with (state_of P Q (owner i p.parent) (owner j q.parent) (slice_get P.procs (owner i p.parent)) (slice_get Q.procs (owner j q.parent))) P Q i j p q ∷ []
+    pair_with
+    (state_of P Q (owner i p.parent) (owner j q.parent) (slice_get P.procs (owner i p.parent))
+    (slice_get Q.procs (owner j q.parent))) P Q i j p q
+    ∷ []
 
 abbrev pub pair_by : CoreProgram → CoreProgram → ℕ → CoreProc → Option ℕ → List Pair
 pair_by P Q i p None = []

@@ -22,7 +22,8 @@ is_other_sort s (Some t) = not (same_sort s t)
 -- the first global, in the order of the old program, that the new one declares with another type
 abbrev pub retyped_global : List Var → List Var → Option Text
 retyped_global [] news = None
-retyped_global (x ∷ olds) news = if is_other_sort x.sort (sort_named news x.name) then Some x.name else retyped_global olds news
+retyped_global (x ∷ olds) news =
+    if is_other_sort x.sort (sort_named news x.name) then Some x.name else retyped_global olds news
 
 -- the types agree by position
 abbrev pub all_same_sorts : List Sort → List Sort → Bool
@@ -37,7 +38,8 @@ is_other_function g (Some h) = not (all_same_sorts g.args h.args && same_sort g.
 -- the first function or constant, in the order of the old program, that the new one declares with another signature
 abbrev pub retyped_function : List Function → List Function → Option Text
 retyped_function [] news = None
-retyped_function (g ∷ olds) news = if is_other_function g (declared_as g.constant news g.name) then Some g.name else retyped_function olds news
+retyped_function (g ∷ olds) news =
+    if is_other_function g (declared_as g.constant news g.name) then Some g.name else retyped_function olds news
 
 -- ---- answers
 
@@ -63,4 +65,5 @@ Answers (FunctionSignatures f) refusal = refusal ≡ Some (function_signatures f
 -- the place of the function, or of the constant, of this name, where places are counted from n on
 abbrev pub function_from : (constant : Bool) → ℕ → List Function → Text → Option ℕ
 function_from constant n [] f = None
-function_from constant n (g ∷ gs) f = if beq g.constant constant && same_text f g.name then Some n else function_from constant (suc n) gs f
+function_from constant n (g ∷ gs) f =
+    if beq g.constant constant && same_text f g.name then Some n else function_from constant (suc n) gs f

@@ -20,15 +20,19 @@ lacks partners q = is_none (get_or partners q None)
 -- the procedures without a partner that the body of procedure i and those of its loops call
 abbrev pub calls_lacking : List (Option ℕ) → ℕ → ℕ → List CoreProc → List ℕ
 calls_lacking partners i n [] = []
-calls_lacking partners i n (p ∷ ps) = (if owner n p.parent == i then filter (lacks partners) (callees_of p.body) else []) ++ calls_lacking partners i (suc n) ps
+calls_lacking partners i n (p ∷ ps) =
+    (if owner n p.parent == i then filter (lacks partners) (callees_of p.body) else [])
+    ++ calls_lacking partners i (suc n) ps
 
 -- for each procedure of the text the first one without a partner that it or a loop of it calls
 abbrev pub AreLeast : List (Option ℕ) → List CoreProc → List (Option ℕ) → Type 0
-AreLeast partners procs entries = (i : ℕ) → i < length procs → get_or entries i None ≡ least (calls_lacking partners i 0 procs)
+AreLeast partners procs entries =
+    (i : ℕ) → i < length procs → get_or entries i None ≡ least (calls_lacking partners i 0 procs)
 
 -- so of two programs
 abbrev pub AreFirstUnmatched : CoreProgram → CoreProgram → List (Option ℕ) → Type 0
-AreFirstUnmatched P Q entries = (i : ℕ) → i < length P.procs → get_or entries i None ≡ least (unmatched_calls P Q i 0 P.procs)
+AreFirstUnmatched P Q entries =
+    (i : ℕ) → i < length P.procs → get_or entries i None ≡ least (unmatched_calls P Q i 0 P.procs)
 
 -- the tables of two programs
 pub record AreTablesOf (P Q : CoreProgram) (tables : Tables) : Type 0 where

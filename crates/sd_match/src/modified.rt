@@ -20,7 +20,8 @@ fn marks_of(alloc: Global, count: usize, places: &[u32]) -> Result<Vec<bool>, No
 
 fn mark(marks: &mut Vec<bool>, place: u32)
     ensures count { length marks.new.items ≡ length marks.old.items }
-    ensures marks { (i : ℕ) → i < length marks.old.items → get_or marks.new.items i false ≡ ((i == place) || get_or marks.old.items i false) }
+    ensures marks { (i : ℕ) → i < length marks.old.items
+        → get_or marks.new.items i false ≡ ((i == place) || get_or marks.old.items i false) }
 {
     if (place as usize) < marks.len() {
         marks[place as usize] = true;

@@ -138,7 +138,11 @@ fn pair_of(
     q: &CoreProc,
 ) -> Result<Pair, NoMemory>
     requires { AreTablesOf old.now new.now tables.now }
-    ensures { IfOk result (λ pair. pair ≡ pair_with (state_of old.now new.now (owner i p.now.parent) (owner j q.now.parent) (slice_get old.now.procs (owner i p.now.parent)) (slice_get new.now.procs (owner j q.now.parent))) old.now new.now i j p.now q.now) }
+    ensures { IfOk result
+        (λ pair. pair
+        ≡ pair_with (state_of old.now new.now (owner i p.now.parent) (owner j q.now.parent)
+        (slice_get old.now.procs (owner i p.now.parent))
+        (slice_get new.now.procs (owner j q.now.parent))) old.now new.now i j p.now q.now) }
 {
     let state = state_of(
         alloc,
@@ -180,7 +184,8 @@ fn put_pair(
 ) -> Result<(), NoMemory>
     requires tables { AreTablesOf old.now new.now tables.now }
     requires proc { slice_get old.now.procs place ≡ Some proc.now }
-    ensures { OnOk result (pairs.new ≡ pairs.old ++ pair_by old.now new.now place proc.now (partner old.now new.now proc.now)) }
+    ensures { OnOk result
+        (pairs.new ≡ pairs.old ++ pair_by old.now new.now place proc.now (partner old.now new.now proc.now)) }
 {
     match number_at(&tables.partners, place) {
         None => Ok(()),

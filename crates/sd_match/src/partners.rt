@@ -52,7 +52,10 @@ fn put_root(
     proc: &CoreProc,
     place: usize,
 ) -> Result<(), NoMemory>
-    ensures { OnOk result ((f : Text) → place_of places.new f ≡ (if is_none proc.now.parent && same_text f proc.now.name then Some place else place_of places.old f)) }
+    ensures { OnOk result
+        ((f : Text)
+        → place_of places.new f ≡ (if is_none proc.now.parent && same_text f proc.now.name then Some place
+        else place_of places.old f)) }
 {
     if proc.parent.is_some() {
         return Ok(());

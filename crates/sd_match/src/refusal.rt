@@ -120,7 +120,10 @@ fn put_function(
     function: &Function,
     place: usize,
 ) -> Result<(), NoMemory>
-    ensures { OnOk result ((f : Text) → place_of places.new f ≡ (if beq function.now.constant constant && same_text f function.now.name then Some place else place_of places.old f)) }
+    ensures { OnOk result
+        ((f : Text)
+        → place_of places.new f ≡ (if beq function.now.constant constant && same_text f function.now.name
+        then Some place else place_of places.old f)) }
 {
     if !is_as(function, constant) {
         return Ok(());

@@ -209,7 +209,9 @@ pub(crate) fn put_outs(
     old: Outs<'_>,
     new: Outs<'_>,
 ) -> Result<(), NoMemory>
-    ensures { OnOk result (pairs.new ≡ pairs.old ++ out_pairs old.entry.first new.entry.first old.entry.fixed new.entry.fixed old.entry.carried_count new.entry.carried_count old.entry.vars.now new.entry.vars.now) }
+    ensures { OnOk result
+        (pairs.new ≡ pairs.old
+        ++ out_pairs old.entry.first new.entry.first old.entry.fixed new.entry.fixed old.entry.carried_count new.entry.carried_count old.entry.vars.now new.entry.vars.now) }
 {
     put_by_position(
         alloc,

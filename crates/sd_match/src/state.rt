@@ -46,7 +46,8 @@ pub(crate) fn state_of(
     j: u32,
 ) -> Result<PairState, NoMemory>
     requires { AreTablesOf old.now new.now tables.now }
-    ensures { IfOk result (λ state. state ≡ state_of old.now new.now i j (slice_get old.now.procs i) (slice_get new.now.procs j)) }
+    ensures { IfOk result
+        (λ state. state ≡ state_of old.now new.now i j (slice_get old.now.procs i) (slice_get new.now.procs j)) }
 {
     match old.procs.get(i as usize) {
         None => Ok(PairState::Signature),

@@ -58,7 +58,10 @@ fn least_callee(
 
 fn put_lower(entries: &mut Vec<Option<u32>>, owner: u32, callee: Option<u32>)
     ensures count { length entries.new.items ≡ length entries.old.items }
-    ensures entries { (i : ℕ) → i < length entries.old.items → get_or entries.new.items i None ≡ (if owner == i then lower (get_or entries.old.items i None) callee else get_or entries.old.items i None) }
+    ensures entries { (i : ℕ) → i < length entries.old.items
+        → get_or entries.new.items i None
+        ≡ (if owner == i then lower (get_or entries.old.items i None) callee
+        else get_or entries.old.items i None) }
 {
     if (owner as usize) < entries.len() {
         entries[owner as usize] = lower(entries[owner as usize], callee);

@@ -90,7 +90,8 @@ IsJudged bytes t o = IsReplay bytes t o ⊎ ((e : CertError) × IsRefused bytes 
 -- the content is beyond the limit, or they were judged
 abbrev pub IsReplayReply : Option (List ℕ) → Texts → Outcome → Type 0
 IsReplayReply known t o =
-    (WhereKnown known (λ bytes. 9223372036854775807 < length bytes) × (o ≡ message 9 certificate_size)) ⊎ ((bytes : List ℕ) × Holds known bytes × IsJudged bytes t o)
+    (WhereKnown known (λ bytes. 9223372036854775807 < length bytes) × (o ≡ message 9 certificate_size))
+    ⊎ ((bytes : List ℕ) × Holds known bytes × IsJudged bytes t o)
 
 -- what a task on two texts comes to
 abbrev pub IsTaskReply : Task → (List ℕ → Option (List ℕ)) → Texts → Outcome → Type 0
@@ -100,4 +101,5 @@ IsTaskReply (replay name) content t o = IsReplayReply (content name) t o
 -- the texts clash, or they were judged
 abbrev pub IsTextsReply : Task → (List ℕ → Option (List ℕ)) → Texts → Outcome → Type 0
 IsTextsReply task content t o =
-    ((r : Refusal) × (clash_of t ≡ Some r) × (o ≡ message 4 (match_error r))) ⊎ ((clash_of t ≡ None) × IsTaskReply task content t o)
+    ((r : Refusal) × (clash_of t ≡ Some r) × (o ≡ message 4 (match_error r)))
+    ⊎ ((clash_of t ≡ None) × IsTaskReply task content t o)

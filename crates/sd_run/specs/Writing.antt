@@ -64,4 +64,5 @@ FileRose (Some file) before now = Rose (before file.0) (now file.0)
 -- the certificate is whole.
 abbrev pub IsCutShort : Option (List ℕ × List ℕ) → CertificateFile → List ℕ → Option (List ℕ) → Option (List ℕ) → Type 0
 IsCutShort certificate file text before now =
-    (IsBroken file × (now ≡ before)) ⊎ ((file ≡ whole certificate) × ((count : ℕ) × (now ≡ appended before (take count text))))
+    (IsBroken file × (now ≡ before))
+    ⊎ ((file ≡ whole certificate) × ((count : ℕ) × (now ≡ appended before (take count text))))

@@ -57,7 +57,8 @@ pub fn reached_atom(terms: &Bank, facts: &[TermId], values: &[Option<bool>]) -> 
     requires sorted { AllWellSorted terms.now }
     requires facts { All (λ f. (f < length terms.now) × (is_truth_valued (tree_at terms.now f) ≡ true)) facts.now }
     requires values { AreValues terms.now values.now }
-    ensures some { IfSome result (λ n. IsReachedAtom (map (λ f. tree_at terms.now f) facts.now) terms.now values.now n) }
+    ensures some { IfSome result
+        (λ n. IsReachedAtom (map (λ f. tree_at terms.now f) facts.now) terms.now values.now n) }
     ensures none { IfNone result ((k : ℕ) → k < length facts.now → known_at values.now (get_or facts.now k 0) ≢ None) }
 {
     for i in 0..facts.len() {

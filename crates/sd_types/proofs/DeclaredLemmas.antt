@@ -63,8 +63,8 @@ module _ (declared : Text → Bool) (f : Text) where
   found-among (d ∷ ds) G H h s =
       let k = parts (enter_of declared G d) (λ X. enter_all_of declared X ds) H h in
       elim (found-among ds k.0 H k.2 s) [
-        inl t ↦ elim (found-one d G k.0 k.1 t) [ inl u ↦ inl u | inr u ↦ inr (found-rest d ds (inl u)) ]
-      | inr t ↦ inr (found-rest d ds (inr t))
+        | inl t ↦ elim (found-one d G k.0 k.1 t) [ inl u ↦ inl u | inr u ↦ inr (found-rest d ds (inl u)) ]
+        | inr t ↦ inr (found-rest d ds (inr t))
       ]
 
 -- ---- all bodies count
@@ -91,10 +91,10 @@ pub entered-all : (ds : List Decl) (nothing G : Scope) → nothing.procedures �
 entered-all ds nothing G e h t =
     let declared = is_among (procedure_names ds) in
     sym (bodies-count declared ds nothing (have-procedures G declared (λ f s.
-      elim (found-among declared f ds nothing G h s) [
-        inl u ↦ absurd (let v = sym u ∙ ap (λ (l : List _). is_some (named l f)) e in cc)
+    elim (found-among declared f ds nothing G h s) [
+      | inl u ↦ absurd (let v = sym u ∙ ap (λ (l : List _). is_some (named l f)) e in cc)
       | inr u ↦ u
-      ]) ds t)) ∙ h
+    ]) ds t)) ∙ h
 
 -- a set of these names will do
 pub of-set : (set names : List Text) (G : Scope) (ds : List Decl) {r : Result Scope TypeError} → names ≡ procedure_names ds → HaveSame set names → Answers (enter_all_of (is_among set) G ds) r → Answers (enter_all_of (is_among (procedure_names ds)) G ds) r

@@ -28,6 +28,7 @@ pub record Answers {A : Type 0} (defined answer : Result A TypeError) : Type 0 w
   pub err : IfErr answer (λ e. e ≢ NoMemory → defined ≡ Err e)
 
 -- the same of a call that leaves what is defined in place of the old value
-pub record Leaves {A : Type 0} (defined : Result A TypeError) (new : A) (answer : Result (Unit {0}) TypeError) : Type 0 where
+pub record Leaves {A : Type 0} (defined : Result A TypeError) (new : A)
+    (answer : Result (Unit {0}) TypeError) : Type 0 where
   pub ok : OnOk answer (defined ≡ Ok new)
   pub err : IfErr answer (λ e. e ≢ NoMemory → defined ≡ Err e)

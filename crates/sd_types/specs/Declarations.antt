@@ -52,7 +52,8 @@ modifies_of (Requires free e ∷ ss) = modifies_of ss
 modifies_of (Ensures free e ∷ ss) = modifies_of ss
 
 abbrev pub callee_of : Proc → Callee
-callee_of p = record { ins = sorts_of_vars p.head.ins; outs = sorts_of_vars p.head.outs; modifies = modifies_of p.specs }
+callee_of p =
+    record { ins = sorts_of_vars p.head.ins; outs = sorts_of_vars p.head.outs; modifies = modifies_of p.specs }
 
 abbrev pub locals_of : Option Body → List Var
 locals_of None = []
@@ -63,7 +64,8 @@ locals_of (Some b) = b.locals
 -- the parameters and locals of one procedure
 abbrev pub own_names : Head → List Var → Result (List Text) TypeError
 own_names h locals =
-    and_then (with_names [] (names_of h.ins)) (λ ins. and_then (with_names ins (names_of h.outs)) (λ outs. with_names outs (names_of locals)))
+    and_then (with_names [] (names_of h.ins))
+    (λ ins. and_then (with_names ins (names_of h.outs)) (λ outs. with_names outs (names_of locals)))
 
 -- one more body
 abbrev pub with_body : List Text → Text → Option Body → Result (List Text) TypeError

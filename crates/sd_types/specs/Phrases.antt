@@ -113,11 +113,15 @@ abbrev mutual
   sort_of C p (SelectOf q m r i) =
       and_then (sort_of C q m) (λ s. and_then (sort_of C r i) (λ t. selected q s (at_place r t)))
   sort_of C p (StoreOf q m r i u v) =
-      and_then (sort_of C q m) (λ s. and_then (sort_of C r i) (λ t. and_then (sort_of C u v) (λ w. stored (at_place q s) (at_place r t) (at_place u w))))
+      and_then (sort_of C q m)
+      (λ s.
+      and_then (sort_of C r i) (λ t. and_then (sort_of C u v)
+      (λ w. stored (at_place q s) (at_place r t) (at_place u w))))
 
   pub sorts_of : Context → {n : _} → Row_of-Expr n → Result (List Given) TypeError
   sorts_of C end_of-Expr = Ok []
-  sorts_of C (more_of-Expr p e es) = and_then (sort_of C p e) (λ s. and_then (sorts_of C es) (λ gs. Ok (at_place p s ∷ gs)))
+  sorts_of C (more_of-Expr p e es) =
+      and_then (sort_of C p e) (λ s. and_then (sorts_of C es) (λ gs. Ok (at_place p s ∷ gs)))
 
 -- the same of a whole expression, and of a list of them
 abbrev pub given : Context → Expr → Result Given TypeError

@@ -44,7 +44,8 @@ pub record Context : Type 0 where
   pub old : Bool
 
 abbrev pub context : Scope → List (Text × Variable) → Site → Context
-context G locals site = record { variable = variable_at G locals site; function = named G.functions; old = has_old site }
+context G locals site =
+    record { variable = variable_at G locals site; function = named G.functions; old = has_old site }
 
 -- what a name is declared as
 abbrev pub declared_as : {X : Type 0} → Text → Option X → Result X TypeError

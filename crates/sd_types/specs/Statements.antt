@@ -68,7 +68,8 @@ indexed p s [] = Ok s
 indexed p s (g ∷ gs) = and_then (selected p s g) (λ t. indexed p t gs)
 
 abbrev pub left_sort : Context → Place → Left → Result Sort TypeError
-left_sort C p l = and_then (sort_in l.name (C.variable l.name)) (λ s. and_then (all_given C l.indices) (λ gs. indexed p s gs))
+left_sort C p l =
+    and_then (sort_in l.name (C.variable l.name)) (λ s. and_then (all_given C l.indices) (λ gs. indexed p s gs))
 
 abbrev pub left_names : List Left → List Text
 left_names ls = map (λ l. l.name) ls
@@ -87,7 +88,8 @@ assignment R p ls gs =
     (each (assignable R) (left_names ls))))))
 
 abbrev pub assign_rule : Routine → Place → List Left → List Expr → Result (Unit {0}) TypeError
-assign_rule R p ls es = both (each (typed_indices R.context) ls) (and_then (all_given R.context es) (λ gs. assignment R p ls gs))
+assign_rule R p ls es =
+    both (each (typed_indices R.context) ls) (and_then (all_given R.context es) (λ gs. assignment R p ls gs))
 
 -- ---- calls
 
@@ -97,7 +99,8 @@ is_global (Some v) = elim v.nature [ Global ↦ true | _ ↦ false ]
 
 -- a global that the callee modifies is in the caller's `modifies`
 abbrev pub modified_rule : Routine → Text → Result (Unit {0}) TypeError
-modified_rule R x = if is_global (named R.scope.globals x) then (if R.modifies x then Ok tt else Err (NotModified x)) else Ok tt
+modified_rule R x =
+    if is_global (named R.scope.globals x) then (if R.modifies x then Ok tt else Err (NotModified x)) else Ok tt
 
 abbrev pub has_body : List Text → Text → Result (Unit {0}) TypeError
 has_body bodies f = if is_among bodies f then Ok tt else Err (NoBody f)
@@ -140,7 +143,8 @@ abbrev mutual
   stmt_rule R loop p (Assume e) = is_truth R.context e
   stmt_rule R loop p (Assign ls es) = assign_rule R p ls es
   stmt_rule R loop p (Call xs f es) = call_rule R p xs f es
-  stmt_rule R loop p (If' e shape a shape' b) = both (is_truth R.context e) (both (row_rule R loop a) (row_rule R loop b))
+  stmt_rule R loop p (If' e shape a shape' b) =
+      both (is_truth R.context e) (both (row_rule R loop a) (row_rule R loop b))
   stmt_rule R loop p (While' e invs shape body) =
       both (is_truth R.context e) (both (each (true_invariant R.context) invs) (row_rule R true body))
   stmt_rule R loop p Break = break_rule loop p

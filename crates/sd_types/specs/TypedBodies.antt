@@ -53,7 +53,9 @@ Assigns C (l ∷ ls) [] = ⊥
 Assigns C (l ∷ ls) (e ∷ es) = ((s : Sort) × LeftHasType C l s × HasType C e.kind s) × Assigns C ls es
 
 abbrev pub Calls : Routine → List Text → Text → List Expr → Type 0
-Calls R xs f es = (q : Callee) × (named R.scope.procedures f ≡ Some q) × AreVariablesOf R.context xs q.outs × AllHave R.context es q.ins
+Calls R xs f es =
+    (q : Callee) × (named R.scope.procedures f ≡ Some q) × AreVariablesOf R.context xs q.outs
+    × AllHave R.context es q.ins
 
 abbrev pub AllTruths : Context → List Invariant → Type 0
 AllTruths C [] = Unit {0}
@@ -65,8 +67,10 @@ abbrev mutual
   IsTypedStmt R loop (Assume e) = HasType R.context e.kind Bool
   IsTypedStmt R loop (Assign ls es) = Assigns R.context ls es
   IsTypedStmt R loop (Call xs f es) = Calls R xs f es
-  IsTypedStmt R loop (If' e shape a shape' b) = HasType R.context e.kind Bool × AreTypedStmts R loop a × AreTypedStmts R loop b
-  IsTypedStmt R loop (While' e invs shape body) = HasType R.context e.kind Bool × AllTruths R.context invs × AreTypedStmts R true body
+  IsTypedStmt R loop (If' e shape a shape' b) =
+      HasType R.context e.kind Bool × AreTypedStmts R loop a × AreTypedStmts R loop b
+  IsTypedStmt R loop (While' e invs shape body) =
+      HasType R.context e.kind Bool × AllTruths R.context invs × AreTypedStmts R true body
   IsTypedStmt R loop Break = loop ≡ true
   IsTypedStmt R loop Return = Unit {0}
 
@@ -89,7 +93,8 @@ IsTypedOwnBody G h modifies (Some b) = IsTypedBody G h modifies b
 -- the body of a declaration, if it has one
 abbrev pub HasTypedBody : Scope → Decl → Type 0
 HasTypedBody G (Procedure p) = IsTypedOwnBody G p.head (modifies_of p.specs) p.body
-HasTypedBody G (Implementation i) = (q : Callee) × (named G.procedures i.head.name ≡ Some q) × IsTypedBody G i.head q.modifies i.body
+HasTypedBody G (Implementation i) =
+    (q : Callee) × (named G.procedures i.head.name ≡ Some q) × IsTypedBody G i.head q.modifies i.body
 HasTypedBody G _ = Unit {0}
 
 abbrev pub HaveTypedBodies : Scope → List Decl → Type 0
@@ -98,4 +103,5 @@ HaveTypedBodies G (d ∷ ds) = HasTypedBody G d × HaveTypedBodies G ds
 
 -- in the bodies of a well-typed program each expression has the type that it is used at
 abbrev pub BodiesAreTyped : Type 0
-BodiesAreTyped = (P : Program) → WellTyped P → (G : Scope) × (enter_all nothing P.decls ≡ Ok G) × HaveTypedBodies G P.decls
+BodiesAreTyped =
+    (P : Program) → WellTyped P → (G : Scope) × (enter_all nothing P.decls ≡ Ok G) × HaveTypedBodies G P.decls

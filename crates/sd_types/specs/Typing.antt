@@ -44,12 +44,14 @@ abbrev mutual
   HasType C (Num n) s = s ≡ Int
   HasType C (Truth b) s = s ≡ Bool
   HasType C (Var x) s = (v : Variable) × (C.variable x ≡ Some v) × (v.sort ≡ s)
-  HasType C (Apply' f shape args) s = (sig : Signature) × (C.function f ≡ Some sig) × HaveTypes C args sig.args × (sig.result ≡ s)
+  HasType C (Apply' f shape args) s =
+      (sig : Signature) × (C.function f ≡ Some sig) × HaveTypes C args sig.args × (sig.result ≡ s)
   HasType C (OldOf q e) s = (C.old ≡ true) × HasType C e s
   HasType C (UnaryOf o q a) s = (t : Sort) × HasType C a t × TakesOne o t s
   HasType C (BinaryOf o q a r b) s = (t : Sort) × (u : Sort) × HasType C a t × HasType C b u × TakesTwo o t u s
   HasType C (SelectOf q m r i) s = (t : Sort) × HasType C m (MapOf t s) × HasType C i t
-  HasType C (StoreOf q m r i u w) s = (t : Sort) × (v : Sort) × HasType C m (MapOf t v) × HasType C i t × HasType C w v × (s ≡ MapOf t v)
+  HasType C (StoreOf q m r i u w) s =
+      (t : Sort) × (v : Sort) × HasType C m (MapOf t v) × HasType C i t × HasType C w v × (s ≡ MapOf t v)
 
   -- arguments have the types of a list, one by one
   pub HaveTypes : Context → {n : _} → Row_of-Expr n → List Sort → Type 0

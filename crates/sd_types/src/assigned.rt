@@ -67,11 +67,7 @@ fn check_nature(
 }
 
 /// Sees that a variable may be assigned.
-fn check_assignable(
-    alloc: Global,
-    frame: &Frame<'_>,
-    name: &Name,
-) -> Result<(), TypeError>
+fn check_assignable(alloc: Global, frame: &Frame<'_>, name: &Name) -> Result<(), TypeError>
     ensures { Answers (assignable (routine_of frame.now) name.now) result }
 {
     match find_variable(frame.scope, frame.locals, Site::Body, name) {
@@ -105,11 +101,7 @@ pub(crate) fn is_global_variable(variable: Option<&Variable>) -> bool
 }
 
 /// Sees that a global which a callee modifies is in the caller's `modifies`.
-fn check_modified(
-    alloc: Global,
-    frame: &Frame<'_>,
-    name: &Name,
-) -> Result<(), TypeError>
+fn check_modified(alloc: Global, frame: &Frame<'_>, name: &Name) -> Result<(), TypeError>
     ensures { Answers (modified_rule (routine_of frame.now) name.now) result }
 {
     if is_global_variable(frame.scope.globals.get(name)) {

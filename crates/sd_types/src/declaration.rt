@@ -184,7 +184,9 @@ fn check_body(
 }
 
 fn check_own_body(alloc: Global, scope: &Scope, procedure: &Proc) -> Result<(), TypeError>
-    ensures { Answers (own_body_rule scope.now procedure.now.head (spec.modifies_of procedure.now.specs) procedure.now.body) result }
+    ensures { Answers
+        (own_body_rule scope.now procedure.now.head
+        (spec.modifies_of procedure.now.specs) procedure.now.body) result }
 {
     let Some(body) = &procedure.body else {
         return Ok(());

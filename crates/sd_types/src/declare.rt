@@ -173,7 +173,9 @@ fn declare_function(
     args: &Items<Sort>,
     result_sort: &Sort,
 ) -> Result<(), TypeError>
-    ensures { Leaves (with_entry functions.old name.now (record { args = args.now; result = result_sort.now })) functions.new result }
+    ensures { Leaves
+        (with_entry functions.old name.now
+        (record { args = args.now; result = result_sort.now })) functions.new result }
 {
     let signature = Signature {
         args: clone_items(alloc, args)?,

@@ -149,20 +149,13 @@ fn check_break(in_loop: bool, at: Place) -> Result<(), TypeError>
 
 /// A statement, inside a loop or not.
 #[cycle(statement)]
-fn check_stmt(
-    alloc: Global,
-    frame: &Frame<'_>,
-    in_loop: bool,
-    stmt: &Stmt,
-) -> Result<(), TypeError>
+fn check_stmt(alloc: Global, frame: &Frame<'_>, in_loop: bool, stmt: &Stmt) -> Result<(), TypeError>
     ensures { Answers (stmt_rule (routine_of frame.now) in_loop stmt.now.at stmt.now.kind) result }
 {
     match &stmt.kind {
         StmtKind::Assert(expr) => expect_truth(alloc, frame.scope, frame.locals, Site::Body, expr),
         StmtKind::Assume(expr) => expect_truth(alloc, frame.scope, frame.locals, Site::Body, expr),
-        StmtKind::Assign(lefts, rights) => {
-            check_assign(alloc, frame, stmt.at, lefts, rights)
-        }
+        StmtKind::Assign(lefts, rights) => { check_assign(alloc, frame, stmt.at, lefts, rights) }
         StmtKind::Call(receivers, name, args) => {
             check_call(alloc, frame, stmt.at, receivers, name, args)
         }
