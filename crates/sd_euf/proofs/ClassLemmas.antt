@@ -1,10 +1,12 @@
 -- classes of terms, merged along true equalities
-use Rattle.std.proofs.Common.{◌≡◌, ℕ, ◌+◌, ◌<◌, ◌≤◌, List, [], ◌∷◌, length, refl, sym, ap, ◌∙◌, subst, Bool, true, false, eqb, ◌⊎◌, inl, inr, Option, if◌then◌else◌, arith}
+use Rattle.std.proofs.Common.{◌≡◌, ℕ, ◌+◌, ◌<◌, List, [], ◌∷◌, length, refl, sym, ap, ◌∙◌, subst, Bool, true, false, eqb, ◌⊎◌, inl, inr, Option, if◌then◌else◌, arith}
 use Rattle.std.specs.List.{AllByRecursion}
 use Rattle.std.proofs.lemmas.Bool.{cases_lt, eqb-true, eq-eqb}
 use Rattle.sd_term.specs.declared.node.Op.TheVariants as op
 use Rattle.sd_term.specs.Tree.{Tree, same_tree-true}
 use Rattle.sd_term.specs.Bank.{tree_at}
+use Rattle.sd_term.specs.Distinct.{AreDistinct}
+use Rattle.sd_term.proofs.Shared.{same-number}
 use Rattle.sd_forms.specs.FactRows.{part_at}
 use Rattle.sd_kernel.specs.Known.{Trail, known}
 use Rattle.sd_kernel.specs.Steps.{is_eq, leads}
@@ -13,23 +15,18 @@ use Rattle.sd_term.proofs.Numbers.{has-at}
 use Rattle.sd_euf.specs.declared.find.Pair.{Pair}
 use Rattle.sd_euf.specs.Closed.{AreClasses}
 use Rattle.sd_euf.specs.Judged.{HasValues, IsPair}
-use Rattle.sd_euf.specs.Links.{IsEqAt, class_at, moved, IsFirstOf, SidesMeet, AreMerged}
+use Rattle.sd_euf.specs.Links.{IsEqAt, class_at, moved, SidesMeet, AreMerged}
 use Rattle.sd_euf.proofs.Shapes.{Place, has-place, value-at}
 use Rattle.sd_euf.proofs.Joined.{AreSides, sides-of, other-left, Begins, begins, joined-same, joined-on, joined-by, joined-back}
 
 module _ (terms : List Tree) (values : List (Option Bool)) where
-  -- the first numbers
-  pub merged-none : (classes : List ℕ) → length classes ≡ length terms → ((k : ℕ) → k < length terms → IsFirstOf terms k (class_at classes k)) → AreMerged terms values classes 0
-  merged-none classes e f = record {
+  -- the numbers of the terms
+  pub merged-none : (classes : List ℕ) → AreDistinct terms → length classes ≡ length terms → ((k : ℕ) → k < length terms → class_at classes k ≡ k) → AreMerged terms values classes 0
+  merged-none classes distinct e f = record {
     long = e;
-    equal = λ i j hi hj s.
-        let a : IsFirstOf terms i (class_at classes i) = f i hi in
-        let b : IsFirstOf terms j (class_at classes j) = f j hj in
-        let le : class_at classes i ≤ class_at classes j = a.first (class_at classes j) b.below (b.same ∙ sym s ∙ sym a.same) in
-        let ge : class_at classes j ≤ class_at classes i = b.first (class_at classes i) a.below (a.same ∙ s ∙ sym b.same) in
-        omega (arith, le, ge);
+    equal = λ i j hi hj s. ap (class_at classes) (same-number terms i j distinct hi hj s);
     sides = λ k h. absurd (omega (arith, h));
-    joined = λ i j hi hj s trail v. joined-same terms trail (tree_at terms i) (tree_at terms j) (sym (f i hi).same ∙ ap (tree_at terms) s ∙ (f j hj).same);
+    joined = λ i j hi hj s trail v. joined-same terms trail (tree_at terms i) (tree_at terms j) (ap (tree_at terms) (sym (f i hi) ∙ s ∙ f j hj));
   }
 
   -- an equality that isn't true

@@ -5,7 +5,8 @@ use Rattle.std.proofs.lemmas.List.{get_or_append_left, get_or_push, get_or-set_s
 use Rattle.sd_term.specs.declared.node.TermNode.{TermNode}
 use Rattle.sd_term.specs.Tree.{Tree, parts_of}
 use Rattle.sd_term.specs.Bank.{tree_at, tree_of}
-use Rattle.sd_term.specs.Numbering.{IsFirst}
+use Rattle.sd_term.specs.Distinct.{AreDistinct}
+use Rattle.sd_term.proofs.Shared.{same-number}
 use Rattle.sd_term.proofs.Numbers.{node-parts}
 use Rattle.sd_euf.specs.declared.table.LeftTable.{LeftTable}
 use Rattle.sd_euf.specs.Table.{HasLeft, IsLastLeft, IsLeftTable}
@@ -31,9 +32,6 @@ one-left t x y h k = let same : x ∷ h.0 ∷ [] ≡ y ∷ k.0 ∷ [] = sym h.1 
 -- ---- one more term
 
 module _ (terms : List Tree) where
-  last-none : (x : Tree) → IsLastLeft terms x 0 None
-  last-none x = λ j h l. absurd (omega (arith, h))
-
   -- a term without the left part
   last-skip : (x : Tree) (n : ℕ) (o : Option ℕ) → (HasLeft (tree_at terms n) x → ⊥) → IsLastLeft terms x n o → IsLastLeft terms x (n + 1) o
   last-skip x n None h a = λ j lt l. elim (cases_lt j n) [ inl below ↦ a j below l | inr above ↦ h (subst (λ i. HasLeft (tree_at terms i) x) (same j lt above) l) ]
@@ -48,14 +46,6 @@ module _ (terms : List Tree) where
 
   last-here : (x : Tree) (n : ℕ) → HasLeft (tree_at terms n) x → IsLastLeft terms x (n + 1) (Some n)
   last-here x n h = (omega arith, h, λ j gt lt l. absurd (omega (arith, gt, lt)))
-
-  pub table-none : (table : LeftTable) → length table.last ≡ length terms → ((k : ℕ) → k < length terms → get_or table.last k None ≡ None) → table.earlier ≡ [] → IsLeftTable terms table 0
-  table-none table e f g = record {
-    as_long = e;
-    passed = ap length g;
-    last_is = λ k h i. subst (λ o. IsLastLeft terms (tree_at terms k) 0 o) (sym (f k h)) (last-none (tree_at terms k));
-    earlier_is = λ j h x l. absurd (omega (arith, h));
-  }
 
   module _ (old new : LeftTable) (n : ℕ) (a : IsLeftTable terms old n) where
     earlier-push : (o : Option ℕ) → new.earlier ≡ old.earlier ++ o ∷ [] → (j : ℕ) → j < n → get_or new.earlier j None ≡ get_or old.earlier j None
@@ -84,35 +74,30 @@ module _ (terms : List Tree) where
     table-skip e f h = record {
       as_long = ap length e ∙ a.as_long;
       passed = passed-more None f;
-      last_is = λ k lt i. subst (λ l. IsLastLeft terms (tree_at terms k) (n + 1) (get_or l k None)) (sym e) (last-skip (tree_at terms k) n (get_or old.last k None) (h (tree_at terms k)) (a.last_is k lt i));
+      last_is = λ k lt. subst (λ l. IsLastLeft terms (tree_at terms k) (n + 1) (get_or l k None)) (sym e) (last-skip (tree_at terms k) n (get_or old.last k None) (h (tree_at terms k)) (a.last_is k lt));
       earlier_is = earlier-all None f (λ x l. absurd (h x l));
     }
 
-    pub table-more : (first left : ℕ) (o : Option ℕ) → first < length terms → IsFirst terms first → tree_at terms first ≡ tree_at terms left → HasLeft (tree_at terms n) (tree_at terms left) → o ≡ get_or old.last first None
-        → new.last ≡ set old.last first (Some n) → new.earlier ≡ old.earlier ++ o ∷ [] → IsLeftTable terms new (n + 1)
-    table-more first left o lt i same h is e f = record {
-      as_long = ap length e ∙ length-set old.last first (Some n) ∙ a.as_long;
+    pub table-more : (left : ℕ) (o : Option ℕ) → AreDistinct terms → left < length terms → HasLeft (tree_at terms n) (tree_at terms left) → o ≡ get_or old.last left None
+        → new.last ≡ set old.last left (Some n) → new.earlier ≡ old.earlier ++ o ∷ [] → IsLeftTable terms new (n + 1)
+    table-more left o distinct lt h is e f = record {
+      as_long = ap length e ∙ length-set old.last left (Some n) ∙ a.as_long;
       passed = passed-more o f;
-      last_is = λ k below j. elim (cases_eq k first) [ inl at ↦ here k at | inr apart ↦ other k below j apart ];
-      earlier_is = earlier-all o f (λ x l. subst (λ q. IsLastLeft terms x n q) (sym is) (subst (λ t. IsLastLeft terms t n (get_or old.last first None)) (same ∙ one-left (tree_at terms n) (tree_at terms left) x h l) (a.last_is first lt i)));
+      last_is = λ k below. elim (cases_eq k left) [ inl at ↦ here k at | inr apart ↦ other k below apart ];
+      earlier_is = earlier-all o f (λ x l. subst (λ q. IsLastLeft terms x n q) (sym is) (subst (λ t. IsLastLeft terms t n (get_or old.last left None)) (one-left (tree_at terms n) (tree_at terms left) x h l) (a.last_is left lt)));
     }
       where
-        mine : HasLeft (tree_at terms n) (tree_at terms first)
-        mine = subst (HasLeft (tree_at terms n)) (sym same) h
-
-        here : (k : ℕ) → k ≡ first → IsLastLeft terms (tree_at terms k) (n + 1) (get_or new.last k None)
+        here : (k : ℕ) → k ≡ left → IsLastLeft terms (tree_at terms k) (n + 1) (get_or new.last k None)
         here k at =
             subst (λ m. IsLastLeft terms (tree_at terms m) (n + 1) (get_or new.last m None)) (sym at)
-            (subst (λ q. IsLastLeft terms (tree_at terms first) (n + 1) q) (sym (ap (λ l. get_or l first None) e ∙ get_or-set_same old.last first (Some n) None (subst (λ m. first < m) (sym a.as_long) lt)))
-            (last-here (tree_at terms first) n mine))
+            (subst (λ q. IsLastLeft terms (tree_at terms left) (n + 1) q) (sym (ap (λ l. get_or l left None) e ∙ get_or-set_same old.last left (Some n) None (subst (λ m. left < m) (sym a.as_long) lt)))
+            (last-here (tree_at terms left) n h))
 
-        other : (k : ℕ) → k < length terms → IsFirst terms k → (k ≡ first → ⊥) → IsLastLeft terms (tree_at terms k) (n + 1) (get_or new.last k None)
-        other k below j apart =
-            subst (λ q. IsLastLeft terms (tree_at terms k) (n + 1) q) (sym (ap (λ l. get_or l k None) e ∙ get_or-set_other old.last first k (Some n) None apart))
+        other : (k : ℕ) → k < length terms → (k ≡ left → ⊥) → IsLastLeft terms (tree_at terms k) (n + 1) (get_or new.last k None)
+        other k below apart =
+            subst (λ q. IsLastLeft terms (tree_at terms k) (n + 1) q) (sym (ap (λ l. get_or l k None) e ∙ get_or-set_other old.last left k (Some n) None apart))
             (last-skip (tree_at terms k) n (get_or old.last k None)
-            (λ l. let t : tree_at terms first ≡ tree_at terms k = one-left (tree_at terms n) (tree_at terms first) (tree_at terms k) mine l in
-            apart (let le : k ≤ first = j first lt t in let ge : first ≤ k = i k below (sym t) in omega (arith, le, ge)))
-            (a.last_is k below j))
+            (λ l. apart (same-number terms k left distinct below lt (one-left (tree_at terms n) (tree_at terms k) (tree_at terms left) l h))) (a.last_is k below))
 
 -- ---- the walk along the terms with one left part
 

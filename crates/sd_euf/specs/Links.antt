@@ -3,7 +3,6 @@ use Rattle.std.specs.Prelude.{◌≡◌, ℕ, ◌<◌, Bool, true, false, List, 
 use Rattle.std.specs.List.{AllByRecursion}
 use Rattle.sd_term.specs.Tree.{Tree}
 use Rattle.sd_term.specs.Bank.{tree_at}
-use Rattle.sd_term.specs.Numbering.{IsFirst}
 use Rattle.sd_forms.specs.FactRows.{part_at}
 use Rattle.sd_kernel.specs.Known.{Trail, known}
 use Rattle.sd_kernel.specs.Steps.{is_eq, other_side, leads}
@@ -71,12 +70,6 @@ class_at classes n = slice_index_or classes n 0
 -- the class that a class is moved to
 abbrev pub moved : ℕ → ℕ → ℕ → ℕ
 moved from to class = if class == from then to else class
-
--- the first number of the tree with this number
-pub record IsFirstOf (terms : List Tree) (n r : ℕ) : Type 0 where
-  pub below : r < length terms
-  pub same : tree_at terms r ≡ tree_at terms n
-  pub first : IsFirst terms r
 
 -- the sides of the equality are in one class
 pub record SidesMeet (terms : List Tree) (classes : List ℕ) (t : Tree) : Type 0 where

@@ -4,7 +4,7 @@ ghost use Rattle.sd_term.specs.Sorts.{AllWellSorted};
 ghost use Rattle.sd_kernel.specs.Known.{Trail};
 ghost use Rattle.sd_euf.specs.Closed.{AreClasses};
 ghost use Rattle.sd_euf.specs.Judged.{HasValues};
-ghost use Rattle.sd_euf.specs.Links.{class_at, moved, IsFirstOf};
+ghost use Rattle.sd_euf.specs.Links.{class_at, moved};
 
 use crate::links::sides_of;
 use sd_base::NoMemory;
@@ -12,15 +12,14 @@ use sd_term::{Bank, TermId};
 use sqlite_items::Items;
 use std::alloc::Global;
 
-/// The first number of each term.
-fn first_numbers(alloc: Global, terms: &Bank) -> Result<Items<u32>, NoMemory>
+/// The number of each term.
+fn own_numbers(alloc: Global, terms: &Bank) -> Result<Items<u32>, NoMemory>
     ensures long { IfOk result (λ classes. length classes ≡ length terms.now) }
-    ensures first { IfOk result (λ classes. (k : ℕ) → k < length terms.now
-        → IsFirstOf terms.now k (class_at classes k)) }
+    ensures own { IfOk result (λ classes. (k : ℕ) → k < length terms.now → class_at classes k ≡ k) }
 {
     let mut classes = Items::new(alloc);
     for i in 0..terms.len() {
-        classes.push(terms.first(TermId::new(i as u32)).number())?;
+        classes.push(i as u32)?;
     }
     Ok(classes)
 }
@@ -50,7 +49,7 @@ pub fn classes_of(
     ensures classes { IfOk result (λ classes. (trail : Trail) → HasValues terms.now trail values.now
         → AreClasses terms.now trail classes) }
 {
-    let mut classes = first_numbers(alloc, terms)?;
+    let mut classes = own_numbers(alloc, terms)?;
     for i in 0..terms.len() {
         let Some(sides) = sides_of(terms, values, TermId::new(i as u32), true) else {
             continue;

@@ -69,7 +69,7 @@ pub fn find(terms: &Bank, table: &LeftTable, op: Op, left: TermId, right: TermId
     ensures none { IfNone result (has terms.now (pair_tree op (tree_at terms.now left) (tree_at terms.now right))
         ≡ false) }
 {
-    let first = terms.first(left).number() as usize;
+    let first = left.number() as usize;
     let mut place = table.last.as_slice()[first];
     'places: while let Some(number) = place {
         let id = TermId::new(number);

@@ -1,6 +1,7 @@
 ghost use Rattle.std.specs.Prelude.{◌≡◌, ℕ, ◌<◌, ◌+◌, IfOk, IfSome, IfNone, OnOk, length};
 ghost use Rattle.sd_term.specs.Tree.{Tree};
 ghost use Rattle.sd_term.specs.Bank.{tree_at};
+ghost use Rattle.sd_term.specs.Distinct.{AreDistinct};
 ghost use Rattle.sd_euf.specs.Table.{HasLeft, IsLeftTable};
 
 use sd_base::NoMemory;
@@ -11,7 +12,7 @@ use std::alloc::Global;
 /// The terms over two parts by their left part.
 #[derive(Drop)]
 pub struct LeftTable {
-    /// For the first number of a term, the last term that has it as its left part.
+    /// For each term, the last one that has it as its left part.
     pub last: Items<Option<u32>>,
     /// For each term, the last one before it that has the same left part.
     pub earlier: Items<Option<u32>>,
@@ -47,6 +48,7 @@ impl LeftTable {
     /// Takes in the next term.
     fn add(&mut self, terms: &Bank, id: TermId) -> Result<(), NoMemory>
         requires id { id < length terms.now }
+        requires distinct { AreDistinct terms.now }
         requires table { IsLeftTable terms.now self.old id }
         ensures { OnOk result (IsLeftTable terms.now self.new (id + 1)) }
     {
@@ -54,7 +56,7 @@ impl LeftTable {
             self.earlier.push(None)?;
             return Ok(());
         };
-        let first = terms.first(left).number() as usize;
+        let first = left.number() as usize;
         let last = self.last.as_slice()[first];
         self.earlier.push(last)?;
         self.last.set(first, Some(id.number()));

@@ -7,7 +7,7 @@ use Rattle.sd_euf.proofs.ClassLemmas.{merged-none, merged-skip, merged-more, are
 use Rattle.sd_euf.proofs.classes.classes_of.Goals as goal
 
 pub loop-i-init : goal.loop-i-init
-loop-i-init c = merged-none c.args.terms.now c.args.values.now c.in_ok-classes.classes c.in_ok-classes.ensures.long c.in_ok-classes.ensures.first
+loop-i-init c = merged-none c.args.terms.now c.args.values.now c.in_ok-classes.classes c.len-i-end.ensures.distinct c.in_ok-classes.ensures.long c.in_ok-classes.ensures.own
 
 pub loop-i-preserved-in_default : goal.loop-i-preserved-in_default
 loop-i-preserved-in_default c =

@@ -12,8 +12,7 @@ places-init c =
     up-to-last c.args.terms.now (tree_at c.args.terms.now c.args.left) (pair_tree c.args.op (tree_at c.args.terms.now c.args.left) (tree_at c.args.terms.now c.args.right)) (get_or c.as_slice.result.now c.number-first.result None)
     (tree_at c.args.terms.now c.args.right, refl)
     (subst (λ (q : Option ℕ). IsLastLeft c.args.terms.now (tree_at c.args.terms.now c.args.left) (length c.args.terms.now) q) (sym (λ i. get_or (c.as_slice.ensures i) (c.number-first.ensures i) None))
-    (subst (λ u. IsLastLeft c.args.terms.now u (length c.args.terms.now) (get_or c.args.table.now.last c.first.result None)) c.first.ensures.tree
-    (c.requires.table.last_is c.first.result c.first.ensures.below c.first.ensures.first)))
+    (c.requires.table.last_is c.args.left c.requires.left))
 
 pub places-smaller : goal.places-smaller
 places-smaller c =

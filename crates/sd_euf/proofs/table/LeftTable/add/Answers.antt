@@ -8,9 +8,9 @@ returns-in_default c =
 
 pub returns : goal.returns
 returns c =
-    let at : c.number-first.result ≡ c.first.result = c.number-first.ensures in
+    let at : c.number-first.result ≡ c.in-Some.left = c.number-first.ensures in
     let o : Option ℕ = get_or c.as_slice.result.now c.number-first.result None in
-    let is : o ≡ get_or c.args.self.now.last c.first.result None = (λ i. get_or (c.as_slice.ensures i) (at i) None) in
-    let written : c.set.new.self ≡ set c.args.self.now.last c.first.result (Some c.args.id) = c.set.ensures ∙ (λ i. set c.args.self.now.last (at i) (Some (c.number.ensures i))) in
-    table-more c.args.terms.now c.args.self.now (record { last = c.set.new.self; earlier = c.push-2.new.self }) c.args.id c.requires.table c.first.result c.in-Some.left o
-    c.first.ensures.below c.first.ensures.first c.first.ensures.tree c.in-Some.ensures.some is written c.in_ok-push-2.ensures.ok
+    let is : o ≡ get_or c.args.self.now.last c.in-Some.left None = (λ i. get_or (c.as_slice.ensures i) (at i) None) in
+    let written : c.set.new.self ≡ set c.args.self.now.last c.in-Some.left (Some c.args.id) = c.set.ensures ∙ (λ i. set c.args.self.now.last (at i) (Some (c.number.ensures i))) in
+    table-more c.args.terms.now c.args.self.now (record { last = c.set.new.self; earlier = c.push-2.new.self }) c.args.id c.requires.table c.in-Some.left o
+    c.requires.distinct c.in-Some.ensures.below c.in-Some.ensures.some is written c.in_ok-push-2.ensures.ok
