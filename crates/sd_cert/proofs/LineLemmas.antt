@@ -18,11 +18,11 @@ use Rattle.sd_cert.specs.Keywords.{front_of, with_rest, keyword_in, keywords}
 use Rattle.sd_cert.specs.Lines.{line_text, IsLine, pair_fields, IsPairField, state_text}
 use Rattle.sd_cert.specs.Numbered.{numbered}
 use Rattle.sd_cert.proofs.FieldLemmas.{after_front-some}
-use Rattle.sd_cert.proofs.FormLemmas.{Fields, digest, pair, numbers, fields_text, AreFields, with_numbers, form_of, word_of, other-word, form_text, text-of_form, line-read}
+use Rattle.sd_cert.proofs.FormLemmas.{Fields, digest, pair, numbers, fields_text, AreFields, with_numbers, form_of, word_of, form_text, text-of_form, line_with, of_digests, kind, kind_of, shows}
 
 -- ---- keywords
 
-pub keyword_in-some : (ks : List Keyword) (text : List ℕ) (k : Keyword) (rest : List ℕ) → keyword_in ks text ≡ Some (k, rest) → text ≡ front_of k ++ rest
+keyword_in-some : (ks : List Keyword) (text : List ℕ) (k : Keyword) (rest : List ℕ) → keyword_in ks text ≡ Some (k, rest) → text ≡ front_of k ++ rest
 keyword_in-some [] text k rest h = absurd (cc)
 keyword_in-some (j ∷ ks) text k rest h = go (after_front (front_of j) text) refl h (λ e. keyword_in-some ks text k rest e)
   where
@@ -43,6 +43,17 @@ keyword-found ks text rest i d Q within found h =
 pub line_by_keyword : (text : List ℕ) (k : Keyword) (rest : List ℕ) (r : Option Line) → keyword_in keywords text ≡ Some (k, rest) → IsReadAs line_text IsLine (front_of k ++ rest) r → IsReadAs line_text IsLine text r
 line_by_keyword text k rest r h read = subst (λ (t : List ℕ). IsReadAs line_text IsLine t r) (sym (keyword_in-some keywords text k rest h)) read
 
+-- ---- what is made of something that was read
+
+read-made : {X Y S T : Type 0} (spelling : X → S) (Fits : X → Type 0) (text : S) (r : Option X) (spelled : Y → T) (Suits : Y → Type 0) (whole : T) (make : X → Y) → ((x : X) → Fits x → text ≡ spelling x → Suits (make x) × (whole ≡ spelled (make x)))
+    → ((y : Y) → Suits y → whole ≡ spelled y → (x : X) × Fits x × (text ≡ spelling x) × (make x ≡ y)) → IsReadAs spelling Fits text r → IsReadAs spelled Suits whole (option_map make r)
+read-made {X} {Y} spelling Fits text r spelled Suits whole make to from read =
+    (found r read.0, λ y f e. let x = from y f e in ap (option_map make) (read.1 x.0 x.1 x.2) ∙ ap (λ (z : Y). Some z) x.3)
+  where
+    found : (o : Option X) → IfSome o (λ x. Fits x × (text ≡ spelling x)) → IfSome (option_map make o) (λ y. Suits y × (whole ≡ spelled y))
+    found None h = tt
+    found (Some x) h = to x h.0 h.1
+
 -- ---- pairs
 
 last_of : ℕ → List ℕ → ℕ
@@ -62,92 +73,45 @@ open_not_refused xs ys e =
     in let b = last_of-append 0 ys 32 (114 ∷ 101 ∷ 102 ∷ 117 ∷ 115 ∷ 101 ∷ 100 ∷ [])
     in absurd (omega (arith, sym a ∙ ap (last_of 0) e ∙ b))
 
-pub pair_is_open : (fields number : List ℕ) (r : Option ℕ) → fields ≡ number ++ codes " open" → IsReadAs decimal (λ n. n < 2 ^ 32) number r → IsReadAs pair_fields IsPairField fields (option_map {U = ℕ × CertState} (λ n. (n, Open)) r)
-pair_is_open fields number r e read = (found r read.0, λ x f s. only x.1 x.0 f s)
+pub pair_is : (s : CertState) (fields number : List ℕ) (r : Option ℕ) → fields ≡ number ++ state_text s → IsReadAs decimal (λ n. n < 2 ^ 32) number r → IsReadAs pair_fields IsPairField fields (option_map {U = ℕ × CertState} (λ n. (n, s)) r)
+pair_is s fields number r e =
+    read-made decimal (λ n. n < 2 ^ 32) number r pair_fields IsPairField fields (λ n. (n, s)) (λ n f h. (f, e ∙ ap (λ t. t ++ state_text s) h)) (λ p f h. same s p.1 p.0 f (sym e ∙ h))
   where
-    found : (o : Option ℕ) → IfSome o (λ n. (n < 2 ^ 32) × (number ≡ decimal n)) → IfSome (option_map {U = ℕ × CertState} (λ n. (n, Open)) o) (λ x. IsPairField x × (fields ≡ pair_fields x))
-    found None h = tt
-    found (Some n) h = (h.0, e ∙ ap (λ t. t ++ codes " open") h.1)
-
-    only : (s : CertState) (n : ℕ) → n < 2 ^ 32 → fields ≡ decimal n ++ state_text s → option_map {U = ℕ × CertState} (λ n. (n, Open)) r ≡ Some (n, s)
-    only Open n f s = ap (option_map {U = ℕ × CertState} (λ n. (n, Open))) (read.1 n f (append_cancel_right number (decimal n) (codes " open") (sym e ∙ s)))
-    only Refused n f s = absurd (open_not_refused number (decimal n) (sym e ∙ s))
-
-pub pair_is_refused : (fields number : List ℕ) (r : Option ℕ) → fields ≡ number ++ codes " refused" → IsReadAs decimal (λ n. n < 2 ^ 32) number r → IsReadAs pair_fields IsPairField fields (option_map {U = ℕ × CertState} (λ n. (n, Refused)) r)
-pair_is_refused fields number r e read = (found r read.0, λ x f s. only x.1 x.0 f s)
-  where
-    found : (o : Option ℕ) → IfSome o (λ n. (n < 2 ^ 32) × (number ≡ decimal n)) → IfSome (option_map {U = ℕ × CertState} (λ n. (n, Refused)) o) (λ x. IsPairField x × (fields ≡ pair_fields x))
-    found None h = tt
-    found (Some n) h = (h.0, e ∙ ap (λ t. t ++ codes " refused") h.1)
-
-    only : (s : CertState) (n : ℕ) → n < 2 ^ 32 → fields ≡ decimal n ++ state_text s → option_map {U = ℕ × CertState} (λ n. (n, Refused)) r ≡ Some (n, s)
-    only Refused n f s = ap (option_map {U = ℕ × CertState} (λ n. (n, Refused))) (read.1 n f (append_cancel_right number (decimal n) (codes " refused") (sym e ∙ s)))
-    only Open n f s = absurd (open_not_refused (decimal n) number (sym s ∙ e))
+    same : (s t : CertState) (n : ℕ) → n < 2 ^ 32 → number ++ state_text s ≡ decimal n ++ state_text t → (m : ℕ) × (m < 2 ^ 32) × (number ≡ decimal m) × (◌≡◌ {A = ℕ × CertState} (m, s) (n, t))
+    same Open Open n f h = (n, f, append_cancel_right number (decimal n) (codes " open") h, refl)
+    same Refused Refused n f h = (n, f, append_cancel_right number (decimal n) (codes " refused") h, refl)
+    same Open Refused n f h = absurd (open_not_refused number (decimal n) h)
+    same Refused Open n f h = absurd (open_not_refused (decimal n) number (sym h))
 
 -- ---- lines by their forms
 
-form-old : (l : Line) (f : Fields) → form_of l ≡ Some (word.Old, f) → (d : List ℕ) × (f ≡ digest d) × (l ≡ Old d)
-form-old (Old d) f e = (d, sym (some_pair_parts word.Old word.Old (digest d) f e).1, refl)
-form-old (New d) f e = absurd (let w = ap word_of e in cc)
-form-old (Settings d) f e = absurd (let w = ap word_of e in cc)
-form-old (Pair i s) f e = absurd (let w = ap word_of e in cc)
-form-old l f e = absurd (other-word l word.Old f refl e)
-
-form-new : (l : Line) (f : Fields) → form_of l ≡ Some (word.New, f) → (d : List ℕ) × (f ≡ digest d) × (l ≡ New d)
-form-new (New d) f e = (d, sym (some_pair_parts word.New word.New (digest d) f e).1, refl)
-form-new (Old d) f e = absurd (let w = ap word_of e in cc)
-form-new (Settings d) f e = absurd (let w = ap word_of e in cc)
-form-new (Pair i s) f e = absurd (let w = ap word_of e in cc)
-form-new l f e = absurd (other-word l word.New f refl e)
-
-form-settings : (l : Line) (f : Fields) → form_of l ≡ Some (word.Settings, f) → (d : List ℕ) × (f ≡ digest d) × (l ≡ Settings d)
-form-settings (Settings d) f e = (d, sym (some_pair_parts word.Settings word.Settings (digest d) f e).1, refl)
-form-settings (Old d) f e = absurd (let w = ap word_of e in cc)
-form-settings (New d) f e = absurd (let w = ap word_of e in cc)
-form-settings (Pair i s) f e = absurd (let w = ap word_of e in cc)
-form-settings l f e = absurd (other-word l word.Settings f refl e)
-
-form-pair : (l : Line) (f : Fields) → form_of l ≡ Some (word.Pair, f) → (i : ℕ) × (s : CertState) × (f ≡ pair i s) × (l ≡ Pair i s)
-form-pair (Pair i s) f e = (i, s, sym (some_pair_parts word.Pair word.Pair (pair i s) f e).1, refl)
-form-pair (Old d) f e = absurd (let w = ap word_of e in cc)
-form-pair (New d) f e = absurd (let w = ap word_of e in cc)
-form-pair (Settings d) f e = absurd (let w = ap word_of e in cc)
-form-pair l f e = absurd (other-word l word.Pair f refl e)
-
 module _ (fields : List ℕ) (r : Option (List ℕ)) (read : IsReadAs encode_lower IsDigest fields r) where
-  digest-read : (k : Keyword) (make : List ℕ → Line) → ((d : List ℕ) → IsDigest d → IsLine (make d)) → ((d : List ℕ) → line_text (make d) ≡ front_of k ++ encode_lower d)
-      → ((l : Line) (f : Fields) → form_of l ≡ Some (k, f) → (d : List ℕ) × (f ≡ digest d) × (l ≡ make d)) → IsReadAs line_text IsLine (front_of k ++ fields) (option_map make r)
-  digest-read k make fits text form = line-read k fields (option_map make r) (found r read.0) only
+  digest-read : (k : Keyword) (make : List ℕ → Line) → kind_of k ≡ of_digests → ((d : List ℕ) → line_with k (digest d) ≡ Some (make d)) → ((d : List ℕ) → IsDigest d → IsLine (make d)) → ((d : List ℕ) → line_text (make d) ≡ front_of k ++ encode_lower d) → IsReadAs line_text IsLine (front_of k ++ fields) (option_map make r)
+  digest-read k make own line fits text =
+      read-made encode_lower IsDigest fields r line_text IsLine (front_of k ++ fields) make (λ d f h. (fits d f, ap (λ t. front_of k ++ t) h ∙ sym (text d)))
+      (λ l f h. let s = shows k fields l f h in only l s.shown s.fit s.text s.line (s.own_kind ∙ own)) read
     where
-      found : (o : Option (List ℕ)) → IfSome o (λ d. IsDigest d × (fields ≡ encode_lower d)) → IfSome (option_map make o) (λ l. IsLine l × (front_of k ++ fields ≡ line_text l))
-      found None h = tt
-      found (Some d) h = (fits d h.0, ap (λ t. front_of k ++ t) h.1 ∙ sym (text d))
-
-      only : (l : Line) (f : Fields) → IsLine l → form_of l ≡ Some (k, f) → AreFields f → fields ≡ fields_text f → option_map make r ≡ Some l
-      only l f h is fit e =
-          let parts = form l f is
-          in ap (option_map make) (read.1 parts.0 (subst AreFields parts.1 fit) (e ∙ ap fields_text parts.1)) ∙ ap (λ (x : Line). Some x) (sym parts.2)
+      only : (l : Line) (f : Fields) → AreFields f → fields ≡ fields_text f → line_with k f ≡ Some l → kind f ≡ of_digests → (d : List ℕ) × IsDigest d × (fields ≡ encode_lower d) × (make d ≡ l)
+      only l (digest d) fit e is own = (d, fit, e, same_Some (make d) l (sym (line d) ∙ is))
+      only l _ fit e is own = absurd (cc)
 
   pub old_is : IsReadAs line_text IsLine (codes "old " ++ fields) (option_map Old r)
-  old_is = digest-read word.Old Old (λ d h. h) (λ d. refl) form-old
+  old_is = digest-read word.Old Old refl (λ d. refl) (λ d h. h) (λ d. refl)
 
   pub new_is : IsReadAs line_text IsLine (codes "new " ++ fields) (option_map New r)
-  new_is = digest-read word.New New (λ d h. h) (λ d. refl) form-new
+  new_is = digest-read word.New New refl (λ d. refl) (λ d h. h) (λ d. refl)
 
   pub settings_is : IsReadAs line_text IsLine (codes "settings " ++ fields) (option_map Settings r)
-  settings_is = digest-read word.Settings Settings (λ d h. h) (λ d. refl) form-settings
+  settings_is = digest-read word.Settings Settings refl (λ d. refl) (λ d h. h) (λ d. refl)
 
 pub pair_line_is : (fields : List ℕ) (r : Option (ℕ × CertState)) → IsReadAs pair_fields IsPairField fields r → IsReadAs line_text IsLine (codes "pair " ++ fields) (option_map (λ p. Pair p.0 p.1) r)
-pair_line_is fields r read = line-read word.Pair fields (option_map (λ p. Pair p.0 p.1) r) (found r read.0) only
+pair_line_is fields r =
+    read-made pair_fields IsPairField fields r line_text IsLine (codes "pair " ++ fields) (λ p. Pair p.0 p.1) (λ p f h. (f, ap (λ t. codes "pair " ++ t) h))
+    (λ l f h. let s = shows word.Pair fields l f h in only l s.shown s.fit s.text s.line)
   where
-    found : (o : Option (ℕ × CertState)) → IfSome o (λ x. IsPairField x × (fields ≡ pair_fields x)) → IfSome (option_map (λ p. Pair p.0 p.1) o) (λ l. IsLine l × (codes "pair " ++ fields ≡ line_text l))
-    found None h = tt
-    found (Some p) h = (h.0, ap (λ t. codes "pair " ++ t) h.1)
-
-    only : (l : Line) (f : Fields) → IsLine l → form_of l ≡ Some (word.Pair, f) → AreFields f → fields ≡ fields_text f → option_map (λ p. Pair p.0 p.1) r ≡ Some l
-    only l f h is fit e =
-        let parts = form-pair l f is
-        in ap (option_map (λ p. Pair p.0 p.1)) (read.1 (parts.0, parts.1) (subst AreFields parts.2 fit) (e ∙ ap fields_text parts.2)) ∙ ap (λ (x : Line). Some x) (sym parts.3)
+    only : (l : Line) (f : Fields) → AreFields f → fields ≡ fields_text f → line_with word.Pair f ≡ Some l → (p : ℕ × CertState) × IsPairField p × (fields ≡ pair_fields p) × (Pair p.0 p.1 ≡ l)
+    only l (pair i s) fit e is = ((i, s), fit, e, same_Some (Pair i s) l is)
+    only l _ fit e is = absurd (cc)
 
 -- ---- lines of numbers
 
@@ -173,32 +137,25 @@ module _ (k : Keyword) (old : k ≡ word.Old → ⊥) (new : k ≡ word.New → 
           in (ns, sym parts.1, is ∙ ap (λ (w : Keyword). Some (w, ns)) parts.0)
 
   module _ (fields : List ℕ) (r : Option (List ℕ)) (read : IsReadAs numbers_text AreNumbers fields r) where
+    -- the numbers of a line with this word are those that were read
+    read-numbers : (l : Line) → IsLine l → front_of k ++ fields ≡ line_text l → (ns : List ℕ) × (r ≡ Some ns) × (numbered l ≡ Some (k, ns))
+    read-numbers l h e =
+        let s = shows k fields l h e in
+        let parts = numbered-form l s.shown s.form in
+        (parts.0, read.1 parts.0 (subst AreFields parts.1 s.fit) (s.text ∙ ap fields_text parts.1), parts.2)
+
     pub no_numbers : r ≡ None → IsReadAs line_text IsLine (front_of k ++ fields) None
-    no_numbers is = line-read k fields None tt only
-      where
-        only : (l : Line) (f : Fields) → IsLine l → form_of l ≡ Some (k, f) → AreFields f → fields ≡ fields_text f → None ≡ Some l
-        only l f h form fit e =
-            let parts = numbered-form l f form
-            in absurd (none-some parts.0 (sym is ∙ read.1 parts.0 (subst AreFields parts.1 fit) (e ∙ ap fields_text parts.1)))
+    no_numbers is = (tt, λ l h e. let p = read-numbers l h e in absurd (none-some p.0 (sym is ∙ p.1)))
 
     pub numbers_are : (ns : List ℕ) (o : Option Line) → r ≡ Some ns → IsReadAs numbered IsLine (Some (k, ns)) o → IsReadAs line_text IsLine (front_of k ++ fields) o
-    numbers_are ns o is line = line-read k fields o (found o line.0) only
+    numbers_are ns o is line = (found o line.0, λ l h e. let p = read-numbers l h e in line.1 l h (ap (λ (ms : List ℕ). Some (k, ms)) (same_Some ns p.0 (sym is ∙ p.1)) ∙ sym p.2))
       where
         spelled : (AreNumbers ns) × (fields ≡ numbers_text ns)
         spelled = subst (λ (x : Option (List ℕ)). IfSome x (λ ms. (AreNumbers ms) × (fields ≡ numbers_text ms))) is read.0
 
         found : (p : Option Line) → IfSome p (λ l. IsLine l × (Some (k, ns) ≡ numbered l)) → IfSome p (λ l. IsLine l × (front_of k ++ fields ≡ line_text l))
         found None h = tt
-        found (Some l) h = (
-          h.0,
-          ap (λ t. front_of k ++ t) spelled.1 ∙ sym (ap form_text (form-numbered l k ns (sym h.1))) ∙ sym (text-of_form l h.0),
-        )
-
-        only : (l : Line) (f : Fields) → IsLine l → form_of l ≡ Some (k, f) → AreFields f → fields ≡ fields_text f → o ≡ Some l
-        only l f h form fit e =
-            let parts = numbered-form l f form
-            in let same : ns ≡ parts.0 = same_Some ns parts.0 (sym is ∙ read.1 parts.0 (subst AreFields parts.1 fit) (e ∙ ap fields_text parts.1))
-            in line.1 l h (ap (λ (ms : List ℕ). Some (k, ms)) same ∙ sym parts.2)
+        found (Some l) h = (h.0, ap (λ t. front_of k ++ t) spelled.1 ∙ sym (ap form_text (form-numbered l k ns (sym h.1))) ∙ sym (text-of_form l h.0))
 
 -- ---- results
 
