@@ -4,9 +4,9 @@ use Rattle.std.specs.Prelude.{Option, None, Some, ◌⊎◌, ◌↔◌, IsTrue, 
 use Rattle.std.specs.List.{list_all}
 use Rattle.sd_base.specs.Causes.{Rose}
 use Rattle.sd_base.specs.Outside.{appended, emptied, AllStay, OthersStay}
-use Rattle.sd_run.specs.declared.run.Ended.{Ended}
-use Rattle.sd_run.specs.declared.run.CertificateFile.{CertificateFile}
-use Rattle.sd_run.specs.declared.run.CertificateFile.TheVariants.{Untouched, NotStarted, Cut, Whole}
+use Rattle.sd_run.specs.declared.running.Ended.{Ended}
+use Rattle.sd_run.specs.declared.running.CertificateFile.{CertificateFile}
+use Rattle.sd_run.specs.declared.running.CertificateFile.TheVariants.{Untouched, NotStarted, Cut, Whole}
 use Rattle.sd_run.specs.declared.text.TextRefusal.{TextRefusal}
 use Rattle.sd_run.specs.TextRefusals.{refusal_status}
 use Rattle.sd_run.specs.Words.{JobNames, verify, job_of}

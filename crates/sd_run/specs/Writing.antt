@@ -2,9 +2,9 @@
 use Rattle.std.specs.Prelude.{◌≡◌, ◌⊎◌, ℕ, List, [], Option, None, Some, length, take}
 use Rattle.sd_base.specs.Causes.{Rose}
 use Rattle.sd_base.specs.Outside.{appended, emptied, AllStay, OthersStay}
-use Rattle.sd_run.specs.declared.run.Ended.{Ended}
-use Rattle.sd_run.specs.declared.run.CertificateFile.{CertificateFile}
-use Rattle.sd_run.specs.declared.run.CertificateFile.TheVariants.{Untouched, NotStarted, Cut, Whole}
+use Rattle.sd_run.specs.declared.running.Ended.{Ended}
+use Rattle.sd_run.specs.declared.running.CertificateFile.{CertificateFile}
+use Rattle.sd_run.specs.declared.running.CertificateFile.TheVariants.{Untouched, NotStarted, Cut, Whole}
 use Rattle.sd_run.specs.Outcome.{Outcome}
 
 -- what a run came to that wrote this text, with what it tells of the pairs, and this certificate

@@ -12,11 +12,11 @@ mod matching;
 mod replaying;
 mod reply;
 mod report;
-mod run;
+mod running;
 mod text;
 mod text_error;
 mod verdict;
 mod words;
 
-pub use run::{CertificateFile, Ended, Status, run};
+pub use running::{CertificateFile, Ended, Status, run};
 pub use verdict::{PairVerdict, VerdictState};

@@ -4,7 +4,7 @@ use Rattle.sd_base.specs.Outside.{appended}
 use Rattle.sd_run.specs.Replies.{named, outcome_of}
 use Rattle.sd_run.proofs.Rows.{known_by, six_known, seven_known, eight_known, row_known}
 use Rattle.sd_run.proofs.Endings.{row_apart, file_rose, ended_answer, ended_headline, ended_unknown, files_since, files_same, broken_same, unbroken}
-use Rattle.sd_run.proofs.run.run.Goals as goal
+use Rattle.sd_run.proofs.running.run.Goals as goal
 
 pub returns-in-Err-Failed-clause-known : goal.returns-in-Err-Failed-clause-known
 returns-in-Err-Failed-clause-known g c = known_by c.stopped.result.status.code 6 c.stopped.ensures.status six_known
