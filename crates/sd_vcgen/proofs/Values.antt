@@ -35,12 +35,6 @@ use Rattle.sd_vcgen.proofs.Typed.{by_one, by_two, by_three, terms-sort}
 pub sorted-as : (v : Valuation) (t : Tree) (s : Sort) → sort_of t ≡ s → HasSort s (value v t)
 sorted-as v t s e = subst (λ (r : Sort). HasSort r (value v t)) e (value-sorted v t)
 
-index-sort : (i : Sort) → formed.IsIndexSort i → sorts.IsIndexSort i
-index-sort Int h = tt
-index-sort (Named t) h = tt
-index-sort BoolSort h = absurd h
-index-sort (MapOf i v) h = absurd h
-
 negated : (x : ℤ) → pos 0 -ℤ x ≡ neg_ℤ x
 negated x = +ℤ_idl (neg_ℤ x)
 
@@ -56,7 +50,7 @@ read-value v x y i s p q =
 write-value : (v : Valuation) (x y z : Tree) (i s : Sort) → formed.IsIndexSort i → sort_of x ≡ MapOf i s → sort_of y ≡ i → sort_of z ≡ s → value v (tree Write (x ∷ y ∷ z ∷ [])) ≡ apply op.Write (value v x ∷ value v y ∷ value v z ∷ [])
 write-value v x y z i s h p q r =
     ap (λ (t : Sort). truths.apply v Write t (value v x ∷ value v y ∷ value v z ∷ [])) p
-    ∙ write-made v i s (value v x ∷ value v y ∷ value v z ∷ []) (index-sort i h) (sorted-as v x (MapOf i s) p, (sorted-as v y i q, (sorted-as v z s r, tt)))
+    ∙ write-made v i s (value v x ∷ value v y ∷ value v z ∷ []) h (sorted-as v x (MapOf i s) p, (sorted-as v y i q, (sorted-as v z s r, tt)))
 
 abbrev Follows : Valuation → CoreOp → List Tree → Type 0
 Follows v o ts = value v (op_term o ts) ≡ apply o (map (value v) ts)

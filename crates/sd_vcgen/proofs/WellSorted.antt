@@ -152,12 +152,6 @@ assign-well S g (p ∷ ps) (t ∷ ts) (s ∷ ss) st h f e c v w =
 
 -- ---- expressions
 
-index-sort : (s : Sort) → core.IsIndexSort s → term.IsIndexSort s
-index-sort Int h = tt
-index-sort (Named t) h = tt
-index-sort BoolSort h = absurd h
-index-sort (MapOf i v) h = absurd h
-
 pub operator-well : (o : CoreOp) (ts : List Tree) (ss : List Sort) (s : Sort) → map sort_of ts ≡ ss → core.Takes o ss s → AllWellSorted ts → IsWellSorted (op_term o ts)
 operator-well op.Not ts ss s e t a = by_one ts BoolSort (λ l. AllWellSorted l → IsWellSorted (op_term op.Not l)) (e ∙ t.0) (λ x p w. not-well x w.0 p) a
 operator-well op.And ts ss s e t a = by_two ts BoolSort BoolSort (λ l. AllWellSorted l → IsWellSorted (op_term op.And l)) (e ∙ t.0) (λ x y p q w. and-well x y w.0 w.1.0 p q) a
@@ -172,7 +166,7 @@ operator-well op.Read ts ss s e t a =
     by_two ts (MapOf t.0 s) t.0 (λ l. AllWellSorted l → IsWellSorted (op_term op.Read l)) (e ∙ t.1) (λ x y p q w. tree-well Read (x ∷ y ∷ []) w (t.0, s, λ i. p i ∷ q i ∷ [])) a
 operator-well op.Write ts ss s e t a =
     by_three ts (MapOf t.0 t.1) t.0 t.1 (λ l. AllWellSorted l → IsWellSorted (op_term op.Write l)) (e ∙ t.3)
-    (λ x y z p q r w. tree-well Write (x ∷ y ∷ z ∷ []) w (t.0, t.1, index-sort t.0 t.2, λ i. p i ∷ q i ∷ r i ∷ [])) a
+    (λ x y z p q r w. tree-well Write (x ∷ y ∷ z ∷ []) w (t.0, t.1, t.2, λ i. p i ∷ q i ∷ r i ∷ [])) a
 
 mutual
   pub term-well : (F : List Function) (S : Store Sort) (st : Store Tree) (e : CoreExpr) (s : Sort) → map_store sort_of st ≡ S → HasType F S e s → WellStore st → IsWellSorted (term_in F st e)
