@@ -1,5 +1,5 @@
 -- How a run ends that came to a row of the table of answers.
-use Rattle.std.proofs.Common.{◌≡◌, ◌∙◌, sym, ap, subst, refl, ℕ, Bool, true, false, List, take, arith, inl, inr}
+use Rattle.std.proofs.Common.{◌≡◌, ◌∙◌, sym, ap, subst, refl, ℕ, ◌≤◌, Bool, true, false, List, take, arith, inl, inr}
 use Rattle.std.specs.Prelude.{Option, None, Some, ◌⊎◌, ◌↔◌, IsTrue, if◌then◌else◌}
 use Rattle.std.specs.List.{list_all}
 use Rattle.sd_base.specs.Causes.{Rose}
@@ -20,36 +20,40 @@ use Rattle.sd_run.proofs.Rows.{row_known, refusal_status_is, row_headline, row_u
 
 -- ---- the status of a row is none of those of a stop
 
-code_apart : (n code : ℕ) → code ≡ n → (code ≡ 6 → ⊥) → (code ≡ 8 → ⊥) → (n ≡ 6) ⊎ (n ≡ 8) → ⊥
-code_apart n code e six eight (inl h) = six (e ∙ h)
-code_apart n code e six eight (inr h) = eight (e ∙ h)
+message_status : (o : Outcome) (code : ℕ) (text : List ℕ) → o ≡ message code text → code ≤ 5 → (o.status ≤ 5) ⊎ (o.status ≡ 9)
+message_status o code text is few = let e : o.status ≡ code = ap (λ (p : Outcome). p.status) is in inl (omega arith)
 
-status_apart : (o : Outcome) (code : ℕ) (text : List ℕ) → o ≡ message code text → (code ≡ 6 → ⊥) → (code ≡ 8 → ⊥) → (o.status ≡ 6) ⊎ (o.status ≡ 8) → ⊥
-status_apart o code text is six eight (inl e) = six (sym (ap (λ (p : Outcome). p.status) is) ∙ e)
-status_apart o code text is six eight (inr e) = eight (sym (ap (λ (p : Outcome). p.status) is) ∙ e)
-
-refusal_apart : (r : TextRefusal) (n : ℕ) → refusal_status r ≡ n → (n ≡ 6) ⊎ (n ≡ 8) → ⊥
-refusal_apart r n e h = elim (refusal_status_is r) [
-  | inl k ↦ code_apart n 3 (sym k ∙ e) (λ x. omega arith) (λ x. omega arith) h
-  | inr k ↦ code_apart n 9 (sym k ∙ e) (λ x. omega arith) (λ x. omega arith) h
+refusal_row_status : (o : Outcome) (r : TextRefusal) (text : List ℕ) → o ≡ message (refusal_status r) text → (o.status ≤ 5) ⊎ (o.status ≡ 9)
+refusal_row_status o r text is = elim (refusal_status_is r) [
+  | inl k ↦ inl (let e : o.status ≡ 3 = ap (λ (p : Outcome). p.status) is ∙ k in omega arith)
+  | inr k ↦ inr (ap (λ (p : Outcome). p.status) is ∙ k)
 ]
 
-zero_one_apart : (b : Bool) (n : ℕ) → n ≡ (if b then 0 else 1) → (n ≡ 6) ⊎ (n ≡ 8) → ⊥
-zero_one_apart true n e (inl h) = absurd (omega arith)
-zero_one_apart true n e (inr h) = absurd (omega arith)
-zero_one_apart false n e (inl h) = absurd (omega arith)
-zero_one_apart false n e (inr h) = absurd (omega arith)
+zero_or_one_status : (b : Bool) (n : ℕ) → n ≡ (if b then 0 else 1) → (n ≤ 5) ⊎ (n ≡ 9)
+zero_or_one_status true n e = inl (omega arith)
+zero_or_one_status false n e = inl (omega arith)
+
+apart : (n : ℕ) → (n ≤ 5) ⊎ (n ≡ 9) → (n ≡ 6) ⊎ ((n ≡ 7) ⊎ (n ≡ 8)) → ⊥
+apart n (inl few) (inl e) = omega arith
+apart n (inl few) (inr (inl e)) = omega arith
+apart n (inl few) (inr (inr e)) = omega arith
+apart n (inr nine) (inl e) = omega arith
+apart n (inr nine) (inr (inl e)) = omega arith
+apart n (inr nine) (inr (inr e)) = omega arith
 
 module _ (words : List (List ℕ)) (content : List ℕ → Option (List ℕ)) (o : Outcome) where
-  pub row_apart : Answer words content o → (o.status ≡ 6) ⊎ (o.status ≡ 8) → ⊥
-  row_apart (no_job a is) h = status_apart o 2 _ is (λ e. omega arith) (λ e. omega arith) h
-  row_apart (old_refused job r a b is) h = refusal_apart r o.status (sym (ap (λ (p : Outcome). p.status) is)) h
-  row_apart (new_refused job old r a b c is) h = refusal_apart r o.status (sym (ap (λ (p : Outcome). p.status) is)) h
-  row_apart (clashing job t r a b c is) h = status_apart o 4 _ is (λ e. omega arith) (λ e. omega arith) h
-  row_apart (compared job t name a b c r) h = zero_one_apart (list_all (λ v. is_safe v.state) o.pairs) o.status r.is_report.status h
-  row_apart (too_long job t name a b c d is) h = status_apart o 9 _ is (λ e. omega arith) (λ e. omega arith) h
-  row_apart (certificate_refused job t name bytes e a b c d r is) h = status_apart o 5 _ is (λ e. omega arith) (λ e. omega arith) h
-  row_apart (replayed job t name bytes a b c d r) h = zero_one_apart (list_all (λ v. is_safe v.state) o.pairs) o.status r.is_report.status h
+  row_status : Answer words content o → (o.status ≤ 5) ⊎ (o.status ≡ 9)
+  row_status (no_job a is) = message_status o 2 _ is (omega arith)
+  row_status (old_refused job r a b is) = refusal_row_status o r _ is
+  row_status (new_refused job old r a b c is) = refusal_row_status o r _ is
+  row_status (clashing job t r a b c is) = message_status o 4 _ is (omega arith)
+  row_status (compared job t name a b c r) = zero_or_one_status (list_all (λ v. is_safe v.state) o.pairs) o.status r.is_report.status
+  row_status (too_long job t name a b c d is) = inr (ap (λ (p : Outcome). p.status) is)
+  row_status (certificate_refused job t name bytes e a b c d r is) = message_status o 5 _ is (omega arith)
+  row_status (replayed job t name bytes a b c d r) = zero_or_one_status (list_all (λ v. is_safe v.state) o.pairs) o.status r.is_report.status
+
+  pub row_apart : Answer words content o → (o.status ≡ 6) ⊎ ((o.status ≡ 7) ⊎ (o.status ≡ 8)) → ⊥
+  row_apart a h = apart o.status (row_status a) h
 
   -- ---- a certificate is there only where the words name a file for it
 
@@ -80,9 +84,12 @@ module _ (words : List (List ℕ)) (content : List ℕ → Option (List ℕ)) (o
   row_file file (certificate_refused job t name bytes x a b c d r is) e = absurd (message_file file 5 _ is e)
   row_file file (replayed job t name bytes a b c d r) e = absurd (no_file file o.certificate r.no_certificate e)
 
-  pub file_rose : (certificate : Option (List ℕ × List ℕ)) (before now : List ℕ → ℕ) → Answer words content o → o.certificate ≡ certificate → FileRose certificate before now → CertificateWriteRose words before now
-  file_rose None before now a e rose = absurd rose
-  file_rose (Some file) before now a e rose = let n = row_file file a e in (n.job, file.0, n.named, n.task, rose)
+  -- the count rose from an earlier moment on, since which it had stayed
+  pub file_rose : (certificate : Option (List ℕ × List ℕ)) (first before now : List ℕ → ℕ) → Answer words content o → o.certificate ≡ certificate
+      → ((name : List ℕ) → before name ≡ first name) → FileRose certificate before now → CertificateWriteRose words first now
+  file_rose None first before now a e same rose = absurd rose
+  file_rose (Some file) first before now a e same rose =
+      let n = row_file file a e in (n.job, file.0, n.named, n.task, subst (λ (k : ℕ). Rose k (now file.0)) (same file.0) rose)
 
 -- ---- what the end of a run tells
 

@@ -53,7 +53,7 @@ returns-in-Ok-write_all-clause-answer g c _ _ _ =
 
 pub returns-in-Ok-write_all-clause-silent : goal.returns-in-Ok-write_all-clause-silent
 returns-in-Ok-write_all-clause-silent g c h =
-    let r = c.in-Ok.reply in absurd (row_apart _ _ (outcome_of r) c.in-Ok.ensures.answer (elim h [ inl s ↦ inl (sym c.end_with-in-Ok-write_all.ensures.status ∙ s) | inr s ↦ inr (sym c.end_with-in-Ok-write_all.ensures.status ∙ s) ]))
+    let r = c.in-Ok.reply in absurd (row_apart _ _ (outcome_of r) c.in-Ok.ensures.answer (elim h [ inl s ↦ inl (sym c.end_with-in-Ok-write_all.ensures.status ∙ s) | inr s ↦ inr (inr (sym c.end_with-in-Ok-write_all.ensures.status ∙ s)) ]))
 
 pub returns-in-Ok-write_all-clause-headline : goal.returns-in-Ok-write_all-clause-headline
 returns-in-Ok-write_all-clause-headline g c =
@@ -100,3 +100,18 @@ returns-in-Err-clause-first_fault g c _ _ =
     let r = c.in-Ok.ensures.first_fault (λ bad. cc) in
     let w = c.write_certificate-file.ensures.no_fault (unbroken c.write_certificate-file.result c.is_broken.result c.is_broken.ensures c.if-is_broken.false) in
     (λ name. w.0 name ∙ r.0 name, λ name. w.1 name ∙ r.1 name, λ name. w.2 name ∙ r.2 name)
+
+pub returns-then-is_broken-clause-write_fault : goal.returns-then-is_broken-clause-write_fault
+returns-then-is_broken-clause-write_fault g c _ =
+    let r = c.in-Ok.reply in
+    let e = c.end_with in
+    let w = c.write_certificate-file in
+    let same = c.in-Ok.ensures.first_fault (λ bad. cc) in (
+      λ is. file_rose _ _ (outcome_of r) (named r.certificate) _ _ _ c.in-Ok.ensures.answer refl same.1 (w.ensures.not_started (sym e.ensures.file ∙ is)),
+      λ is. file_rose _ _ (outcome_of r) (named r.certificate) _ _ _ c.in-Ok.ensures.answer refl same.2 (w.ensures.cut (sym e.ensures.file ∙ is)),
+      λ whole. absurd (whole (broken_same w.result e.result.certificate_file c.is_broken.result e.ensures.file c.is_broken.ensures c.if-is_broken.true)),
+    )
+
+pub returns-in-Ok-write_all-clause-write_fault : goal.returns-in-Ok-write_all-clause-write_fault
+returns-in-Ok-write_all-clause-write_fault g c seven =
+    absurd (row_apart _ _ (outcome_of c.in-Ok.reply) c.in-Ok.ensures.answer (inr (inl (sym c.end_with-in-Ok-write_all.ensures.status ∙ seven))))
