@@ -13,7 +13,7 @@ use Rattle.sd_ast.specs.declared.Proc.{Proc}
 use Rattle.sd_ast.specs.declared.Program.{Program}
 use Rattle.sd_meaning.specs.Routine.{routine_named}
 use Rattle.sd_extract.specs.Extract.{number_from, size_of}
-use Rattle.sd_extract.proofs.CodeLists.{drop-at}
+use Rattle.sd_base.proofs.Lists.{drop-at}
 
 pub put_found : (g : Text → Option ℕ) (name f : Text) (number v : ℕ) → g name ≡ Some v → g f ≡ (if same_text f name then Some (unwrap_or (g f) number) else g f)
 put_found g name f number v is = go (same_text f name) refl
