@@ -86,10 +86,5 @@ specs_new_is ks seen (_ ∷ specs) h = specs_new_is ks seen specs h
 pub modified_is : (specs : List Spec) → specs_new [] specs ≡ modified_names specs []
 modified_is specs = specs_new_is [] [] specs (λ x. refl)
 
-specs_first : (ks : List Text) (s : Spec) (specs : List Spec) → specs_new ks (s ∷ specs) ≡ specs_new (specs_new ks (s ∷ [])) specs
-specs_first ks (Modifies xs) specs = refl
-specs_first ks (Requires free e) specs = refl
-specs_first ks (Ensures free e) specs = refl
-
 pub specs_done : (specs : List Spec) (i : ℕ) (names : List Text) → length specs ≤ i → specs_new names (drop i specs) ≡ specs_new [] specs → names ≡ modified_names specs []
 specs_done specs i names le so = sym (ap (specs_new names) (drop_of_length-le specs le)) ∙ (so ∙ modified_is specs)
