@@ -43,5 +43,5 @@ returns-clause-dropped c =
     let s = c.args.settled.now in
     let is = c.candidates.settled in
     let numbers = c.numbers_of-first.ensures in
-    let ends : c.candidates.candidate ≡ c.numbers_of-first.result.1 = omega (arith, numbers.ordered) in
+    let ends : c.candidates.candidate ≡ c.numbers_of-first.result.1 = omega (arith, numbers.ordered, c.candidates-test.false, c.candidates.auto.candidate-end) in
     subst₂ (λ (n m : ℕ). MatchBool c.candidates.dropped (length s.deaths.items < length is.deaths.items) (GoesOn h n m s.table is.table s.deaths.items is.deaths.items s.proofs.items is.proofs.items)) numbers.first (ends ∙ numbers.end) c.candidates.invariant.dropped
