@@ -135,7 +135,7 @@ pub(crate) fn gather(
         rows: Items::new(alloc),
         lines: Items::new(alloc),
     };
-    for n in 0..terms.len() {
+    for n in 0..terms.len() as usize {
         if let Some(value) = values[n] {
             let id = TermId::new(n as u32);
             add_term(

@@ -18,7 +18,7 @@ pub(crate) fn first_places(
     requires short { length trail.now < 2 ^ 32 }
     ensures { IfOk result (λ places. HasPlaces terms.now 0 (trail_of terms.now trail.now) places) }
 {
-    let mut places = Items::from_vec(vec![in alloc; None; terms.len()]?);
+    let mut places = Items::from_vec(vec![in alloc; None; terms.len() as usize]?);
     for k in (0..trail.len()).rev() {
         let fact = trail[k];
         places.set(fact.term.number() as usize, Some(k as u32));

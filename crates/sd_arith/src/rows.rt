@@ -35,7 +35,7 @@ fn compares(terms: &Bank, values: &[Option<bool>]) -> bool
     ensures { result ≡ false → (n : ℕ) → n < length terms.now → is_comparison (tree_at terms.now n) ≡ true
         → known_at values.now n ≡ None }
 {
-    for n in 0..terms.len() {
+    for n in 0..terms.len() as usize {
         if values[n].is_some() && is_comparison(terms, TermId::new(n as u32)) {
             return true;
         }

@@ -76,11 +76,6 @@ slice_get-append_right (x ∷ xs) ys i =
 pub slice_get-map_some : {A B : Type 0} (f : A → B) (xs : List A) (i : ℕ) (x : A) → slice_get xs i ≡ Some x → slice_get (map f xs) i ≡ Some (f x)
 slice_get-map_some f xs i x e = slice_get-map f xs i ∙ ap (option_map f) e
 
-pub get_or-map_some : {A B : Type 0} (f : A → B) (xs : List A) (i : ℕ) (x : A) (d : B) → slice_get xs i ≡ Some x → get_or (map f xs) i d ≡ f x
-get_or-map_some f [] i x d e = absurd (none-some x e)
-get_or-map_some f (y ∷ ys) zero x d e = ap f (same_Some y x e)
-get_or-map_some f (y ∷ ys) (suc i) x d e = get_or-map_some f ys i x d e
-
 pub get_or-map_none : {A B : Type 0} (f : A → B) (xs : List A) (i : ℕ) (d : B) → slice_get xs i ≡ None → get_or (map f xs) i d ≡ d
 get_or-map_none f [] i d e = refl
 get_or-map_none f (y ∷ ys) zero d e = absurd (none-some y (sym e))

@@ -66,7 +66,7 @@ pub fn broken_chains(
     ensures holds { IfOk result (λ r. IfNone r ((trail : Trail) → HasValues terms.now trail values.now
         → NoneJoined terms.now trail)) }
 {
-    for i in 0..terms.len() {
+    for i in 0..terms.len() as usize {
         let broken = broken_chain(alloc, terms, values, classes, TermId::new(i as u32))?;
         if let Some(step) = broken {
             return Ok(Some(step));

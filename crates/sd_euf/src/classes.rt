@@ -18,7 +18,7 @@ fn own_numbers(alloc: Global, terms: &Bank) -> Result<Items<u32>, NoMemory>
     ensures own { IfOk result (λ classes. (k : ℕ) → k < length terms.now → class_at classes k ≡ k) }
 {
     let mut classes = Items::new(alloc);
-    for i in 0..terms.len() {
+    for i in 0..terms.len() as usize {
         classes.push(i as u32)?;
     }
     Ok(classes)
@@ -50,7 +50,7 @@ pub fn classes_of(
         → AreClasses terms.now trail classes) }
 {
     let mut classes = own_numbers(alloc, terms)?;
-    for i in 0..terms.len() {
+    for i in 0..terms.len() as usize {
         let Some(sides) = sides_of(terms, values, TermId::new(i as u32), true) else {
             continue;
         };

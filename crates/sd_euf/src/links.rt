@@ -101,7 +101,7 @@ fn reach_neighbours(
     ensures reached { OnOk result (AreReached terms.now values.now links.new at (length terms.now)) }
 {
     let here = TermId::new(links.as_slice()[at].term);
-    for i in 0..terms.len() {
+    for i in 0..terms.len() as usize {
         let Some(other) = neighbour(terms, values, TermId::new(i as u32), here) else {
             continue;
         };

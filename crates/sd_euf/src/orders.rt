@@ -126,7 +126,7 @@ pub fn judged_orders(terms: &Bank, table: &LeftTable, values: &[Option<bool>]) -
     ensures { Judges terms.now values.now (OrdersHold terms.now) result }
 {
     let mut missing = None;
-    for i in 0..terms.len() {
+    for i in 0..terms.len() as usize {
         let step = match judged_equality(terms, table, values, TermId::new(i as u32)) {
             Judged::Holds => continue,
             Judged::Broken(step) => return Judged::Broken(step),

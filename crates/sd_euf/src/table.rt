@@ -38,7 +38,7 @@ impl LeftTable {
     fn new(alloc: Global, terms: &Bank) -> Result<LeftTable, NoMemory>
         ensures { IfOk result (λ table. IsLeftTable terms.now table 0) }
     {
-        let last = vec![in alloc; None; terms.len()]?;
+        let last = vec![in alloc; None; terms.len() as usize]?;
         Ok(LeftTable {
             last: Items::from_vec(last),
             earlier: Items::new(alloc),
@@ -69,7 +69,7 @@ pub fn left_table(alloc: Global, terms: &Bank) -> Result<LeftTable, NoMemory>
     ensures { IfOk result (λ table. IsLeftTable terms.now table (length terms.now)) }
 {
     let mut table = LeftTable::new(alloc, terms)?;
-    for i in 0..terms.len() {
+    for i in 0..terms.len() as usize {
         table.add(terms, TermId::new(i as u32))?;
     }
     Ok(table)

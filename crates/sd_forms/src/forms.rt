@@ -18,7 +18,7 @@ pub fn forms_of(alloc: Global, terms: &Bank) -> Result<Items<Form>, NoMemory>
         → KeepsValue terms.now (tree_at terms.now k) (form_at fs k)) }
 {
     let mut forms = Items::new(alloc);
-    for number in 0..terms.len() as u32 {
+    for number in 0..terms.len() {
         let form = next_form(alloc, terms, forms.as_slice(), TermId::new(number))?;
         forms.push(form)?;
     }

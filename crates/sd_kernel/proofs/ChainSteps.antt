@@ -38,22 +38,6 @@ module _ (e a : Tree) (q : is_eq e ≡ true) where
 
 -- ---- along a chain
 
-pub leads-some : (a e b c : Tree) (es : List Tree) → across e a ≡ Some b → leads a (e ∷ es) c ≡ leads b es c
-leads-some a e b c es h = go (is_eq e) (other_side e a) h
-  where
-    go : (q : Bool) (o : Option Tree) → (if q then o else None) ≡ Some b → q && (elim o as (λ _. Bool) [ None ↦ false | Some d ↦ leads d es c ]) ≡ leads b es c
-    go true None k = cc
-    go true (Some d) k = let f : d ≡ b = cc in ap (λ t. leads t es c) f
-    go false o k = cc
-
-pub leads-none : (a e c : Tree) (es : List Tree) → across e a ≡ None → leads a (e ∷ es) c ≡ false
-leads-none a e c es h = go (is_eq e) (other_side e a) h
-  where
-    go : (q : Bool) (o : Option Tree) → (if q then o else None) ≡ None → q && (elim o as (λ _. Bool) [ None ↦ false | Some d ↦ leads d es c ]) ≡ false
-    go true None k = refl
-    go true (Some d) k = cc
-    go false o k = refl
-
 pub link-end : (terms : List Tree) (links : List ℕ) (i : ℕ) (a c : Tree) → length links ≤ i → leads a (map (λ n. tree_at terms n) (drop i links)) c ≡ same_tree a c
 link-end terms links i a c h = ap (λ l. leads a (map (λ n. tree_at terms n) l) c) (drop_all i links h)
 

@@ -138,7 +138,7 @@ fn first_values(
     requires { All (λ f. f.term < length terms.now) trail.now }
     ensures { IfOk result (λ firsts. HasFirstFacts terms.now (trail_of terms.now trail.now) firsts) }
 {
-    let mut firsts = Items::from_vec(vec![in alloc; None; terms.len()]?);
+    let mut firsts = Items::from_vec(vec![in alloc; None; terms.len() as usize]?);
     for k in (0..trail.len()).rev() {
         let fact = trail[k];
         firsts.set(fact.term.number() as usize, Some(fact.value));
@@ -177,7 +177,7 @@ pub fn known_values(
 {
     let firsts = first_values(alloc, terms, trail)?;
     let mut values = Items::new(alloc);
-    for i in 0..terms.len() {
+    for i in 0..terms.len() as usize {
         let id = TermId::new(i as u32);
         let value = known_value(terms, firsts.as_slice(), id, values.as_slice());
         values.push(value)?;

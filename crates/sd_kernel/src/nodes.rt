@@ -18,7 +18,7 @@ pub fn are_numbers(terms: &Bank, numbers: &[u32]) -> bool
     ensures { result ≡ list_all (λ n. nat_lt n (length terms.now)) numbers.now }
 {
     let count = terms.len();
-    numbers.iter().all(|number| (*number as usize) < count)
+    numbers.iter().all(|number| *number < count)
 }
 
 /// Whether a head is this operation.

@@ -11,11 +11,6 @@ some_is a b e = cc
 pub rest_at : {A : Type 0} (xs : List A) (i : ℕ) (x : A) → i < length xs → x ≡ get_or xs i x → drop i xs ≡ x ∷ drop (i + 1) xs
 rest_at xs i x within at = drop_more xs i x within ∙ ap (λ y. y ∷ drop (i + 1) xs) (sym at)
 
-pub slice_get-at : {A : Type 0} (xs : List A) (i : ℕ) (x : A) → i < length xs → x ≡ get_or xs i x → slice_get xs i ≡ Some x
-slice_get-at [] i x within at = absurd (omega arith)
-slice_get-at (y ∷ ys) zero x within at = ap Some (sym at)
-slice_get-at (y ∷ ys) (suc i) x within at = slice_get-at ys i x (omega arith) at
-
 pub slice_get-within : {A : Type 0} (xs : List A) (i : ℕ) (x : A) → slice_get xs i ≡ Some x → i < length xs
 slice_get-within [] i x e = absurd (cc)
 slice_get-within (y ∷ ys) zero x e = omega arith

@@ -56,7 +56,7 @@ fn is_constant(terms: &Bank, id: TermId, constant: &Var) -> bool
 fn occurs(terms: &Bank, constant: &Var) -> bool
     ensures { result ≡ any_constant constant.now terms.now }
 {
-    for i in 0..terms.len() {
+    for i in 0..terms.len() as usize {
         if is_constant(terms, TermId::new(i as u32), constant) {
             return true;
         }

@@ -49,7 +49,7 @@ pub fn atom_literals(
     ensures { IfOk result (λ literals. literals ≡ atom_literals 0 terms.now values.now) }
 {
     let mut literals = Items::new(alloc);
-    for i in 0..terms.len() {
+    for i in 0..terms.len() as usize {
         if !is_atom(terms, TermId::new(i as u32)) {
             continue;
         }

@@ -44,7 +44,7 @@ pub fn open_atom(terms: &Bank, values: &[Option<bool>]) -> Option<u32>
     ensures none { IfNone result ((n : ℕ) → n < length terms.now → is_atom (tree_at terms.now n) ≡ true
         → known_at values.now n ≢ None) }
 {
-    for i in 0..terms.len() {
+    for i in 0..terms.len() as usize {
         if values[i].is_none() && is_atom(terms, TermId::new(i as u32)) {
             return Some(i as u32);
         }

@@ -141,13 +141,13 @@ impl Search {
 }
 
 /// A copy of the node of a number that some term has.
-fn node_at(alloc: Global, terms: &Bank, number: usize) -> Result<TermNode, NoMemory>
+fn node_at(alloc: Global, terms: &Bank, number: u32) -> Result<TermNode, NoMemory>
     requires { number < length terms.now }
     ensures parts { IfOk result (λ node. PartsBelow number node) }
     ensures tree { IfOk result (λ node. tree_of terms.now node ≡ tree_at terms.now number) }
 {
     let count = terms.len();
     prove!(number < count);
-    let node = terms.node(TermId::new(number as u32)).clone_of(alloc)?;
+    let node = terms.node(TermId::new(number)).clone_of(alloc)?;
     Ok(node)
 }
