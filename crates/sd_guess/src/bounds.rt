@@ -24,6 +24,11 @@ impl LeftSides {
         }
     }
 
+    /// The rows, in the order in which their left sides came.
+    pub fn into_rows(self) -> Vec<u32> {
+        self.rows
+    }
+
     /// The row with this left side, or with the opposite one.
     pub fn find(&self, rows: &Rows, cells: &[Cell], opposite: bool) -> Result<Option<u32>, Stop> {
         let key = key_of(cells, opposite);
@@ -71,9 +76,13 @@ fn key_of(cells: &[Cell], opposite: bool) -> u64 {
     let mut key: u64 = 7;
     for cell in cells {
         let sign = if (cell.1 > 0) != opposite { 1 } else { 2 };
-        key = key.wrapping_mul(0x9E37_79B9_7F4A_7C15).wrapping_add(u64::from(cell.0));
+        key = key
+            .wrapping_mul(0x9E37_79B9_7F4A_7C15)
+            .wrapping_add(u64::from(cell.0));
         key = key.wrapping_mul(0x9E37_79B9_7F4A_7C15);
-        key = key.wrapping_add(crate::rows::size_of_factor(cell.1).wrapping_mul(4)).wrapping_add(sign);
+        key = key
+            .wrapping_add(crate::rows::size_of_factor(cell.1).wrapping_mul(4))
+            .wrapping_add(sign);
     }
     key
 }
@@ -111,7 +120,7 @@ impl State {
             return Ok(true);
         }
         self.implied_atoms(&sides)?;
-        self.bounds = sides.rows;
+        self.bounds = sides.into_rows();
         if self.conflict.is_some() || self.trail.len() > before {
             return Ok(true);
         }
@@ -195,7 +204,11 @@ impl State {
 
     /// Two rows with opposite left sides: a conflict, or an equality (then true), or neither.
     fn meet(&mut self, first: u32, second: u32) -> Result<bool, Stop> {
-        let sum = self.rows.row(first)?.bound.saturating_add(self.rows.row(second)?.bound);
+        let sum = self
+            .rows
+            .row(first)?
+            .bound
+            .saturating_add(self.rows.row(second)?.bound);
         if sum > 0 {
             return Ok(false);
         }
@@ -203,7 +216,10 @@ impl State {
             self.solve_rows(first, second)?;
             return Ok(true);
         }
-        if let Some(row) = self.rows.add_multiples(self.alloc, (first, 1), (second, 1))? {
+        if let Some(row) = self
+            .rows
+            .add_multiples(self.alloc, (first, 1), (second, 1))?
+        {
             self.close_by_row(row)?;
         }
         Ok(self.conflict.is_some())

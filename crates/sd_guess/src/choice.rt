@@ -184,7 +184,11 @@ impl State {
             }
         }
         for back in 0..self.differences.len() {
-            let place = self.differences.len().saturating_sub(back).saturating_sub(1);
+            let place = self
+                .differences
+                .len()
+                .saturating_sub(back)
+                .saturating_sub(1);
             let Some(fact) = self.differences.get(place) else {
                 break;
             };

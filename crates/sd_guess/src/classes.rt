@@ -38,7 +38,10 @@ impl State {
         if self.class_of(a)? == self.class_of(b)? {
             return self.chain(term, a, b);
         }
-        for order in [self.terms.find_le(a, b), self.terms.find_le(b, a)].iter().flatten() {
+        for order in [self.terms.find_le(a, b), self.terms.find_le(b, a)]
+            .iter()
+            .flatten()
+        {
             self.order_from(*order)?;
         }
         Ok(())
@@ -53,7 +56,10 @@ impl State {
         let Shape::Le(a, b) = self.terms.shape(order)? else {
             return Ok(());
         };
-        for equality in [self.terms.find_eq(a, b), self.terms.find_eq(b, a)].iter().flatten() {
+        for equality in [self.terms.find_eq(a, b), self.terms.find_eq(b, a)]
+            .iter()
+            .flatten()
+        {
             let different = self.known(*equality)?;
             if let (Some(false), Some(reason)) = (different.value, different.reason) {
                 let other = self.term_of(Shape::Le(b, a))?;

@@ -67,7 +67,10 @@ impl State {
 
     /// The bodies that each term of the query belongs to. The two sides of a true equality of symbols belong to the two bodies.
     fn sides(&self) -> Result<Vec<Sides>, Stop> {
-        let none = Sides { old: false, new: false };
+        let none = Sides {
+            old: false,
+            new: false,
+        };
         let mut sides = vec![in self.alloc; none; self.terms.own as usize]?;
         for fact in self.query.iter() {
             let (a, b) = match self.terms.shape(self.facts.fact(*fact)?.term)? {
@@ -76,8 +79,22 @@ impl State {
                 _ => continue,
             };
             if self.is_symbol(a)? && self.is_symbol(b)? {
-                crate::access::put(&mut sides, a, Sides { old: true, new: false })?;
-                crate::access::put(&mut sides, b, Sides { old: false, new: true })?;
+                crate::access::put(
+                    &mut sides,
+                    a,
+                    Sides {
+                        old: true,
+                        new: false,
+                    },
+                )?;
+                crate::access::put(
+                    &mut sides,
+                    b,
+                    Sides {
+                        old: false,
+                        new: true,
+                    },
+                )?;
             }
         }
         for number in 0..self.terms.own {

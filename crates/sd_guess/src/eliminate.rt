@@ -34,7 +34,7 @@ impl State {
             if !self.combine_all(&mut parted)? {
                 return Ok(self.conflict.is_some());
             }
-            rows = parted.others.rows;
+            rows = parted.others.into_rows();
         }
         Ok(false)
     }
@@ -65,7 +65,10 @@ impl State {
         let mut best: Option<(i64, u32)> = None;
         for column in columns.iter() {
             let (low, high) = counts.get(column).copied().unwrap_or((0, 0));
-            let cost = low.saturating_mul(high).saturating_sub(low).saturating_sub(high);
+            let cost = low
+                .saturating_mul(high)
+                .saturating_sub(low)
+                .saturating_sub(high);
             if best.is_none_or(|other| (cost, *column) < other) {
                 best = Some((cost, *column));
             }
@@ -81,7 +84,12 @@ impl State {
         };
         for number in rows {
             let row: RowEntry = self.rows.row(*number)?;
-            let factor = self.rows.cells(row).iter().find(|cell| cell.0 == column).map_or(0, |cell| cell.1);
+            let factor = self
+                .rows
+                .cells(row)
+                .iter()
+                .find(|cell| cell.0 == column)
+                .map_or(0, |cell| cell.1);
             if factor < 0 {
                 parted.low.push((*number, size_of_factor(factor)))?;
             } else if factor > 0 {
@@ -101,7 +109,9 @@ impl State {
                     continue;
                 }
                 let (first, second) = multipliers(low.1, high.1);
-                let sum = self.rows.add_multiples(self.alloc, (low.0, first), (high.0, second))?;
+                let sum = self
+                    .rows
+                    .add_multiples(self.alloc, (low.0, first), (high.0, second))?;
                 let Some(sum) = sum else {
                     continue;
                 };

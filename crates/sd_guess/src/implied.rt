@@ -18,7 +18,9 @@ impl State {
                 continue;
             }
             match self.terms.shape(number)? {
-                Shape::Eq(a, b) if self.terms.is_integer(a)? => self.implied_equality(number, a, b, sides)?,
+                Shape::Eq(a, b) if self.terms.is_integer(a)? => self.implied_equality(
+                    number, a, b, sides,
+                )?,
                 Shape::Le(a, b) => self.implied_order(number, a, b, sides)?,
                 _ => {}
             }
@@ -26,7 +28,13 @@ impl State {
         Ok(())
     }
 
-    fn implied_equality(&mut self, number: u32, a: u32, b: u32, sides: &LeftSides) -> Result<(), Stop> {
+    fn implied_equality(
+        &mut self,
+        number: u32,
+        a: u32,
+        b: u32,
+        sides: &LeftSides,
+    ) -> Result<(), Stop> {
         let Some(difference) = self.normal_difference(a, b)? else {
             return Ok(());
         };
@@ -46,7 +54,13 @@ impl State {
         Ok(())
     }
 
-    fn implied_order(&mut self, number: u32, a: u32, b: u32, sides: &LeftSides) -> Result<(), Stop> {
+    fn implied_order(
+        &mut self,
+        number: u32,
+        a: u32,
+        b: u32,
+        sides: &LeftSides,
+    ) -> Result<(), Stop> {
         let Some(difference) = self.normal_difference(a, b)? else {
             return Ok(());
         };
@@ -63,7 +77,12 @@ impl State {
     }
 
     /// The refutation of a fact's row by itself, or with the row of the opposite left side.
-    fn refuted_by_bounds(&mut self, fact: u32, back: bool, sides: &LeftSides) -> Result<Option<Refutation>, Stop> {
+    fn refuted_by_bounds(
+        &mut self,
+        fact: u32,
+        back: bool,
+        sides: &LeftSides,
+    ) -> Result<Option<Refutation>, Stop> {
         let Some(number) = self.normal_fact_row(fact, back)? else {
             return Ok(None);
         };
@@ -82,7 +101,10 @@ impl State {
         if row.bound.saturating_add(bound) >= 0 {
             return Ok(None);
         }
-        match self.rows.add_multiples(self.alloc, (number, 1), (other, 1))? {
+        match self
+            .rows
+            .add_multiples(self.alloc, (number, 1), (other, 1))?
+        {
             Some(sum) => Ok(Some(self.refutation_by_row(sum)?)),
             None => Ok(None),
         }
@@ -90,7 +112,11 @@ impl State {
 }
 
 /// Whether a difference may be decided: it is a number, or a bound has its left side or the opposite one, up to a factor.
-fn bears_on(difference: &Difference, sides: &LeftSides, rows: &crate::rows::Rows) -> Result<bool, Stop> {
+fn bears_on(
+    difference: &Difference,
+    sides: &LeftSides,
+    rows: &crate::rows::Rows,
+) -> Result<bool, Stop> {
     if difference.cells.is_empty() || !crate::rows::is_reduced(&difference.cells) {
         return Ok(true);
     }

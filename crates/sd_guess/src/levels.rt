@@ -152,7 +152,10 @@ impl State {
     /// Leaves the last level with its refutation: the opposite of its assumption is forced, or the conflict is that of the level below.
     pub fn return_with(&mut self, refutation: Refutation) -> Result<(), Stop> {
         let level = self.close_level()?;
-        let uses_assumption = self.facts.items(refutation.uses).contains(&level.assumption);
+        let uses_assumption = self
+            .facts
+            .items(refutation.uses)
+            .contains(&level.assumption);
         if uses_assumption {
             self.force(level.assumption, refutation)
         } else {

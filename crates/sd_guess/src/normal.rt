@@ -25,7 +25,12 @@ impl State {
     pub fn difference(&self, a: u32, b: u32) -> Result<Option<Difference>, Stop> {
         let left = self.form(a)?;
         let right = self.form(b)?;
-        let Some(cells) = combined(self.alloc, (1, left.parts.as_slice()), (-1, right.parts.as_slice()))? else {
+        let Some(cells) = combined(
+            self.alloc,
+            (1, left.parts.as_slice()),
+            (-1, right.parts.as_slice()),
+        )?
+        else {
             return Ok(None);
         };
         match weighted(1, left.constant, -1, right.constant) {
@@ -53,7 +58,11 @@ impl State {
         let Some(bound) = weighted(1, most, -1, difference.constant) else {
             return Ok(None);
         };
-        let source = if back { Source::Back(number) } else { Source::Fact(number) };
+        let source = if back {
+            Source::Back(number)
+        } else {
+            Source::Fact(number)
+        };
         self.rows.add(&difference.cells, bound, source)
     }
 
@@ -75,7 +84,11 @@ impl State {
             let Some((factor, solved)) = self.last_solved(self.rows.cells(entry))? else {
                 return self.rows.cut(self.alloc, here);
             };
-            let other = if factor > 0 { solved.at_least } else { solved.at_most };
+            let other = if factor > 0 {
+                solved.at_least
+            } else {
+                solved.at_most
+            };
             match self.cancel(here, factor, solved.factor, other)? {
                 Some(next) => here = next,
                 None => return Ok(None),
@@ -91,7 +104,8 @@ impl State {
             return Err(Stop::GivesUp);
         }
         let (first, second) = multipliers(size, by);
-        self.rows.add_multiples(self.alloc, (row, first), (other, second))
+        self.rows
+            .add_multiples(self.alloc, (row, first), (other, second))
     }
 
     /// The row of a fact in normal form.
@@ -121,13 +135,22 @@ impl State {
     }
 
     /// The multiple of a difference in which a solved column is replaced.
-    fn replaced(&self, here: &Difference, factor: i128, solved: Solved) -> Result<Option<Difference>, Stop> {
+    fn replaced(
+        &self,
+        here: &Difference,
+        factor: i128,
+        solved: Solved,
+    ) -> Result<Option<Difference>, Stop> {
         let size = size_of_factor(factor);
         if size == 0 || solved.factor == 0 {
             return Err(Stop::GivesUp);
         }
         let (first, second) = multipliers(size, solved.factor);
-        let number = if factor > 0 { solved.at_least } else { solved.at_most };
+        let number = if factor > 0 {
+            solved.at_least
+        } else {
+            solved.at_most
+        };
         let row: RowEntry = self.rows.row(number)?;
         let m = i128::from(first);
         let n = i128::from(second);

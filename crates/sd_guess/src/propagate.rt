@@ -122,7 +122,13 @@ impl State {
     }
 
     /// What a demand on a connective leaves its parts no choice about.
-    fn wants_below(&self, term: u32, value: bool, root: u32, wants: &mut Vec<Want>) -> Result<(), Stop> {
+    fn wants_below(
+        &self,
+        term: u32,
+        value: bool,
+        root: u32,
+        wants: &mut Vec<Want>,
+    ) -> Result<(), Stop> {
         let over = Some((term, value));
         for below in self.demanded_parts(term, value)?.iter().flatten() {
             wants.push(Want {
@@ -151,7 +157,13 @@ impl State {
     }
 
     /// Of a conjunction (`both`) or disjunction.
-    fn demanded_sides(&self, a: u32, b: u32, value: bool, both: bool) -> Result<[Option<(u32, bool)>; 2], Stop> {
+    fn demanded_sides(
+        &self,
+        a: u32,
+        b: u32,
+        value: bool,
+        both: bool,
+    ) -> Result<[Option<(u32, bool)>; 2], Stop> {
         if value == both {
             return Ok([Some((a, value)), Some((b, value))]);
         }
@@ -165,7 +177,13 @@ impl State {
     }
 
     /// Of a choice between truth values.
-    fn demanded_by_choice(&self, c: u32, a: u32, b: u32, value: bool) -> Result<[Option<(u32, bool)>; 2], Stop> {
+    fn demanded_by_choice(
+        &self,
+        c: u32,
+        a: u32,
+        b: u32,
+        value: bool,
+    ) -> Result<[Option<(u32, bool)>; 2], Stop> {
         match self.value(c)? {
             Some(true) => Ok([Some((a, value)), None]),
             Some(false) => Ok([Some((b, value)), None]),
@@ -189,7 +207,11 @@ impl State {
                 reasons.extend_from_slice(&facts)?;
             }
             let known = self.known(term)?;
-            let demand = if value { known.demands.0 } else { known.demands.1 };
+            let demand = if value {
+                known.demands.0
+            } else {
+                known.demands.1
+            };
             below = term;
             over = match demand {
                 Some(demand) => demand.over,
@@ -204,7 +226,12 @@ impl State {
     }
 
     /// The parts with values because of which a demand passed from a connective to a part.
-    fn deciding_others(&self, term: u32, value: bool, below: u32) -> Result<[Option<u32>; 2], Stop> {
+    fn deciding_others(
+        &self,
+        term: u32,
+        value: bool,
+        below: u32,
+    ) -> Result<[Option<u32>; 2], Stop> {
         match self.terms.shape(term)? {
             Shape::And(a, b) if !value => Ok([other_side(a, b, below), None]),
             Shape::Or(a, b) if value => Ok([other_side(a, b, below), None]),
@@ -249,7 +276,11 @@ impl State {
         }
         match term.shape {
             Shape::Ite(c, a, b) if c == part => {
-                let chosen = if self.value(part)? == Some(true) { a } else { b };
+                let chosen = if self.value(part)? == Some(true) {
+                    a
+                } else {
+                    b
+                };
                 let equality = self.term_of(Shape::Eq(above, chosen))?;
                 let reasons = self.reasons_of(part, false)?;
                 self.derive(equality, true, Template::Ite(above, equality), &reasons)

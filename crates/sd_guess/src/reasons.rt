@@ -46,7 +46,13 @@ impl State {
     }
 
     /// The sides of a conjunction or disjunction that decide it: one that alone does, the earlier of two, or both.
-    fn deciding_sides(&self, shape: Shape, a: u32, b: u32, alone: bool) -> Result<[Option<u32>; 3], Stop> {
+    fn deciding_sides(
+        &self,
+        shape: Shape,
+        a: u32,
+        b: u32,
+        alone: bool,
+    ) -> Result<[Option<u32>; 3], Stop> {
         let left = self.known(a)?;
         let right = self.known(b)?;
         match (left.value == Some(alone), right.value == Some(alone)) {

@@ -63,7 +63,12 @@ impl Rows {
     }
 
     /// Adds a row with these cells, if its bound is small enough.
-    pub fn add(&mut self, cells: &[Cell], bound: i128, source: Source) -> Result<Option<u32>, Stop> {
+    pub fn add(
+        &mut self,
+        cells: &[Cell],
+        bound: i128,
+        source: Source,
+    ) -> Result<Option<u32>, Stop> {
         if bound.unsigned_abs() > MAX_BOUND {
             return Ok(None);
         }
@@ -119,7 +124,11 @@ impl Rows {
         for cell in self.cells(row) {
             cells.push((cell.0, quotient(cell.1, divisor)))?;
         }
-        self.add(&cells, quotient_down(row.bound, divisor), Source::Cut(number))
+        self.add(
+            &cells,
+            quotient_down(row.bound, divisor),
+            Source::Cut(number),
+        )
     }
 }
 

@@ -37,7 +37,10 @@ fn steps_for(alloc: Global, query: &Query, leaves: u32) -> Result<Items<Step>, S
 impl State {
     /// Refutes the query, first with few conflicts, then with cuts of ever greater budgets.
     fn refute_query(&mut self) -> Result<Refutation, Stop> {
-        if let Some(refutation) = self.refute_level(Budget { conflicts: 3, depth: 3 })? {
+        if let Some(refutation) = self.refute_level(Budget {
+            conflicts: 3,
+            depth: 3,
+        })? {
             return Ok(refutation);
         }
         let mut pairs = self.cut_pairs()?;

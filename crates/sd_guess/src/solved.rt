@@ -9,7 +9,10 @@ use crate::terms::Shape;
 impl State {
     /// Solves a true equality of integers.
     pub fn solve_fact(&mut self, number: u32) -> Result<(), Stop> {
-        match (self.normal_fact_row(number, false)?, self.normal_fact_row(number, true)?) {
+        match (
+            self.normal_fact_row(number, false)?,
+            self.normal_fact_row(number, true)?,
+        ) {
             (Some(at_most), Some(at_least)) => self.solve_rows(at_most, at_least),
             _ => Ok(()),
         }
@@ -29,14 +32,29 @@ impl State {
             return Ok(());
         };
         if a.bound.saturating_add(b.bound) < 0 {
-            return match self.rows.add_multiples(self.alloc, (first, 1), (second, 1))? {
+            return match self
+                .rows
+                .add_multiples(self.alloc, (first, 1), (second, 1))?
+            {
                 Some(row) => self.close_by_row(row),
                 None => Ok(()),
             };
         }
-        let (at_most, at_least) = if column.1 > 0 { (first, second) } else { (second, first) };
+        let (at_most, at_least) = if column.1 > 0 {
+            (first, second)
+        } else {
+            (second, first)
+        };
         let factor = size_of_factor(column.1);
-        put(&mut self.solved, column.0, Some(Solved { factor, at_most, at_least }))?;
+        put(
+            &mut self.solved,
+            column.0,
+            Some(Solved {
+                factor,
+                at_most,
+                at_least,
+            }),
+        )?;
         self.journal.push(Undo::Solved(column.0))?;
         self.version = self.version.wrapping_add(1);
         Ok(())
@@ -137,7 +155,12 @@ impl State {
     }
 
     /// The refutation of a difference of two equal integers, one of whose orders is true: the other is false.
-    fn refute_order(&mut self, difference: u32, order: u32, other: u32) -> Result<Option<Refutation>, Stop> {
+    fn refute_order(
+        &mut self,
+        difference: u32,
+        order: u32,
+        other: u32,
+    ) -> Result<Option<Refutation>, Stop> {
         let equality = self.facts.fact(difference)?.term;
         let first = self.facts.fact(order)?.term;
         let reasons = self.facts.keep(&[difference, order])?;
@@ -156,7 +179,12 @@ impl State {
     }
 
     /// What a refutation uses without one fact, and with others.
-    fn uses_with(&mut self, refutation: Refutation, without: u32, others: &[u32]) -> Result<crate::access::Span, Stop> {
+    fn uses_with(
+        &mut self,
+        refutation: Refutation,
+        without: u32,
+        others: &[u32],
+    ) -> Result<crate::access::Span, Stop> {
         let mut uses = Vec::new(self.alloc);
         uses.extend_from_slice(self.facts.items(refutation.uses))?;
         uses.extend_from_slice(others)?;
@@ -164,7 +192,12 @@ impl State {
     }
 
     /// The refutation of a difference of two equal integers, with a branch for either order.
-    fn refute_both_orders(&mut self, difference: u32, less: u32, greater: u32) -> Result<Option<Refutation>, Stop> {
+    fn refute_both_orders(
+        &mut self,
+        difference: u32,
+        less: u32,
+        greater: u32,
+    ) -> Result<Option<Refutation>, Stop> {
         let yes = self.facts.assume(less, true)?;
         let no = self.facts.assume(less, false)?;
         let Some(first) = self.refute_order(difference, yes, greater)? else {
@@ -173,7 +206,9 @@ impl State {
         let Some(second) = self.refute_strict(no)? else {
             return Ok(None);
         };
-        let node = self.facts.add_node(Node::Split(yes, no, first.node, second.node))?;
+        let node = self
+            .facts
+            .add_node(Node::Split(yes, no, first.node, second.node))?;
         let mut uses = Vec::new(self.alloc);
         for fact in self.facts.items(first.uses) {
             if *fact != yes {

@@ -14,7 +14,11 @@ impl State {
         known.time = time;
         self.set_known(term, known)?;
         self.values.push(term)?;
-        let opposite = if value { known.claims.1 } else { known.claims.0 };
+        let opposite = if value {
+            known.claims.1
+        } else {
+            known.claims.0
+        };
         match opposite {
             Some(fact) if self.conflict.is_none() => self.close_by_parts(fact),
             _ => Ok(()),
@@ -44,7 +48,11 @@ impl State {
     /// Adds a fact on a connective.
     fn push_claim(&mut self, number: u32, fact: Fact) -> Result<(), Stop> {
         let mut known = self.known(fact.term)?;
-        let same = if fact.value { known.claims.0 } else { known.claims.1 };
+        let same = if fact.value {
+            known.claims.0
+        } else {
+            known.claims.1
+        };
         if known.value == Some(fact.value) || same.is_some() {
             return Ok(());
         }
@@ -88,7 +96,13 @@ impl State {
     }
 
     /// Adds a fact that a step gives.
-    pub fn derive(&mut self, term: u32, value: bool, step: Template, reasons: &[u32]) -> Result<(), Stop> {
+    pub fn derive(
+        &mut self,
+        term: u32,
+        value: bool,
+        step: Template,
+        reasons: &[u32],
+    ) -> Result<(), Stop> {
         if self.terms.term(term)?.is_atom() && self.value(term)? == Some(value) {
             return Ok(());
         }

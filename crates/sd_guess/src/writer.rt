@@ -41,7 +41,11 @@ impl State {
             closings: 0,
         };
         for number in 0..number_of(self.terms.terms.len())? {
-            writer.numbers.push(if number < self.terms.own { Some(number) } else { None })?;
+            writer.numbers.push(if number < self.terms.own {
+                Some(number)
+            } else {
+                None
+            })?;
         }
         for fact in self.query.iter() {
             writer.place(*fact)?;
@@ -67,7 +71,12 @@ impl State {
     }
 
     /// Writes a part of a proof, and leaves what comes after it to be done.
-    fn write_node(&mut self, number: u32, writer: &mut Writer, tasks: &mut Vec<Task>) -> Result<(), Stop> {
+    fn write_node(
+        &mut self,
+        number: u32,
+        writer: &mut Writer,
+        tasks: &mut Vec<Task>,
+    ) -> Result<(), Stop> {
         self.rows.spend(1)?;
         match self.facts.node(number)? {
             Node::Step(fact, rest) => {
@@ -156,7 +165,12 @@ impl State {
             let line = match self.rows.row(*source)?.source {
                 Source::Fact(fact) => RowLine::Fact(writer.place_of(fact)?),
                 Source::Back(fact) => RowLine::Back(writer.place_of(fact)?),
-                Source::Add(a, m, b, n) => RowLine::Add(place_among(&sources, a)?, m, place_among(&sources, b)?, n),
+                Source::Add(a, m, b, n) => RowLine::Add(
+                    place_among(&sources, a)?,
+                    m,
+                    place_among(&sources, b)?,
+                    n,
+                ),
                 Source::Cut(a) => RowLine::Cut(place_among(&sources, a)?),
             };
             lines.push(line)?;
