@@ -12,6 +12,16 @@ pub struct Budget {
     pub depth: usize,
 }
 
+/// How a try ended.
+#[derive(Clone, Copy, Debug)]
+pub enum Tried {
+    Refuted(Refutation),
+    /// The budget is spent.
+    Spent,
+    /// All atoms that matter have values, and nothing contradicts them.
+    Settled,
+}
+
 impl State {
     /// Assumes a value of an atom.
     pub fn open_level(&mut self, term: u32, value: bool) -> Result<(), Stop> {
@@ -173,9 +183,10 @@ impl State {
     }
 
     /// Refutes the last level, if the budget lets it. All levels above are left.
-    pub fn refute_level(&mut self, budget: Budget) -> Result<Option<Refutation>, Stop> {
+    pub fn refute_level(&mut self, budget: Budget) -> Result<Tried, Stop> {
         let base = self.levels.len();
         let mut conflicts = budget.conflicts;
+        let mut tried = Tried::Spent;
         for _ in 0..u32::MAX {
             self.propagate()?;
             if let Some(conflict) = self.conflict {
@@ -183,7 +194,7 @@ impl State {
                 conflicts = conflicts.saturating_sub(1);
                 let refutation = self.wrap(conflict, self.level_start())?;
                 if self.levels.len() <= base {
-                    return Ok(Some(refutation));
+                    return Ok(Tried::Refuted(refutation));
                 }
                 self.return_with(refutation)?;
                 continue;
@@ -193,24 +204,27 @@ impl State {
             }
             match self.next_split()? {
                 Some((term, value)) => self.open_level(term, value)?,
-                None => break,
+                None => {
+                    tried = Tried::Settled;
+                    break;
+                }
             }
         }
         for _ in base..self.levels.len() {
             self.close_level()?;
         }
-        Ok(None)
+        Ok(tried)
     }
 
     /// Tries to refute a value of an atom. True where the opposite is forced, or there is a conflict without it.
     pub fn refute_value(&mut self, term: u32, value: bool, budget: Budget) -> Result<bool, Stop> {
         self.open_level(term, value)?;
         match self.refute_level(budget)? {
-            Some(refutation) => {
+            Tried::Refuted(refutation) => {
                 self.return_with(refutation)?;
                 Ok(true)
             }
-            None => {
+            _ => {
                 self.close_level()?;
                 Ok(false)
             }
