@@ -205,6 +205,9 @@ impl State {
             match self.next_split()? {
                 Some((term, value)) => self.open_level(term, value)?,
                 None => {
+                    if base == 0 {
+                        self.settled = Some(self.current_values()?);
+                    }
                     tried = Tried::Settled;
                     break;
                 }

@@ -26,6 +26,8 @@ mod state;
 mod stop;
 mod terms;
 mod trail;
+mod values;
 mod writer;
 
-pub use search::guess;
+pub use search::{Finding, guess};
+pub use values::Values;

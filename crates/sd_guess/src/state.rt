@@ -4,6 +4,7 @@ use crate::lists::Lists;
 use crate::rows::Rows;
 use crate::stop::Stop;
 use crate::terms::{Shape, Term, Terms};
+use crate::values::Values;
 use sd_rows::Form;
 use sd_term::{Bank, TermId};
 use sqlite_items::Items;
@@ -104,6 +105,8 @@ pub struct State {
     pub round: u32,
     /// The facts of the query.
     pub query: Vec<u32>,
+    /// Values of all atoms in which no conflict was found.
+    pub settled: Option<Values>,
 }
 
 impl State {
@@ -135,6 +138,7 @@ impl State {
             marks: Vec::new(alloc),
             round: 0,
             query: Vec::new(alloc),
+            settled: None,
         };
         for number in 0..bank.len() {
             state.make_room(number)?;

@@ -6,3 +6,5 @@ pub mod Settled
 pub mod Choice
 pub mod Outcome
 pub mod Running
+pub mod Guessed
+pub mod Assignment

@@ -55,7 +55,7 @@ pub fn next_choice(
 /// The branch is closed by a false fact, by rows or by equalities, where it can be. Else an atom without a value that is
 /// reached from a fact without one is split. Once all facts are true, what is asked for gets a number or is split, and
 /// then each atom is split.
-fn branch_choice(
+pub fn branch_choice(
     query: &Query,
     terms: &Bank,
     trail: &[Fact],

@@ -1,6 +1,7 @@
 //! Looks for a proof that no valuation makes all facts of a query true, or for an open cube of them.
 #![tactic(auto)]
 
+mod assignment;
 mod atoms;
 mod choice;
 mod descent;

@@ -141,7 +141,7 @@ impl Search {
 }
 
 /// A copy of the node of a number that some term has.
-fn node_at(alloc: Global, terms: &Bank, number: u32) -> Result<TermNode, NoMemory>
+pub fn node_at(alloc: Global, terms: &Bank, number: u32) -> Result<TermNode, NoMemory>
     requires { number < length terms.now }
     ensures parts { IfOk result (λ node. PartsBelow number node) }
     ensures tree { IfOk result (λ node. tree_of terms.now node ≡ tree_at terms.now number) }
