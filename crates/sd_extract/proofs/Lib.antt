@@ -50,4 +50,3 @@ pub mod CodePlaces
 pub mod CodeNumbers
 pub mod CodeModified
 pub mod CodePrograms
-pub mod PlaceLemmas

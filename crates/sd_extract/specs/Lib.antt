@@ -4,12 +4,10 @@ pub mod Programs
 pub mod Law
 pub mod Laws
 pub mod Propositional
-pub mod Positions
 pub mod Scopes
 pub mod Counted
 pub mod Numbered
 pub mod Sources
-pub mod Implementations
 pub mod Found
 pub mod Modified
 pub mod Places
