@@ -1,5 +1,5 @@
 -- Names without repetition.
-use Rattle.std.proofs.Common.{◌≡◌, ◌∙◌, sym, ap, refl, ℕ, ◌+◌, ◌<◌, ◌≤◌, Bool, true, false, cond, List, [], ◌∷◌, ◌++◌, append_assoc, length, drop, get_or}
+use Rattle.std.proofs.Common.{◌≡◌, ◌∙◌, sym, ap, refl, ℕ, ◌+◌, ◌<◌, ◌≤◌, Bool, true, false, cond, List, [], ◌∷◌, ◌++◌, append_assoc, length, drop, get_or, arith}
 use Rattle.std.specs.Prelude.{Option, Some, ◌||◌, if◌then◌else◌}
 use Rattle.std.specs.Option.{is_some}
 use Rattle.std.specs.Cmp.Lexicographic.{nat_list_eq_equiv}
@@ -21,8 +21,8 @@ seen_pushed was now names out name name' n seen same updated pushed x =
     ∙ (ap (λ (y : Text). is_among x names || (same_text x y || false)) (sym same) ∙ (sym (list_any-append (same_text x) names (name' ∷ [])) ∙ ap (is_among x) (sym pushed))))
   where
     go : (b : Bool) → b ≡ same_text x name → is_some (was x) ≡ is_among x names → is_some (if b then Some n else was x) ≡ (is_among x names || (same_text x name || false))
-    go true is there = grind (is)
-    go false is there = grind (is, there)
+    go true is there = grind arith
+    go false is there = grind arith
 
 -- ---- many names
 
