@@ -1,3 +1,4 @@
+pub mod Searches
 pub mod Expressions
 pub mod Writes
 pub mod Statements
