@@ -5,6 +5,7 @@ use Rattle.std.specs.List.{AllByRecursion, IsDistinct}
 use Rattle.std.specs.Cmp.Lexicographic.{bytes_decides}
 use Rattle.std.proofs.Common.{append_assoc}
 use Rattle.std.proofs.lemmas.List.{append-nil}
+use Rattle.std.proofs.lemmas.Bool.{false_from_ne_true}
 use Rattle.std.proofs.lemmas.List.Folds.{list_any-append}
 use Rattle.sd_base.specs.declared.Place.{Place}
 use Rattle.sd_base.specs.Value.{Text, same_text}
@@ -46,11 +47,8 @@ among_more : (seen : List Text) (x y : Text) → is_among seen y ≡ true → is
 among_more seen x y h = list_any-append (same_text y) seen (x ∷ []) ∙ ap (λ (b : Bool). b || is_among (x ∷ []) y) h
 
 not_same : (seen : List Text) (x y : Text) → is_among seen x ≡ false → is_among seen y ≡ true → same_text y x ≡ false
-not_same seen x y n a = go (same_text y x) refl
-  where
-    go : (b : Bool) → same_text y x ≡ b → b ≡ false
-    go true e = let f : is_among seen x ≡ true = subst (λ (z : Text). is_among seen z ≡ true) ((bytes_decides y x).0 e) a in absurd (cc)
-    go false e = refl
+not_same seen x y n a = false_from_ne_true (same_text y x) (λ e.
+    let f : is_among seen x ≡ true = subst (λ (z : Text). is_among seen z ≡ true) ((bytes_decides y x).0 e) a in cc)
 
 pub distinct_new : (xs seen all : List Text) → with_names seen xs ≡ Ok all → IsDistinct same_text xs × ((y : Text) → is_among seen y ≡ true → AllByRecursion (λ x. same_text y x ≡ false) xs) × (seen ++ xs ≡ all)
 unfolding IsDistinct

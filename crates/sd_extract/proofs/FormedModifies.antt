@@ -4,7 +4,7 @@ use Rattle.std.specs.Prelude.{Bool, true, false, ◌||◌, ◌==◌, slice_get, 
 use Rattle.std.specs.List.{AllByRecursion, IsDistinct, filter_map, cons_option}
 use Rattle.std.specs.Cmp.Lexicographic.{bytes_decides}
 use Rattle.std.proofs.lemmas.Option.{same_Some, none-some}
-use Rattle.std.proofs.lemmas.Bool.{or_parts, or_left, or_right}
+use Rattle.std.proofs.lemmas.Bool.{or_parts, or_left, or_right, ne_eqb, false_from_ne_true}
 use Rattle.std.proofs.lemmas.List.Folds.{list_any-append}
 use Rattle.sd_base.specs.declared.Sort.{Sort}
 use Rattle.sd_base.specs.declared.Var.{Var}
@@ -46,6 +46,20 @@ index_var (w ∷ vs) x = go (same_text x w.name) refl (index_next w vs x (index_
     go true e h = (refl, omega arith, (bytes_decides x w.name).0 e)
     go false e h = h
 
+-- a name is none of these variables, or it has both
+pub by_index : (vs : List Var) (x : Text) (Q : Option ℕ → Option Var → Type 0) → Q None None → ((i : ℕ) (v : Var) → IndexVar vs x (Some i) (Some v) → Q (Some i) (Some v)) → Q (index_in vs x) (var_in vs x)
+by_index vs x Q none some = go (index_in vs x) (var_in vs x) (index_var vs x)
+  where
+    go : (i : Option ℕ) (v : Option Var) → IndexVar vs x i v → Q i v
+    go None None h = none
+    go None (Some v) h = absurd h
+    go (Some i) None h = absurd h
+    go (Some i) (Some v) h = some i v h
+
+pub index_is : (vs : List Var) (x : Text) (i : ℕ) → index_in vs x ≡ Some i → (v : Var) × (slice_get vs i ≡ Some v) × (i < length vs) × (x ≡ v.name)
+index_is vs x i = by_index vs x (λ o v. o ≡ Some i → (v : Var) × (slice_get vs i ≡ Some v) × (i < length vs) × (x ≡ v.name)) (λ k. absurd (none-some i k))
+    (λ j v h k. let same = same_Some j i k in (v, ap (slice_get vs) (sym same) ∙ h.0, subst (λ (n : ℕ). n < length vs) same h.1, h.2))
+
 -- ---- lists of modified globals
 
 sort_of_var : (vs : List Var) (i : ℕ) (v : Var) → slice_get vs i ≡ Some v → slice_get (sorts_of vs) i ≡ Some v.sort
@@ -55,13 +69,8 @@ sort_of_var (w ∷ vs) (suc i) v h = sort_of_var vs i v h
 
 pub numbers_match : (vs : List Var) (names : List Text) → Matches (sorts_of vs) (filter_map (index_in vs) names) (sorts_of (filter_map (var_in vs) names))
 numbers_match vs [] = tt
-numbers_match vs (x ∷ names) = go (index_in vs x) (var_in vs x) (index_var vs x) (numbers_match vs names)
-  where
-    go : (i : Option ℕ) (v : Option Var) → IndexVar vs x i v → Matches (sorts_of vs) (filter_map (index_in vs) names) (sorts_of (filter_map (var_in vs) names)) → Matches (sorts_of vs) (cons_option i (filter_map (index_in vs) names)) (sorts_of (cons_option v (filter_map (var_in vs) names)))
-    go None None h k = k
-    go None (Some v) h k = absurd h
-    go (Some i) None h k = absurd h
-    go (Some i) (Some v) h k = (sort_of_var vs i v h.0, k)
+numbers_match vs (x ∷ names) =
+    by_index vs x (λ i v. Matches (sorts_of vs) (cons_option i (filter_map (index_in vs) names)) (sorts_of (cons_option v (filter_map (var_in vs) names)))) (numbers_match vs names) (λ i v h. (sort_of_var vs i v h.0, numbers_match vs names))
 
 pub matches_length : (ss : List Sort) (ms : List ℕ) (ts : List Sort) → Matches ss ms ts → length ms ≡ length ts
 matches_length ss [] [] h = refl
@@ -71,58 +80,31 @@ matches_length ss (m ∷ ms) (t ∷ ts) h = ap (λ (n : ℕ). suc n) (matches_le
 
 pub numbers_below : (vs : List Var) (names : List Text) → AllByRecursion (λ i. i < length vs) (filter_map (index_in vs) names)
 numbers_below vs [] = tt
-numbers_below vs (x ∷ names) = go (index_in vs x) (var_in vs x) (index_var vs x) (numbers_below vs names)
-  where
-    go : (i : Option ℕ) (v : Option Var) → IndexVar vs x i v → AllByRecursion (λ i. i < length vs) (filter_map (index_in vs) names) → AllByRecursion (λ i. i < length vs) (cons_option i (filter_map (index_in vs) names))
-    go None v h k = k
-    go (Some i) None h k = absurd h
-    go (Some i) (Some v) h k = (h.1, k)
+numbers_below vs (x ∷ names) =
+    by_index vs x (λ i v. AllByRecursion (λ i. i < length vs) (cons_option i (filter_map (index_in vs) names))) (numbers_below vs names) (λ i v h. (h.1, numbers_below vs names))
 
 abbrev copy : Var → Var
 copy v = record { name = v.name ++ codes "@copy"; sort = v.sort }
 
 pub copied_numbers : (vs : List Var) (names : List Text) → copies_in vs (filter_map (index_in vs) names) ≡ map (λ v. record { name = v.name ++ codes "@copy"; sort = v.sort }) (filter_map (var_in vs) names)
 copied_numbers vs [] = refl
-copied_numbers vs (x ∷ names) = go (index_in vs x) (var_in vs x) (index_var vs x) (copied_numbers vs names)
-  where
-    go : (i : Option ℕ) (v : Option Var) → IndexVar vs x i v → copies_in vs (filter_map (index_in vs) names) ≡ map copy (filter_map (var_in vs) names) → copies_in vs (cons_option i (filter_map (index_in vs) names)) ≡ map copy (cons_option v (filter_map (var_in vs) names))
-    go None None h k = k
-    go None (Some v) h k = absurd h
-    go (Some i) None h k = absurd h
-    go (Some i) (Some v) h k = (λ j. copy_of (h.0 j) ++ k j)
+copied_numbers vs (x ∷ names) =
+    by_index vs x (λ i v. copies_in vs (cons_option i (filter_map (index_in vs) names)) ≡ map copy (cons_option v (filter_map (var_in vs) names))) (copied_numbers vs names) (λ i v h j. copy_of (h.0 j) ++ copied_numbers vs names j)
 
 -- two names with one number are one name
 index_once : (vs : List Var) (x y : Text) (i j : ℕ) → index_in vs x ≡ Some i → index_in vs y ≡ Some j → i ≡ j → x ≡ y
-index_once vs x y i j e f same = go (index_in vs x) (var_in vs x) (index_in vs y) (var_in vs y) (index_var vs x) (index_var vs y) e f
-  where
-    go : (a : Option ℕ) (b : Option Var) (c : Option ℕ) (d : Option Var) → IndexVar vs x a b → IndexVar vs y c d → a ≡ Some i → c ≡ Some j → x ≡ y
-    go None b c d h k m n = absurd (none-some i m)
-    go (Some a) None c d h k m n = absurd h
-    go (Some a) (Some b) None d h k m n = absurd (none-some j n)
-    go (Some a) (Some b) (Some c) None h k m n = absurd k
-    go (Some a) (Some b) (Some c) (Some d) h k m n =
-        let numbers : a ≡ c = same_Some a i m ∙ same ∙ sym (same_Some c j n) in
-        let found : Some b ≡ Some d = sym h.0 ∙ ap (slice_get vs) numbers ∙ k.0 in
-        h.2 ∙ ap (λ (v : Var). v.name) (same_Some b d found) ∙ sym k.2
+index_once vs x y i j e f same =
+    let a = index_is vs x i e in let b = index_is vs y j f in
+    a.3 ∙ ap (λ (v : Var). v.name) (same_Some a.0 b.0 (sym a.1 ∙ ap (slice_get vs) same ∙ b.1)) ∙ sym b.3
 
-eqb_false : (i j : ℕ) → (i ≡ j → ⊥) → (i == j) ≡ false
-eqb_false i j n = go (i == j) refl
+-- what is said of each mentioned global is said of its number
+pub numbers_have : (vs : List Var) (Q : ℕ → Type 0) (names : List Text) → AllByRecursion (λ x. (i : ℕ) → index_in vs x ≡ Some i → Q i) names → AllByRecursion Q (filter_map (index_in vs) names)
+numbers_have vs Q [] h = tt
+numbers_have vs Q (x ∷ names) h = go (index_in vs x) refl (numbers_have vs Q names h.1)
   where
-    go : (b : Bool) → (i == j) ≡ b → b ≡ false
-    go true e = absurd (n (eqb→eq i j (rw e tt)))
-    go false e = refl
-
-not_first : (vs : List Var) (x : Text) (i : ℕ) (names : List Text) → index_in vs x ≡ Some i → AllByRecursion (λ y. same_text x y ≡ false) names → AllByRecursion (λ j. (i == j) ≡ false) (filter_map (index_in vs) names)
-not_first vs x i [] e h = tt
-not_first vs x i (y ∷ names) e h = go (index_in vs y) refl (not_first vs x i names e h.1)
-  where
-    different : (j : ℕ) → index_in vs y ≡ Some j → i ≡ j → ⊥
-    different j f same =
-        let g : same_text x y ≡ true = (bytes_decides x y).1 (index_once vs x y i j e f same) in let k = h.0 in absurd (cc)
-
-    go : (o : Option ℕ) → index_in vs y ≡ o → AllByRecursion (λ j. (i == j) ≡ false) (filter_map (index_in vs) names) → AllByRecursion (λ j. (i == j) ≡ false) (cons_option o (filter_map (index_in vs) names))
-    go None f k = k
-    go (Some j) f k = (eqb_false i j (different j f), k)
+    go : (o : Option ℕ) → index_in vs x ≡ o → AllByRecursion Q (filter_map (index_in vs) names) → AllByRecursion Q (cons_option o (filter_map (index_in vs) names))
+    go None e k = k
+    go (Some i) e k = (h.0 i e, k)
 
 pub numbers_once : (vs : List Var) (names : List Text) → IsDistinct same_text names → IsDistinct ◌==◌ (filter_map (index_in vs) names)
 unfolding IsDistinct
@@ -131,7 +113,7 @@ numbers_once vs (x ∷ names) h = go (index_in vs x) refl (numbers_once vs names
   where
     go : (o : Option ℕ) → index_in vs x ≡ o → IsDistinct ◌==◌ (filter_map (index_in vs) names) → IsDistinct ◌==◌ (cons_option o (filter_map (index_in vs) names))
     go None e k = k
-    go (Some i) e k = (not_first vs x i names e h.0, k)
+    go (Some i) e k = (numbers_have vs (λ j. (i == j) ≡ false) names (all-weaker (λ y. same_text x y ≡ false) (λ y. (j : ℕ) → index_in vs y ≡ Some j → (i == j) ≡ false) (λ y t j f. ne_eqb i j (λ same. let g = (bytes_decides x y).1 (index_once vs x y i j e f same) in cc)) names h.0), k)
 
 -- ---- names that are mentioned
 
@@ -175,14 +157,8 @@ record ModifiedNames (specs : List Spec) (seen : List Text) : Type 0 where
 
 -- a name that is mentioned, and one that isn't
 differs : (a b : Text) (xs : List Text) → is_in a xs ≡ true → is_in b xs ≡ false → same_text a b ≡ false
-differs a b xs h k = go (same_text a b) refl
-  where
-    go : (c : Bool) → same_text a b ≡ c → c ≡ false
-    go true e =
-        let same : a ≡ b = (bytes_decides a b).0 e in
-        let g : is_in b xs ≡ true = subst (λ (z : Text). is_in z xs ≡ true) same h in
-        absurd (cc)
-    go false e = refl
+differs a b xs h k = false_from_ne_true (same_text a b) (λ e.
+    let g : is_in b xs ≡ true = subst (λ (z : Text). is_in z xs ≡ true) ((bytes_decides a b).0 e) h in cc)
 
 distinct_join : (xs ys zs : List Text) → IsDistinct same_text ys → IsDistinct same_text zs → AllByRecursion (λ y. is_in y xs ≡ true) ys → AllByRecursion (λ z. is_in z xs ≡ false) zs → IsDistinct same_text (ys ++ zs)
 unfolding IsDistinct
@@ -266,15 +242,6 @@ number_there vs x i (y ∷ names) e h = go (same_text x y) refl (index_in vs y) 
 pub modifies_there : (vs : List Var) (specs : List Spec) (x : Text) (i : ℕ) → index_in vs x ≡ Some i → is_among (modifies_of specs) x ≡ true → Contains (filter_map (index_in vs) (modified_names specs [])) i
 modifies_there vs specs x i e h =
     number_there vs x i (modified_names specs []) e (modified_has x specs [] h refl)
-
--- what is said of each mentioned global is said of its number
-pub numbers_have : (vs : List Var) (Q : ℕ → Type 0) (names : List Text) → AllByRecursion (λ x. (i : ℕ) → index_in vs x ≡ Some i → Q i) names → AllByRecursion Q (filter_map (index_in vs) names)
-numbers_have vs Q [] h = tt
-numbers_have vs Q (x ∷ names) h = go (index_in vs x) refl (numbers_have vs Q names h.1)
-  where
-    go : (o : Option ℕ) → index_in vs x ≡ o → AllByRecursion Q (filter_map (index_in vs) names) → AllByRecursion Q (cons_option o (filter_map (index_in vs) names))
-    go None e k = k
-    go (Some i) e k = (h.0 i e, k)
 
 -- ---- the spot of a global
 

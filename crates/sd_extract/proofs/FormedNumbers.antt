@@ -4,6 +4,7 @@ use Rattle.std.specs.Prelude.{Bool, true, false, slice_get, if◌then◌else◌}
 use Rattle.std.specs.Cmp.Lexicographic.{bytes_decides}
 use Rattle.std.proofs.Common.{append_assoc, length-append}
 use Rattle.std.proofs.lemmas.Option.{none-some}
+use Rattle.std.proofs.lemmas.Bool.{false_from_ne_true}
 use Rattle.sd_base.proofs.Lists.{slice_get-between}
 use Rattle.sd_base.specs.Value.{Text, same_text}
 use Rattle.sd_base.proofs.Texts.{same_text-refl}
@@ -185,14 +186,9 @@ module _ (P : Program) (Q : ℕ → CoreProc → Type 0) (each : (f : Text) (r :
           subst (λ (m : ℕ). EachFrom Q m (procs_of P (number_from P 0 P.decls) (source_of (globals_in P.decls) m r))) head_number (each p.head.name r e)
 
       other : (f : Text) (d : Proc) → procedure_in ds f ≡ Some d → same_text f p.head.name ≡ false
-      other f d e = step (same_text f p.head.name) refl
-        where
-          step : (b : Bool) → same_text f p.head.name ≡ b → b ≡ false
-          step true t =
-              let same : f ≡ p.head.name = (bytes_decides f p.head.name).0 t in
-              let here : named (procedure_entries ds) p.head.name ≡ Some (callee_of d) = subst (λ (g : Text). named (procedure_entries ds) g ≡ Some (callee_of d)) same (procedure_named ds f d e) in
-              absurd (none-some (callee_of d) (sym once.0 ∙ here))
-          step false t = refl
+      other f d e = false_from_ne_true (same_text f p.head.name) (λ t.
+          let here : named (procedure_entries ds) p.head.name ≡ Some (callee_of d) = subst (λ (g : Text). named (procedure_entries ds) g ≡ Some (callee_of d)) ((bytes_decides f p.head.name).0 t) (procedure_named ds f d e) in
+          none-some (callee_of d) (sym once.0 ∙ here))
 
       later : (f : Text) (d : Proc) → procedure_in ds f ≡ Some d → number_from P 0 P.decls f ≡ number_from P (n + size_of (routine_named P p.head.name)) ds f
       later f d e =

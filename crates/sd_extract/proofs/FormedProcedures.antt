@@ -46,7 +46,7 @@ use Rattle.sd_extract.proofs.FormedChecks.{IsChecked, AreChecked, EachChecked, E
 use Rattle.sd_extract.proofs.FormedSpots.{Holds, holds_left, holds_right, spots_hold, spots_typed, slots_targets}
 use Rattle.sd_extract.proofs.FormedPlaces.{sorts_as, laid_append, laid_vars, laid_found, laid_none, LocalsAt, Matches, sees}
 use Rattle.sd_extract.proofs.FormedDeclarations.{IsTyped, is_scope, RoutineFine, proc_is_fine, routine_fine}
-use Rattle.sd_extract.proofs.FormedModifies.{numbers_match, numbers_below, numbers_once, modified_once, copied_numbers, IndexVar, index_var}
+use Rattle.sd_extract.proofs.FormedModifies.{numbers_match, numbers_below, numbers_once, modified_once, copied_numbers, by_index}
 use Rattle.sd_extract.proofs.FormedNumbers.{EachFrom, each_append, LoopIs, loops_length, all_loops_length, each_loops_give, row_loops}
 use Rattle.sd_extract.proofs.FormedFrames.{sorts_length, source_at, body_stands, loops_stand, entry_laid, now_laid, frame_fits}
 use Rattle.sd_extract.proofs.FormedLocals.{holds_all, at_slot, body_slots, loop_ins, loop_outs, loop_slots, sorts_join, hidden_fit, root_names, copied-sorts}
@@ -66,17 +66,13 @@ globals_typed F T (m ∷ ms) (t ∷ ts) h = (h.0, globals_typed F T ms ts h.1)
 -- the types of the copied globals
 copied_fit : (vs : List Var) (names : List Text) → AllByRecursion IsSort (sorts_of vs) → AllByRecursion IsSort (sorts_of (filter_map (var_in vs) names))
 copied_fit vs [] h = tt
-copied_fit vs (x ∷ names) h = go (index_in vs x) (var_in vs x) (index_var vs x) (copied_fit vs names h)
+copied_fit vs (x ∷ names) h =
+    by_index vs x (λ i v. AllByRecursion IsSort (sorts_of (cons_option v (filter_map (var_in vs) names)))) (copied_fit vs names h) (λ i v e. (at vs i v h e.0, copied_fit vs names h))
   where
     at : (ws : List Var) (i : ℕ) (v : Var) → AllByRecursion IsSort (sorts_of ws) → slice_get ws i ≡ Some v → IsSort v.sort
     at [] i v a e = absurd (none-some v e)
     at (w ∷ ws) zero v a e = subst (λ (u : Var). IsSort u.sort) (same_Some w v e) a.0
     at (w ∷ ws) (suc i) v a e = at ws i v a.1 e
-
-    go : (i : Option ℕ) (v : Option Var) → IndexVar vs x i v → AllByRecursion IsSort (sorts_of (filter_map (var_in vs) names)) → AllByRecursion IsSort (sorts_of (cons_option v (filter_map (var_in vs) names)))
-    go i None e k = k
-    go None (Some v) e k = absurd e
-    go (Some i) (Some v) e k = (at vs i v h e.0, k)
 
 module _ (P : Program) (G : Scope) (typed : IsTyped P G) (global_sorts : AllByRecursion IsSort (sorts_of (globals_in P.decls))) (f : Text) (r : SourceRoutine) (is : routine_named P f ≡ Some r) where
   abbrev number : Text → ℕ
@@ -131,13 +127,7 @@ module _ (P : Program) (G : Scope) (typed : IsTyped P G) (global_sorts : AllByRe
     proc_outs = loop_outs P number S n e (clauses_of invs) (has_returns body) (kinds_in body);
     modifies = refl;
   }
-  loop_has n (If' e shape a shape' b) h = h
-  loop_has n (Assert e) h = h
-  loop_has n (Assume e) h = h
-  loop_has n (Assign ls es) h = h
-  loop_has n (Call xs g es) h = h
-  loop_has n Break h = h
-  loop_has n Return h = h
+  loop_has n _ h = absurd h
 
   abbrev placed_loops : EachLoopsAt Placed (suc S.number) (kinds S)
   placed_loops = loops_stand P f r is

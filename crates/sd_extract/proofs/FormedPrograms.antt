@@ -38,6 +38,7 @@ use Rattle.sd_extract.specs.Names.{place_of, at_place}
 use Rattle.sd_extract.specs.Extract.{Source, counts, counts_all, kinds, loops_in, all_loops_in, each_loop_in, source_of, size_of, number_from, routine_procs, procs_from}
 use Rattle.sd_extract.specs.Programs.{constants_named, functions_in, axioms_in, no_names, core_axiom, core_program}
 use Rattle.sd_extract.specs.Laws.{ExtractedIsFormed}
+use Rattle.sd_extract.proofs.Searches.{none_later, same_front}
 use Rattle.sd_extract.proofs.FormedExpressions.{Sees, core_typed}
 use Rattle.sd_extract.proofs.FormedTables.{keys, OnceEach, entries_distinct, global_entries, function_entries, procedure_entries}
 use Rattle.sd_extract.proofs.FormedLookups.{function_found, constant_found, globals_as, no_global, none_prefix, once_past_constants, once_past_variables, is_outer}
@@ -50,11 +51,7 @@ use Rattle.sd_extract.proofs.FormedProcedures.{routine_procs_formed}
 
 absent_keys : {X : Type 0} (es : List (Text × X)) (x : Text) → named es x ≡ None → AllByRecursion (λ y. same_text x y ≡ false) (keys es)
 absent_keys [] x h = tt
-absent_keys (e ∷ es) x h = go (same_text x e.0) refl h (absent_keys es x)
-  where
-    go : (b : Bool) → same_text x e.0 ≡ b → cond b (Some e.1) (named es x) ≡ None → (named es x ≡ None → AllByRecursion (λ y. same_text x y ≡ false) (keys es)) → AllByRecursion (λ y. same_text x y ≡ false) (keys (e ∷ es))
-    go true t k rec = absurd (cc)
-    go false t k rec = (t, rec k)
+absent_keys (e ∷ es) x h = let n = none_later (same_text x e.0) _ _ h in (n.0, absent_keys es x n.1)
 
 once_distinct : {X : Type 0} (es : List (Text × X)) → OnceEach es → IsDistinct same_text (keys es)
 unfolding IsDistinct
@@ -105,19 +102,11 @@ constant_keys (_ ∷ ds) = constant_keys ds
 
 absent_constants : (s : Sort) (names : List Text) (es fs : List (Text × Variable)) (x : Text) → named (constants_of s names ++ es) x ≡ None → (named es x ≡ None → named fs x ≡ None) → named (constants_of s names ++ fs) x ≡ None
 absent_constants s [] es fs x h rest = rest h
-absent_constants s (c ∷ names) es fs x h rest = go (same_text x c) h (λ k. absent_constants s names es fs x k rest)
-  where
-    go : (b : Bool) → cond b (Some (record { sort = s; nature = nature.Constant })) (named (constants_of s names ++ es) x) ≡ None → (named (constants_of s names ++ es) x ≡ None → named (constants_of s names ++ fs) x ≡ None) → cond b (Some (record { sort = s; nature = nature.Constant })) (named (constants_of s names ++ fs) x) ≡ None
-    go true k rec = k
-    go false k rec = rec k
+absent_constants s (c ∷ names) es fs x h rest = same_front (same_text x c) _ _ _ _ h (λ k. absent_constants s names es fs x k rest)
 
 past_variables : (n : Nature) (vs : List Var) (es : List (Text × Variable)) (x : Text) → named (variables_as n vs ++ es) x ≡ None → named es x ≡ None
 past_variables n [] es x h = h
-past_variables n (y ∷ vs) es x h = go (same_text x y.name) h (past_variables n vs es x)
-  where
-    go : (b : Bool) → cond b (Some (record { sort = y.sort; nature = n })) (named (variables_as n vs ++ es) x) ≡ None → (named (variables_as n vs ++ es) x ≡ None → named es x ≡ None) → named es x ≡ None
-    go true k rec = absurd (cc)
-    go false k rec = rec k
+past_variables n (y ∷ vs) es x h = past_variables n vs es x (none_later (same_text x y.name) _ _ h).1
 
 no_constant : (ds : List Decl) (x : Text) → named (global_entries ds) x ≡ None → named (constants_in ds) x ≡ None
 no_constant [] x h = h
@@ -281,16 +270,13 @@ module _ (P : Program) (G : Scope) (typed : IsTyped P G) where
 
   absent_names : (ds : List Decl) (x : Text) → named (procedure_entries ds) x ≡ None → AllByRecursion (λ y. same_text x y ≡ false) (root_names ds)
   absent_names [] x h = tt
-  absent_names (Procedure p ∷ ds) x h = go (same_text x p.head.name) refl h (absent_names ds x)
+  absent_names (Procedure p ∷ ds) x h =
+      let n = none_later (same_text x p.head.name) _ _ h in
+      all-append (λ y. same_text x y ≡ false) (name_if (routine_named P p.head.name)) (root_names ds) (mine n.0 (routine_named P p.head.name) refl) (absent_names ds x n.1)
     where
       mine : same_text x p.head.name ≡ false → (o : Option Routine) → routine_named P p.head.name ≡ o → AllByRecursion (λ y. same_text x y ≡ false) (name_if o)
       mine t None e = tt
       mine t (Some r) e = (ap (same_text x) (sym (routine_fine P G typed p.head.name r e).name) ∙ t, tt)
-
-      go : (b : Bool) → same_text x p.head.name ≡ b → cond b (Some (callee_of p)) (named (procedure_entries ds) x) ≡ None → (named (procedure_entries ds) x ≡ None → AllByRecursion (λ y. same_text x y ≡ false) (root_names ds)) → AllByRecursion (λ y. same_text x y ≡ false) (name_if (routine_named P p.head.name) ++ root_names ds)
-      go true t k rec = absurd (cc)
-      go false t k rec =
-          all-append (λ y. same_text x y ≡ false) (name_if (routine_named P p.head.name)) (root_names ds) (mine t (routine_named P p.head.name) refl) (rec k)
   absent_names (_ ∷ ds) x h = absent_names ds x h
 
   names_once : (ds : List Decl) → OnceEach (procedure_entries ds) → IsDistinct same_text (root_names ds)
