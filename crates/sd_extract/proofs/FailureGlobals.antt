@@ -20,6 +20,7 @@ use Rattle.sd_core.specs.Run.{nothing}
 use Rattle.sd_core.specs.Formed.{sorts_of, same_sort}
 use Rattle.sd_core.specs.Meanings.{HaveSorts}
 use Rattle.sd_core.specs.Failure.{place_from, shared_at, shared_from, shared_of}
+use Rattle.sd_extract.proofs.Searches.{first_or_later}
 
 -- ---- stores
 
@@ -116,11 +117,8 @@ is_same-refl x = rw ((bytes_decides x.name x.name).1 refl, same_sort-refl x.sort
 
 place_stands : (n : ℕ) (ys : List Var) (x : Var) (j : ℕ) → place_from n ys x ≡ Some j → Stands n ys j x
 place_stands n [] x j h = absurd (cc)
-place_stands n (y ∷ ys) x j h = go (is_same x y) refl (place_stands (suc n) ys x j) h
-  where
-    go : (b : Bool) → is_same x y ≡ b → (place_from (suc n) ys x ≡ Some j → Stands (suc n) ys j x) → (if b then Some n else place_from (suc n) ys x) ≡ Some j → Stands n (y ∷ ys) j x
-    go true e rest h = inl (cc, same_is x y e)
-    go false e rest h = inr (rest h)
+place_stands n (y ∷ ys) x j h =
+    first_or_later (is_same x y) _ _ _ h (λ e k. inl (sym k, same_is x y e)) (λ _ k. inr (place_stands (suc n) ys x j k))
 
 stands_placed : (n : ℕ) (ys : List Var) (x : Var) (j : ℕ) → Stands n ys j x → (i : ℕ) × (place_from n ys x ≡ Some i)
 stands_placed n [] x j s = absurd s

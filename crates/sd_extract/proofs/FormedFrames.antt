@@ -47,7 +47,7 @@ use Rattle.sd_extract.proofs.FormedChecks.{distinct_new}
 use Rattle.sd_extract.proofs.FormedLookups.{globals_as, global_found, no_global, constant_no_global, is_outer, procedure_found, HasBody, has_a_body}
 use Rattle.sd_extract.proofs.FormedPlaces.{Laid, laid_append, laid_vars, laid_two, laid_found, laid_none, place_has, IsSlot, Separate, place_one, global_spots, globals_apart, all_global, set_spots, IsScope, sorts_as, LocalsAt, if_named-some, sees, args_at}
 use Rattle.sd_extract.proofs.FormedDeclarations.{IsTyped, is_scope, procedures_are, procedures_once, RoutineFine, routine_fine}
-use Rattle.sd_extract.proofs.FormedModifies.{numbers_match, modifies_there, all_modified, numbers_have, global_spot}
+use Rattle.sd_extract.proofs.FormedModifies.{unnumbered, numbers_match, modifies_there, all_modified, numbers_have, global_spot}
 use Rattle.sd_extract.proofs.FormedSpots.{Holds, spots_hold, slot_below, slots_apart, slots_before, slots_targets}
 use Rattle.sd_extract.proofs.FormedNumbers.{LoopIs, each_loop_placed, StandsIn, stands_in}
 use Rattle.sd_extract.proofs.FormedStatements.{CalleeAt, Fits, EachLoopsAt}
@@ -142,16 +142,7 @@ module _ (P : Program) (G : Scope) (typed : IsTyped P G) where
 
   -- a name with a number is a global
   index_named : (vs : List Var) (x : Text) (i : ℕ) → index_in vs x ≡ Some i → named (variables_as nature.Global vs) x ≡ None → ⊥
-  index_named [] x i e h = none-some i e
-  index_named (v ∷ vs) x i e h = go (same_text x v.name) e h (index_named vs x)
-    where
-      go : (b : Bool) → (if b then Some 0 else option_map (λ n. suc n) (index_in vs x)) ≡ Some i → cond b (Some (record { sort = v.sort; nature = nature.Global })) (named (variables_as nature.Global vs) x) ≡ None → ((j : ℕ) → index_in vs x ≡ Some j → named (variables_as nature.Global vs) x ≡ None → ⊥) → ⊥
-      go true k l rec = cc
-      go false k l rec = step (index_in vs x) refl k
-        where
-          step : (o : Option ℕ) → index_in vs x ≡ o → option_map (λ n. suc n) o ≡ Some i → ⊥
-          step None f m = none-some i m
-          step (Some j) f m = rec j f l
+  index_named vs x i e h = none-some i (sym (unnumbered nature.Global vs x h) ∙ e)
 
   index_global : (x : Text) (i : ℕ) → index_in globals x ≡ Some i → is_global (named G.globals x) ≡ true
   index_global x i e = ap (λ (l : List (Text × Variable)). is_global (named l x)) (sym scope.globals) ∙ go (named (global_entries P.decls) x) refl
@@ -181,11 +172,7 @@ module _ (P : Program) (G : Scope) (typed : IsTyped P G) where
   -- ---- calls
 
   is_with_body : (bodies : List Text) (f : Text) (u : Unit {0}) → has_body bodies f ≡ Ok u → is_among bodies f ≡ true
-  is_with_body bodies f u = go (is_among bodies f)
-    where
-      go : (b : Bool) → (if b then Ok tt else Err (NoBody f)) ≡ Ok u → b ≡ true
-      go true h = refl
-      go false h = absurd (cc)
+  is_with_body bodies f u = elim (is_among bodies f) as (λ b. (if b then Ok tt else Err (NoBody f)) ≡ Ok u → b ≡ true) [ true ↦ λ h. refl | false ↦ λ h. absurd (cc) ]
 
   pub callee_at : (p : CoreProc) (locals : List (Text × Variable)) (specs : List Spec) → p.modifies ≡ filter_map (index_in globals) (modified_names specs []) → (f : Text) (q : Callee) → named G.procedures f ≡ Some q → has_body G.bodies f ≡ Ok tt → AllByRecursion (λ x. modified_rule (routine G locals (modifies_of specs)) x ≡ Ok tt) q.modifies → CalleeAt P number K p G f q
   callee_at p locals specs same f q found body mods =

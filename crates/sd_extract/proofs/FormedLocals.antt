@@ -166,11 +166,7 @@ module _ (P : Program) (known : (f : Text) → AllByRecursion IsSort (sorts_of (
 
 not_plain : (xs ys : List ℕ) → is_plain (xs ++ (64 ∷ ys)) ≡ false
 not_plain [] ys = refl
-not_plain (c ∷ xs) ys = go (not (c == 64)) (not_plain xs ys)
-  where
-    go : (b : Bool) → is_plain (xs ++ (64 ∷ ys)) ≡ false → (b && is_plain (xs ++ (64 ∷ ys))) ≡ false
-    go true h = h
-    go false h = refl
+not_plain (c ∷ xs) ys = elim (not (c == 64)) as (λ b. (b && is_plain (xs ++ (64 ∷ ys))) ≡ false) [ true ↦ not_plain xs ys | false ↦ refl ]
 
 abbrev AreHidden : List Var → Type 0
 AreHidden = AllByRecursion (λ v. is_plain v.name ≡ false)

@@ -14,7 +14,9 @@ use Rattle.sd_base.proofs.Texts.{same_text-refl, same_text-other_way}
 use Rattle.sd_ast.specs.declared.Spec.{Spec}
 use Rattle.sd_ast.specs.declared.Spec.TheVariants.{Modifies}
 use Rattle.sd_types.specs.Names.{is_among}
-use Rattle.sd_types.specs.Declarations.{modifies_of}
+use Rattle.sd_types.specs.declared.scope.Nature.{Nature}
+use Rattle.sd_types.specs.Tables.{named}
+use Rattle.sd_types.specs.Declarations.{modifies_of, variables_as}
 use Rattle.sd_core.specs.declared.Spot.{Spot}
 use Rattle.sd_core.specs.declared.Spot.TheVariants.{Global}
 use Rattle.sd_core.specs.Formed.{sorts_of, copy_of}
@@ -23,44 +25,15 @@ use Rattle.sd_ast.specs.Tree.{names_of}
 use Rattle.sd_extract.specs.Names.{place_in}
 use Rattle.sd_extract.specs.Extract.{globals_from, index_in, var_in, new_names, modified_names}
 use Rattle.sd_extract.specs.Extract.{is_among as is_in}
+use Rattle.sd_extract.proofs.Searches.{none_later}
+use Rattle.sd_extract.proofs.CodeNames.{by_index, index_is, place_in-globals}
 use Rattle.sd_extract.proofs.FormedPlaces.{Matches}
 
--- ---- a variable and its place
-
-abbrev pub IndexVar : List Var → Text → Option ℕ → Option Var → Type 0
-IndexVar vs x None None = Unit {0}
-IndexVar vs x (Some i) (Some v) = (slice_get vs i ≡ Some v) × (i < length vs) × (x ≡ v.name)
-IndexVar vs x _ _ = ⊥
-
-index_next : (w : Var) (vs : List Var) (x : Text) (i : Option ℕ) (v : Option Var) → IndexVar vs x i v → IndexVar (w ∷ vs) x (option_map (λ n. suc n) i) v
-index_next w vs x None None h = tt
-index_next w vs x None (Some v) h = absurd h
-index_next w vs x (Some i) None h = absurd h
-index_next w vs x (Some i) (Some v) h = let l = h.1 in (h.0, omega (arith, l), h.2)
-
-pub index_var : (vs : List Var) (x : Text) → IndexVar vs x (index_in vs x) (var_in vs x)
-index_var [] x = tt
-index_var (w ∷ vs) x = go (same_text x w.name) refl (index_next w vs x (index_in vs x) (var_in vs x) (index_var vs x))
-  where
-    go : (b : Bool) → same_text x w.name ≡ b → IndexVar (w ∷ vs) x (option_map (λ n. suc n) (index_in vs x)) (var_in vs x) → IndexVar (w ∷ vs) x (if b then Some 0 else option_map (λ n. suc n) (index_in vs x)) (if b then Some w else var_in vs x)
-    go true e h = (refl, omega arith, (bytes_decides x w.name).0 e)
-    go false e h = h
-
--- a name is none of these variables, or it has both
-pub by_index : (vs : List Var) (x : Text) (Q : Option ℕ → Option Var → Type 0) → Q None None → ((i : ℕ) (v : Var) → IndexVar vs x (Some i) (Some v) → Q (Some i) (Some v)) → Q (index_in vs x) (var_in vs x)
-by_index vs x Q none some = go (index_in vs x) (var_in vs x) (index_var vs x)
-  where
-    go : (i : Option ℕ) (v : Option Var) → IndexVar vs x i v → Q i v
-    go None None h = none
-    go None (Some v) h = absurd h
-    go (Some i) None h = absurd h
-    go (Some i) (Some v) h = some i v h
-
-pub index_is : (vs : List Var) (x : Text) (i : ℕ) → index_in vs x ≡ Some i → (v : Var) × (slice_get vs i ≡ Some v) × (i < length vs) × (x ≡ v.name)
-index_is vs x i = by_index vs x (λ o v. o ≡ Some i → (v : Var) × (slice_get vs i ≡ Some v) × (i < length vs) × (x ≡ v.name)) (λ k. absurd (none-some i k))
-    (λ j v h k. let same = same_Some j i k in (v, ap (slice_get vs) (sym same) ∙ h.0, subst (λ (n : ℕ). n < length vs) same h.1, h.2))
-
 -- ---- lists of modified globals
+
+pub unnumbered : (n : Nature) (vs : List Var) (x : Text) → named (variables_as n vs) x ≡ None → index_in vs x ≡ None
+unnumbered n [] x h = refl
+unnumbered n (u ∷ us) x h = let k = none_later (same_text x u.name) _ _ h in rw k.0 (ap (option_map (λ m. suc m)) (unnumbered n us x k.1))
 
 sort_of_var : (vs : List Var) (i : ℕ) (v : Var) → slice_get vs i ≡ Some v → slice_get (sorts_of vs) i ≡ Some v.sort
 sort_of_var [] i v h = absurd (none-some v h)
@@ -187,11 +160,8 @@ modified_once specs = (names_modified specs []).once
 -- what is said of all that is mentioned
 all_new : (Q : Text → Type 0) (xs seen : List Text) → AllByRecursion Q xs → AllByRecursion Q (new_names xs seen)
 all_new Q [] seen h = tt
-all_new Q (x ∷ xs) seen h = go (is_in x seen) (all_new Q xs seen h.1) (all_new Q xs (seen ++ (x ∷ [])) h.1)
-  where
-    go : (b : Bool) → AllByRecursion Q (new_names xs seen) → AllByRecursion Q (new_names xs (seen ++ (x ∷ []))) → AllByRecursion Q (if b then new_names xs seen else x ∷ new_names xs (seen ++ (x ∷ [])))
-    go true k l = k
-    go false k l = (h.0, l)
+all_new Q (x ∷ xs) seen h =
+    elim (is_in x seen) as (λ b. AllByRecursion Q (if b then new_names xs seen else x ∷ new_names xs (seen ++ (x ∷ [])))) [ true ↦ all_new Q xs seen h.1 | false ↦ (h.0, all_new Q xs (seen ++ (x ∷ [])) h.1) ]
 
 pub all_modified : (Q : Text → Type 0) (specs : List Spec) (seen : List Text) → AllByRecursion Q (modifies_of specs) → AllByRecursion Q (modified_names specs seen)
 all_modified Q [] seen h = tt
@@ -245,20 +215,8 @@ modifies_there vs specs x i e h =
 
 -- ---- the spot of a global
 
-global_spot_from : (vs : List Var) (k : ℕ) (x : Text) → place_in (names_of vs) (globals_from k vs) x ≡ option_map (λ j. Global (k + j)) (index_in vs x)
-global_spot_from [] k x = refl
-global_spot_from (v ∷ vs) k x = go (same_text x v.name) (global_spot_from vs (suc k) x)
-  where
-    shift : (o : Option ℕ) → option_map (λ j. Global (suc k + j)) o ≡ option_map (λ j. Global (k + j)) (option_map (λ n. suc n) o)
-    shift None = refl
-    shift (Some j) = let e : suc k + j ≡ k + suc j = omega arith in ap (λ n. Some (Global n)) e
-
-    go : (b : Bool) → place_in (names_of vs) (globals_from (suc k) vs) x ≡ option_map (λ j. Global (suc k + j)) (index_in vs x) → (if b then Some (Global k) else place_in (names_of vs) (globals_from (suc k) vs) x) ≡ option_map (λ j. Global (k + j)) (if b then Some 0 else option_map (λ n. suc n) (index_in vs x))
-    go true e = let f : k ≡ k + 0 = omega arith in ap (λ n. Some (Global n)) f
-    go false e = e ∙ shift (index_in vs x)
-
 pub global_spot : (vs : List Var) (x : Text) (q : Spot) → place_in (names_of vs) (globals_from 0 vs) x ≡ Some q → (i : ℕ) × (index_in vs x ≡ Some i) × (q ≡ Global i)
-global_spot vs x q h = go (index_in vs x) (sym (global_spot_from vs 0 x) ∙ h)
+global_spot vs x q h = go (index_in vs x) (sym (place_in-globals vs 0 x) ∙ h)
   where
     go : (o : Option ℕ) → option_map (λ j. Global (0 + j)) o ≡ Some q → (i : ℕ) × (o ≡ Some i) × (q ≡ Global i)
     go None e = absurd (none-some q e)

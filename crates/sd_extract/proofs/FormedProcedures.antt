@@ -46,11 +46,12 @@ use Rattle.sd_extract.proofs.FormedChecks.{IsChecked, AreChecked, EachChecked, E
 use Rattle.sd_extract.proofs.FormedSpots.{Holds, holds_left, holds_right, spots_hold, spots_typed, slots_targets}
 use Rattle.sd_extract.proofs.FormedPlaces.{sorts_as, laid_append, laid_vars, laid_found, laid_none, LocalsAt, Matches, sees}
 use Rattle.sd_extract.proofs.FormedDeclarations.{IsTyped, is_scope, RoutineFine, proc_is_fine, routine_fine}
-use Rattle.sd_extract.proofs.FormedModifies.{numbers_match, numbers_below, numbers_once, modified_once, copied_numbers, by_index}
+use Rattle.sd_extract.proofs.FormedModifies.{numbers_match, numbers_below, numbers_once, modified_once, copied_numbers}
 use Rattle.sd_extract.proofs.FormedNumbers.{EachFrom, each_append, LoopIs, loops_length, all_loops_length, each_loops_give, row_loops}
 use Rattle.sd_extract.proofs.FormedFrames.{sorts_length, source_at, body_stands, loops_stand, entry_laid, now_laid, frame_fits}
 use Rattle.sd_extract.proofs.FormedLocals.{holds_all, at_slot, body_slots, loop_ins, loop_outs, loop_slots, sorts_join, hidden_fit, root_names, copied-sorts}
 use Rattle.sd_extract.proofs.FormedStatements.{formed_append, put_formed, checks_formed, assumes_formed, if_formed, Fits, LoopHas, LoopsAt, AllLoopsAt, EachLoopsAt, left_sort_if, arg_sorts, each_arg_sorts, each_left_sorts, HiddenAt, loop_formed, with_left, args_counted, each_formed}
+use Rattle.sd_extract.proofs.CodeNames.{by_index}
 use Rattle.sd_extract.proofs.CodeCounts.{returns_row}
 
 truths_all : (C : Context) (invs : List Invariant) → AllTruths C invs → AllByRecursion (λ c. HasType C c.holds.kind BoolSort) (clauses_of invs)

@@ -36,11 +36,7 @@ OnceEach (e ∷ es) = (named es e.0 ≡ None) × OnceEach es
 
 named_among : {X : Type 0} (es : List (Text × X)) (x : Text) → is_some (named es x) ≡ is_among (keys es) x
 named_among [] x = refl
-named_among (e ∷ es) x = go (same_text x e.0) (named_among es x)
-  where
-    go : (b : Bool) → is_some (named es x) ≡ is_among (keys es) x → is_some (cond b (Some e.1) (named es x)) ≡ (b || is_among (keys es) x)
-    go true h = refl
-    go false h = h
+named_among (e ∷ es) x = elim (same_text x e.0) as (λ b. is_some (cond b (Some e.1) (named es x)) ≡ (b || is_among (keys es) x)) [ true ↦ refl | false ↦ named_among es x ]
 
 entry_new : {X : Type 0} (es : List (Text × X)) (x : Text) (v : X) (all : List (Text × X)) → with_entry es x v ≡ Ok all → (is_some (named es x) ≡ false) × (es ++ ((x, v) ∷ []) ≡ all)
 entry_new es x v all = go (is_some (named es x)) refl

@@ -3,6 +3,7 @@ use Rattle.std.proofs.Common.{◌≡◌, Bool, true, false, ℕ, zero, suc, ◌+
 use Rattle.std.specs.Prelude.{slice_get, if◌then◌else◌}
 use Rattle.std.specs.Cmp.Lexicographic.{bytes_decides}
 use Rattle.std.proofs.lemmas.Option.{none-some, same_Some}
+use Rattle.std.proofs.lemmas.Bool.{false_from_ne_true}
 use Rattle.sd_base.specs.Value.{Text, same_text}
 use Rattle.sd_ast.specs.declared.Decl.{Decl}
 use Rattle.sd_ast.specs.declared.Decl.TheVariants.{Procedure}
@@ -77,11 +78,10 @@ IsRootOf P n ds i p =
 
 -- a name that stands once isn't found again
 not_again : (ds : List Decl) (f : Text) → named (procedure_entries ds) f ≡ None → procedure_in ds f ≡ None
-not_again ds f h = go (procedure_in ds f) refl
-  where
-    go : (o : Option Proc) → procedure_in ds f ≡ o → procedure_in ds f ≡ None
-    go None e = e
-    go (Some p) e = absurd (none-some (callee_of p) (sym h ∙ procedure_named ds f p e))
+not_again ds f h = elim (procedure_in ds f) as (λ o. procedure_in ds f ≡ o → o ≡ None) [
+  | None ↦ λ e. refl
+  | Some p ↦ λ e. absurd (none-some (callee_of p) (sym h ∙ procedure_named ds f p e))
+] refl
 
 module _ (P : Program) (w : WellTyped P) where
   -- among the core procedures of one procedure
@@ -100,27 +100,18 @@ module _ (P : Program) (w : WellTyped P) where
     next = n + size_of (routine_named P q.head.name)
 
     is_first : (p.name ≡ q.head.name) × (i ≡ 0) × ((r : Routine) × (routine_named P q.head.name ≡ Some r)) → IsRootOf P n (Procedure q ∷ ds) i p
-    is_first h = go (same_text p.name q.head.name) refl
-      where
-        go : (b : Bool) → same_text p.name q.head.name ≡ b → IsRootOf P n (Procedure q ∷ ds) i p
-        go true t =
-            let z = h.1 in
-            let here : n + i ≡ n = omega (arith, z) in
-            (q, ap (λ (c : Bool). if c then Some q else procedure_in ds p.name) t, (h.2.0, ap (routine_named P) h.0 ∙ h.2.1), here ∙ sym (ap (λ (c : Bool). if c then n else number_from P next ds p.name) t))
-        go false t = absurd (let s = (bytes_decides p.name q.head.name).1 h.0 in cc)
+    is_first h =
+        let t : same_text p.name q.head.name ≡ true = (bytes_decides p.name q.head.name).1 h.0 in
+        let z = h.1 in
+        let here : n + i ≡ n = omega (arith, z) in
+        (q, ap (λ (c : Bool). if c then Some q else procedure_in ds p.name) t, (h.2.0, ap (routine_named P) h.0 ∙ h.2.1), here ∙ sym (ap (λ (c : Bool). if c then n else number_from P next ds p.name) t))
 
     is_later : procedure_in ds q.head.name ≡ None → (k : ℕ) → i ≡ length (routine_procs P n (routine_named P q.head.name)) + k → IsRootOf P next ds k p → IsRootOf P n (Procedure q ∷ ds) i p
-    is_later once k long h = go (same_text p.name q.head.name) refl
-      where
-        go : (b : Bool) → same_text p.name q.head.name ≡ b → IsRootOf P n (Procedure q ∷ ds) i p
-        go true t =
-            let again = ap (procedure_in ds) ((bytes_decides p.name q.head.name).0 t) in
-            let declared = h.1 in
-            absurd (cc)
-        go false t =
-            let size = routine_length P n (routine_named P q.head.name) in
-            let before : n + i ≡ next + k = omega (arith, long, size) in
-            (h.0, ap (λ (c : Bool). if c then Some q else procedure_in ds p.name) t ∙ h.1, h.2, before ∙ h.3 ∙ sym (ap (λ (c : Bool). if c then n else number_from P next ds p.name) t))
+    is_later once k long h =
+        let t = false_from_ne_true (same_text p.name q.head.name) (λ t. let again = ap (procedure_in ds) ((bytes_decides p.name q.head.name).0 t) in let declared = h.1 in cc) in
+        let size = routine_length P n (routine_named P q.head.name) in
+        let before : n + i ≡ next + k = omega (arith, long, size) in
+        (h.0, ap (λ (c : Bool). if c then Some q else procedure_in ds p.name) t ∙ h.1, h.2, before ∙ h.3 ∙ sym (ap (λ (c : Bool). if c then n else number_from P next ds p.name) t))
 
   roots : (ds : List Decl) (n i : ℕ) (p : CoreProc) → OnceEach (procedure_entries ds) → slice_get (procs_from P n ds) i ≡ Some p → p.parent ≡ None → IsRootOf P n ds i p
   roots [] n i p once g root = absurd (none-some p g)

@@ -61,17 +61,10 @@ module _ (I : Interpretation) (calls : Calls) where
 
   -- a check, and what comes after it
   pub run-checked : (free : Bool) (c : CoreExpr) (rest : List CoreStmt) (st : Store Value) → run_all I calls (checked free c ∷ rest) st ≡ (if truth_of (value_in I st c) then run_all I calls rest st else (if free then Blocks else Stops st true))
-  run-checked true c rest st = go (truth_of (value_in I st c))
-    where
-      go : (b : Bool) → then_run (if b then Goes st else Blocks) (run_all I calls rest) ≡ (if b then run_all I calls rest st else Blocks)
-      go true = refl
-      go false = refl
+  run-checked true c rest st = elim (truth_of (value_in I st c)) as (λ b. then_run (if b then Goes st else Blocks) (run_all I calls rest) ≡ (if b then run_all I calls rest st else Blocks)) [ true ↦ refl | false ↦ refl ]
   run-checked false c rest st =
-      ap (λ a. then_run a (run_all I calls rest)) (run-If (negated c) (core.Fail ∷ []) [] st ∙ ap (λ v. if truth_of v then Stops st true else Goes st) (value-negated I st c)) ∙ go (truth_of (value_in I st c))
-    where
-      go : (b : Bool) → then_run (if not b then Stops st true else Goes st) (run_all I calls rest) ≡ (if b then run_all I calls rest st else Stops st true)
-      go true = refl
-      go false = refl
+      ap (λ a. then_run a (run_all I calls rest)) (run-If (negated c) (core.Fail ∷ []) [] st ∙ ap (λ v. if truth_of v then Stops st true else Goes st) (value-negated I st c))
+      ∙ elim (truth_of (value_in I st c)) as (λ b. then_run (if not b then Stops st true else Goes st) (run_all I calls rest) ≡ (if b then run_all I calls rest st else Stops st true)) [ true ↦ refl | false ↦ refl ]
 
 -- after the clauses of a contract or a loop
 abbrev pub after_verdict : Verdict → Store Value → Step → Step
