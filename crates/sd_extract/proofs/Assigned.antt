@@ -20,7 +20,7 @@ use Rattle.sd_types.specs.Declarations.{variables_as, parameters, body_variables
 use Rattle.sd_meaning.specs.Routine.{Routine as SourceRoutine}
 use Rattle.sd_meaning.specs.Inputs.{globals_in}
 use Rattle.sd_extract.specs.Extract.{Source, state_of, index_in}
-use Rattle.sd_extract.specs.Law.{Among, IsLocal, IsModified, MayAssign}
+use Rattle.sd_extract.specs.Laws.{Among, IsLocal, IsModified, MayAssign}
 use Rattle.sd_extract.proofs.FormedLookups.{global_found, is_outer}
 use Rattle.sd_extract.proofs.FormedPlaces.{IsScope, outer_named}
 use Rattle.sd_extract.proofs.FormedModifies.{unnumbered, modifies_there}

@@ -19,7 +19,7 @@ use Rattle.sd_core.specs.Store.{Store, read, write, write_all}
 use Rattle.sd_core.specs.Run.{nothing, value_in, End, Unfinished as CoreUnfinished, Step, Calls, receive, run_all, slots_from}
 use Rattle.sd_extract.specs.Names.{Names}
 use Rattle.sd_extract.specs.Extract.{Counts, Frame, Source, check, spot_of, cores, on_args, call_of, extracted}
-pub use Rattle.sd_extract.specs.Law.{NotIn, Keeps, SameEnds, Setting}
+pub use Rattle.sd_extract.specs.Laws.{NotIn, Keeps, SameEnds, Setting}
 use Rattle.sd_extract.proofs.Expressions.{at_all, Kept}
 use Rattle.sd_extract.proofs.Writes.{Apart, Distinct, HasShape, IsSpot, IsLaidOut, read-write_same, read-write_other, write_shape, at_all-write}
 use Rattle.sd_extract.proofs.Statements.{run-one, run-put, run-clauses, after_verdict, cores_values}

@@ -18,7 +18,7 @@ use Rattle.sd_core.specs.Run.{flag_run}
 use Rattle.sd_core.specs.Formed.{sorts_of}
 use Rattle.sd_core.specs.Meanings.{HaveSorts}
 use Rattle.sd_core.specs.Failure.{IsInputOf, AreEqualInputs, NewFailureOf}
-use Rattle.sd_extract.specs.Law.{Exact}
+use Rattle.sd_extract.specs.Laws.{Exact}
 use Rattle.sd_extract.specs.Programs.{core_program}
 use Rattle.sd_extract.specs.Laws.{number_of, RunsAreKept, ProceduresAreKept, AxiomsAreKept, ExtractedIsFormed, FailuresAreKept}
 use Rattle.sd_extract.proofs.FailureMeanings.{have_sorts, has_sorts, core_meaning, decls_true, uniques_distinct}

@@ -11,7 +11,7 @@ use Rattle.sd_core.specs.declared.CoreStmt.{CoreStmt}
 use Rattle.sd_core.specs.Run.{slots_from}
 use Rattle.sd_extract.specs.Names.{Names, place_in, either_place, place_of}
 use Rattle.sd_extract.specs.Extract.{Source, state_of, names_at, frame_at, globals_from, index_in, spot_of}
-pub use Rattle.sd_extract.specs.Law.{Among, IsLocal, IsModified, MayAssign}
+pub use Rattle.sd_extract.specs.Laws.{Among, IsLocal, IsModified, MayAssign}
 use Rattle.sd_extract.proofs.Writes.{Apart, Misses, SetsAt}
 use Rattle.sd_extract.proofs.Agree.{Room, CanSet}
 use Rattle.sd_extract.proofs.CallsAgree.{NotIn, Outside, slots_length}

@@ -12,7 +12,7 @@ use Rattle.sd_types.specs.Declarations.{WellTyped}
 use Rattle.sd_core.specs.Run.{is_true, nowhere as no_store}
 use Rattle.sd_extract.specs.Extract.{Source, source_of, body_proc}
 use Rattle.sd_extract.specs.Programs.{core_axiom, no_names, axioms_in}
-use Rattle.sd_extract.specs.Law.{ExtractedRuns}
+use Rattle.sd_extract.specs.Laws.{ExtractedRuns}
 use Rattle.sd_extract.specs.Laws.{number_of, RunsAreKept, ProceduresAreKept, AxiomsAreKept}
 use Rattle.sd_extract.proofs.Expressions.{value_kept}
 use Rattle.sd_extract.proofs.Exact.{exact}

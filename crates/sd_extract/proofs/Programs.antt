@@ -16,8 +16,8 @@ use Rattle.sd_core.specs.declared.CoreProc.{CoreProc}
 use Rattle.sd_core.specs.Run.{flag_run}
 use Rattle.sd_core.specs.Formed.{sorts_of}
 use Rattle.sd_extract.specs.Extract.{counts, counts_all, Source, kinds, body_proc, has_returns, source_of, modified_names, number_from, core_procs}
-pub use Rattle.sd_extract.specs.Law.{source_named, modified_by, setting_of, ProgramFine, ExtractedRuns}
-use Rattle.sd_extract.specs.Law.{IsFine, AreFine, EachFine}
+pub use Rattle.sd_extract.specs.Laws.{source_named, modified_by, setting_of, ProgramFine, ExtractedRuns}
+use Rattle.sd_extract.specs.Laws.{IsFine, AreFine, EachFine}
 use Rattle.sd_extract.proofs.CallsAgree.{Setting, SameEnds}
 use Rattle.sd_extract.proofs.Levels.{IsWhile, Stands, LoopProcReady, loop_proc_of, turn_in, extracted_runs}
 use Rattle.sd_extract.proofs.LoopCalls.{loop_returns}

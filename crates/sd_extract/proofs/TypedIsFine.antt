@@ -16,7 +16,7 @@ use Rattle.sd_types.specs.Statements.{Routine as Rules, routine, left_names}
 use Rattle.sd_types.specs.Declarations.{modifies_of, body_variables, WellTyped}
 use Rattle.sd_types.specs.TypedBodies.{Calls, IsTypedStmt, AreTypedStmts}
 use Rattle.sd_extract.specs.Extract.{Source, source_of, number_from, body_proc}
-use Rattle.sd_extract.specs.Law.{Setting, Among, CallFine, IsFine, AreFine, EachFine, SourceFine, modified_by, setting_of, ProgramFine}
+use Rattle.sd_extract.specs.Laws.{Setting, Among, CallFine, IsFine, AreFine, EachFine, SourceFine, modified_by, setting_of, ProgramFine}
 use Rattle.sd_extract.proofs.Assigned.{among_all, all_may_assign}
 use Rattle.sd_extract.proofs.FormedChecks.{IsCallable, IsChecked, AreChecked, EachChecked, EachTyped}
 use Rattle.sd_extract.proofs.FormedDeclarations.{IsTyped, is_typed, is_scope, RoutineFine, routine_fine}

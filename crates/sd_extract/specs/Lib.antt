@@ -1,7 +1,6 @@
 pub mod Names
 pub mod Extract
 pub mod Programs
-pub mod Law
 pub mod Laws
 pub mod Propositional
 pub mod Scopes

@@ -9,7 +9,8 @@ ghost use Rattle.sd_extract.specs.Extract.{counts_each, copies_of, state_of, loo
 ghost use Rattle.sd_extract.specs.Scopes.{frame_in, spots_of};
 ghost use Rattle.sd_extract.specs.Counted.{counts_in, has_return_among};
 ghost use Rattle.sd_extract.specs.Numbered.{program_of, number_of};
-ghost use Rattle.sd_extract.specs.Sources.{source_in, start_at, turn_with, loop_with, left_out, copies_among, AreGlobals, IsLayout};
+ghost use Rattle.sd_extract.specs.Sources.{source_in, start_at, turn_with, loop_with, left_out, copies_among};
+ghost use Rattle.sd_extract.specs.Sources.{AreGlobals, IsLayout};
 
 use crate::callees::Callees;
 use crate::clause::push_invariants;

@@ -5,7 +5,8 @@ ghost use Rattle.std.specs.Option.{option_copied};
 ghost use Rattle.sd_base.specs.FirstPlaces.{place_of};
 ghost use Rattle.sd_base.specs.Value.{Text};
 ghost use Rattle.sd_meaning.specs.Routine.{procedure_in, implementation_in};
-ghost use Rattle.sd_extract.specs.Places.{item_at, procedure_of, implementation_of, is_procedure_named, is_implementation_named};
+ghost use Rattle.sd_extract.specs.Places.{item_at, procedure_of, implementation_of, is_procedure_named};
+ghost use Rattle.sd_extract.specs.Places.{is_implementation_named};
 
 use sd_ast::{Decl, Impl, Proc, Program};
 use sd_base::{FirstPlaces, Name, NoMemory};
