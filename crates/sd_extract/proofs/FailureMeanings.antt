@@ -18,12 +18,9 @@ use Rattle.sd_core.specs.Run.{is_true}
 use Rattle.sd_core.specs.Meanings.{HaveSorts, FitsTable, Fits, Differ, IsMeaningOf}
 use Rattle.sd_extract.specs.Programs.{constants_named, functions_in, axioms_in, core_axiom, core_program}
 use Rattle.sd_extract.specs.Laws.{AxiomsAreKept}
+use Rattle.sd_extract.proofs.CodeLists.{all_map}
 
 -- ---- lists
-
-into_map : {A B : Type 0} (Q : B → Type 0) (f : A → B) (xs : List A) → AllByRecursion (λ a. Q (f a)) xs → AllByRecursion Q (map f xs)
-into_map Q f [] a = tt
-into_map Q f (x ∷ xs) a = (a.0, into_map Q f xs a.1)
 
 out_of_map : {A B : Type 0} (Q : B → Type 0) (f : A → B) (xs : List A) → AllByRecursion Q (map f xs) → AllByRecursion (λ a. Q (f a)) xs
 out_of_map Q f [] a = tt
@@ -100,12 +97,12 @@ module _ (P : Program) (M : Meaning) where
     core_axioms_hold : AllByRecursion HoldsHere (axioms_in P.decls) → AllByRecursion (λ e. IsTrue (is_true (interpretation M) e)) (map core_axiom (axioms_in P.decls))
     core_axioms_hold h =
         out_of_map IsTrue (is_true (interpretation M)) (map core_axiom (axioms_in P.decls))
-        (subst (AllByRecursion IsTrue) (sym (kept P M)) (into_map IsTrue (λ e. truth_of (value (interpretation M) nowhere e.kind)) (axioms_in P.decls) h))
+        (subst (AllByRecursion IsTrue) (sym (kept P M)) (all_map HoldsHere IsTrue (λ e. truth_of (value (interpretation M) nowhere e.kind)) (λ e k. k) (axioms_in P.decls) h))
 
     axioms_hold_here : AllByRecursion (λ e. IsTrue (is_true (interpretation M) e)) (map core_axiom (axioms_in P.decls)) → AllByRecursion HoldsHere (axioms_in P.decls)
     axioms_hold_here h =
         out_of_map IsTrue (λ e. truth_of (value (interpretation M) nowhere e.kind)) (axioms_in P.decls)
-        (subst (AllByRecursion IsTrue) (kept P M) (into_map IsTrue (is_true (interpretation M)) (map core_axiom (axioms_in P.decls)) h))
+        (subst (AllByRecursion IsTrue) (kept P M) (all_map (λ e. IsTrue (is_true (interpretation M) e)) IsTrue (is_true (interpretation M)) (λ e k. k) (map core_axiom (axioms_in P.decls)) h))
 
     pub core_meaning : ((s : Sort) → HasSort s (M.start s)) → AllByRecursion (IsTrueOf P M) P.decls → AreDistinct M (uniques_in P.decls) → IsMeaningOf (core_program P) M
     core_meaning starts h u = record {

@@ -206,13 +206,10 @@ same_sorts (s ∷ ss) (v ∷ vs) h =
     λ i. sym e i ∷ f i
 
 types_same : (h : Head) (q : Callee) (u : Unit {0}) → same_types h q ≡ Ok u → (sorts_of h.ins ≡ q.ins) × (sorts_of h.outs ≡ q.outs)
-types_same h q u = go (have_sorts q.ins h.ins && have_sorts q.outs h.outs) refl
-  where
-    go : (b : Test) → (have_sorts q.ins h.ins && have_sorts q.outs h.outs) ≡ b → (if b then Ok tt else Err (Kind h.at)) ≡ Ok u → (sorts_of h.ins ≡ q.ins) × (sorts_of h.outs ≡ q.outs)
-    go true e k =
-        let t = and_parts (have_sorts q.ins h.ins) (have_sorts q.outs h.outs) e in
-        (same_sorts q.ins h.ins t.0, same_sorts q.outs h.outs t.1)
-    go false e k = absurd (cc)
+types_same h q u = elim (have_sorts q.ins h.ins && have_sorts q.outs h.outs) as (λ b. (have_sorts q.ins h.ins && have_sorts q.outs h.outs) ≡ b → (if b then Ok tt else Err (Kind h.at)) ≡ Ok u → (sorts_of h.ins ≡ q.ins) × (sorts_of h.outs ≡ q.outs)) [
+  | true ↦ λ e k. let t = and_parts (have_sorts q.ins h.ins) (have_sorts q.outs h.outs) e in (same_sorts q.ins h.ins t.0, same_sorts q.outs h.outs t.1)
+  | false ↦ λ e k. absurd (cc)
+] refl
 
 module _ (P : Program) (G : Scope) (typed : IsTyped P G) where
   pub proc_is_fine : (f : Text) (p : Proc) → procedure_in P.decls f ≡ Some p → ProcFine G p

@@ -36,7 +36,7 @@ use Rattle.sd_core.specs.declared.Function.{Function}
 use Rattle.sd_core.specs.declared.CoreProgram.{CoreProgram}
 use Rattle.sd_core.specs.Store.{Store}
 use Rattle.sd_core.specs.Run.{slots_from}
-use Rattle.sd_core.specs.Formed.{sorts_of, state_sorts, IsSort, AllHaveTypes, AreSpotsOf, AllFormed, IsLoop, IsProc}
+use Rattle.sd_core.specs.Formed.{sorts_of, state_sorts, IsSort, AllHaveTypes, AreSpotsOf, IsFormed, AllFormed, IsLoop, IsProc}
 use Rattle.sd_core.specs.Formed.{copies_of as copies_in}
 use Rattle.sd_extract.specs.Names.{core_of}
 use Rattle.sd_extract.specs.Extract.{counts, counts_all, counts_each, none, has_returns, Source, state_of, copies_of, frame_at, kinds, put, check, assume, on_args, loop_call, each_extracted, contract, leave, body_frame, body_copies, body_start, body_proc, loop_state, loop_hidden, left_of, loop_frame, loop_start, turn_of, loop_proc, loops_in, all_loops_in, each_loop_in, procs_of, hidden, ins_of, index_in, var_in, modified_names, number_from, core_procs}
@@ -50,7 +50,7 @@ use Rattle.sd_extract.proofs.FormedModifies.{numbers_match, numbers_below, numbe
 use Rattle.sd_extract.proofs.FormedNumbers.{EachFrom, each_append, LoopIs, loops_length, all_loops_length, each_loops_give, row_loops}
 use Rattle.sd_extract.proofs.FormedFrames.{sorts_length, source_at, body_stands, loops_stand, entry_laid, now_laid, frame_fits}
 use Rattle.sd_extract.proofs.FormedLocals.{holds_all, at_slot, body_slots, loop_ins, loop_outs, loop_slots, sorts_join, hidden_fit, root_names, copied-sorts}
-use Rattle.sd_extract.proofs.FormedStatements.{formed_append, put_formed, checks_formed, assumes_formed, if_formed, Fits, LoopHas, LoopsAt, AllLoopsAt, EachLoopsAt, left_sort_if, arg_sorts, each_arg_sorts, each_left_sorts, HiddenAt, loop_formed, with_left, args_counted, each_formed}
+use Rattle.sd_extract.proofs.FormedStatements.{put_formed, checks_formed, assumes_formed, if_formed, Fits, LoopHas, LoopsAt, AllLoopsAt, EachLoopsAt, left_sort_if, arg_sorts, each_arg_sorts, each_left_sorts, HiddenAt, loop_formed, with_left, args_counted, each_formed}
 use Rattle.sd_extract.proofs.CodeNames.{by_index}
 use Rattle.sd_extract.proofs.CodeCounts.{returns_row}
 
@@ -204,7 +204,7 @@ module _ (P : Program) (G : Scope) (typed : IsTyped P G) (global_sorts : AllByRe
   leave_formed : AllFormed K B (leave S)
   leave_formed =
       let h = body_holds in
-      formed_append K B (map (check (contract S)) (ensures_of r.declared.specs)) (core.Return ∷ []) (checks_formed K B (context G (parameters r.declared.head) site.Ensures) (contract S) (contract_sees BT refl h.ins_held h.state_held h.copies_held) (ensures_of r.declared.specs) fine.declared.ensures) (tt, tt)
+      all-append (IsFormed K B) (map (check (contract S)) (ensures_of r.declared.specs)) (core.Return ∷ []) (checks_formed K B (context G (parameters r.declared.head) site.Ensures) (contract S) (contract_sees BT refl h.ins_held h.state_held h.copies_held) (ensures_of r.declared.specs) fine.declared.ensures) (tt, tt)
 
   body_hidden : HiddenAt BT.slots (body_copies S + length S.copied) (body_start S) (each_arg_sorts P (kinds S)) (each_left_sorts (kinds S))
   body_hidden =
@@ -228,7 +228,7 @@ module _ (P : Program) (G : Scope) (typed : IsTyped P G) (global_sorts : AllByRe
       let stmts = each_extracted P number F (body_start S) (kinds S) in
       let copying_formed = put_formed K B F.copies (map (λ i. At (Global i)) S.modifies) copied (globals_typed K.functions BT S.modifies copied (numbers_match (globals_in P.decls) (modified_names r.declared.specs []))) (slots_targets BT B.modifies (body_copies S) S.copied copied (sorts_length S.copied) h.copies_held) in
       let stmts_formed = each_formed P number K B R F first ins state copied body_fits false (body_start S) (kinds S) fine.typed fine.checked (λ e. leave_formed) body_hidden (each_loops_give Placed Has loop_has (suc S.number) (kinds S) placed_loops) in
-      formed_append K B copying (requires ++ (stmts ++ leave S)) copying_formed (formed_append K B requires (stmts ++ leave S) (requires_at B n_ins (body_copies S) first (leave S) body_fits) (formed_append K B stmts (leave S) stmts_formed leave_formed))
+      all-append (IsFormed K B) copying (requires ++ (stmts ++ leave S)) copying_formed (all-append (IsFormed K B) requires (stmts ++ leave S) (requires_at B n_ins (body_copies S) first (leave S) body_fits) (all-append (IsFormed K B) stmts (leave S) stmts_formed leave_formed))
 
   known_ins : (g : Text) → AllByRecursion IsSort (sorts_of (ins_of (procedure_in P.decls g)))
   known_ins g = go (procedure_in P.decls g) refl
@@ -346,7 +346,7 @@ module _ (P : Program) (G : Scope) (typed : IsTyped P G) (global_sorts : AllByRe
         let stmts = each_extracted P number F (loop_start S k returns turn) turn in
         let stmts_formed = each_formed P number K L R F at_left ins state copied loop_fits true (loop_start S k returns turn) turn (row_each_typed R true body stmt_typed.2) (row_each_checked R body stmt_checked) (λ e. leave_loop returns h.left_held (returns_row body ∙ e)) loop_hides (each_loops_give Placed Has loop_has (suc k) turn (row_loops Placed (suc k) body inner)) in
         let again = loop_formed P number K L R F at_left ins state copied loop_fits k returns (left_of S returns) (loop_has k (While' guard invs shape body) placed) (with_left P number K L R F at_left ins state copied loop_fits returns at_left (omega arith) h.left_held) in
-        formed_append K L stmts (loop_call F k (left_of S returns) ∷ []) stmts_formed (again, tt)
+        all-append (IsFormed K L) stmts (loop_call F k (left_of S returns) ∷ []) stmts_formed (again, tt)
 
     loop_body_formed : AllFormed K L L.body
     loop_body_formed =
@@ -360,7 +360,7 @@ module _ (P : Program) (G : Scope) (typed : IsTyped P G) (global_sorts : AllByRe
         let checks_are = checks_formed K L R.context F.names loop_fits.sees (clauses_of invs) (truths_all R.context invs stmt_typed.1) in
         let guarded = if_formed K L (core_of F.names guard.kind) (turn_of P number S k returns turn) [] (core_typed K.functions LT R.context F.names loop_fits.sees guard.kind BoolSort stmt_typed.0) turn_formed tt in
         let step = core.If (core_of F.names guard.kind) (turn_of P number S k returns turn) [] ∷ [] in
-        formed_append K L moving (lowering ++ (checks ++ step)) moving_formed (formed_append K L lowering (checks ++ step) (put_left returns false h.left_held) (formed_append K L checks step checks_are (guarded, tt)))
+        all-append (IsFormed K L) moving (lowering ++ (checks ++ step)) moving_formed (all-append (IsFormed K L) lowering (checks ++ step) (put_left returns false h.left_held) (all-append (IsFormed K L) checks step checks_are (guarded, tt)))
 
     left_vars : (b : Bool) → AllByRecursion IsSort (sorts_of (if b then record { name = codes "left"; sort = BoolSort } ∷ [] else []))
     left_vars true = (tt, tt)

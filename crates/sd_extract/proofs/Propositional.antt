@@ -23,7 +23,8 @@ use Rattle.sd_extract.specs.Extract.{Source, source_of, var_in, copies_of, kinds
 use Rattle.sd_extract.specs.Programs.{functions_in, axioms_in, core_axiom}
 use Rattle.sd_extract.specs.Propositional.{AreTruths, IsPropositional, IsPropositionalSpec, IsPropositionalHead, IsPropositionalBody, MaybePropositionalBody, IsPropositionalDecl}
 use Rattle.sd_extract.specs.Laws.{PropositionalIsKept}
-use Rattle.sd_extract.proofs.PropositionalLemmas.{all_map, map_all, AllPropositional, IsNumberless, checks-propositional, assumes-propositional, put-propositional, each_extracted-propositional, hidden-truths, each_loops-none}
+use Rattle.sd_extract.proofs.PropositionalLemmas.{AllPropositional, IsNumberless, checks-propositional, assumes-propositional, put-propositional, each_extracted-propositional, hidden-truths, each_loops-none}
+use Rattle.sd_extract.proofs.CodeLists.{all_map, map_all}
 
 abbrev pub IsTruth : Var → Type 0
 IsTruth x = x.sort ≡ BoolSort

@@ -26,16 +26,7 @@ use Rattle.sd_meaning.specs.Routine.{Clause}
 use Rattle.sd_extract.specs.Names.{Names, at_place, place_of, unary_of, binary_of, negated, both, core_of, cores_of}
 use Rattle.sd_extract.specs.Extract.{Counts, Frame, Source, plus, counts, counts_all, put, checked, check, assume, stored, all_stored, cores, extracted, all_extracted, each_extracted, args_in, all_args_in, each_args_in, lefts_in, all_lefts_in, each_left_in, hidden, loops_in, all_loops_in, each_loop_in}
 use Rattle.sd_extract.specs.Propositional.{AreTruths, HasNoNumber, HaveNoNumber, NoneHasNumber, IsPropositional, ArePropositional}
-
--- ---- lists
-
-pub all_map : {A B : Type 0} (P : A → Type 0) (Q : B → Type 0) (f : A → B) → ((a : A) → P a → Q (f a)) → (xs : List A) → AllByRecursion P xs → AllByRecursion Q (map f xs)
-all_map P Q f h [] a = tt
-all_map P Q f h (x ∷ xs) a = (h x a.0, all_map P Q f h xs a.1)
-
-pub map_all : {A B : Type 0} (Q : B → Type 0) (f : A → B) → ((a : A) → Q (f a)) → (xs : List A) → AllByRecursion Q (map f xs)
-map_all Q f h [] = tt
-map_all Q f h (x ∷ xs) = (h x, map_all Q f h xs)
+use Rattle.sd_extract.proofs.CodeLists.{all_map}
 
 -- ---- rows of the core as lists
 
@@ -83,24 +74,17 @@ at_place-numberless None x = tt
 at_place-numberless (Some p) x = tt
 
 unary-numberless : (o : UnOp) (a : CoreExpr) → propositional.HasNoNumber a → propositional.HasNoNumber (unary_of o a)
-unary-numberless un.Not a h = negated-numberless a h
+unary-numberless un.Not a h = one op.Not a h
 unary-numberless un.Neg a h = one op.Neg a h
 
 binary-numberless : (o : BinOp) (a b : CoreExpr) → propositional.HasNoNumber a → propositional.HasNoNumber b → propositional.HasNoNumber (binary_of o a b)
-binary-numberless bin.Iff a b h k = two op.Eq a b h k
 binary-numberless bin.Implies a b h k = two op.Or (negated a) b (negated-numberless a h) k
 binary-numberless bin.Explies a b h k = two op.Or a (negated b) h (negated-numberless b k)
-binary-numberless bin.And a b h k = two op.And a b h k
-binary-numberless bin.Or a b h k = two op.Or a b h k
-binary-numberless bin.Eq a b h k = two op.Eq a b h k
 binary-numberless bin.Ne a b h k = negated-numberless (both op.Eq a b) (two op.Eq a b h k)
 binary-numberless bin.Lt a b h k = negated-numberless (both op.Le b a) (two op.Le b a k h)
-binary-numberless bin.Le a b h k = two op.Le a b h k
 binary-numberless bin.Gt a b h k = negated-numberless (both op.Le a b) (two op.Le a b h k)
 binary-numberless bin.Ge a b h k = two op.Le b a k h
-binary-numberless bin.Add a b h k = two op.Add a b h k
-binary-numberless bin.Sub a b h k = two op.Sub a b h k
-binary-numberless bin.Mul a b h k = two op.Mul a b h k
+binary-numberless _ a b h k = two op.And a b h k
 
 mutual
   pub core-numberless : (N : Names) (e : ExprKind) → HasNoNumber e → propositional.HasNoNumber (core_of N e)
