@@ -3,24 +3,13 @@ use Rattle.std.proofs.Common.{◌≡◌, Bool, true, false, cond, ◌+◌, ◌<�
 use Rattle.std.specs.Prelude.{if◌then◌else◌, Contains}
 use Rattle.std.specs.List.{AllByRecursion, slice_index_or}
 use Rattle.std.proofs.lemmas.Option.{none-some, same_Some}
-use Rattle.sd_base.specs.declared.Var.{Var}
-use Rattle.sd_base.specs.Value.{Text, same_text}
-use Rattle.sd_ast.specs.declared.Program.{Program}
-use Rattle.sd_types.specs.declared.scope.Nature.{Nature}
+use Rattle.sd_extract.proofs.SourceWords.{Var, Text, same_text, Program, Nature, Variable, Scope, is_among, and_then, named, or_global, if_named, declared_as, routine, assigned_as, assignable, variables_as, parameters, body_variables}
+use Rattle.sd_extract.proofs.SourceWords.{modifies_of, SourceRoutine, globals_in}
+use Rattle.sd_extract.proofs.CoreWords.{Source, state_of, index_in, Among}
 use Rattle.sd_types.specs.declared.scope.Nature.TheVariants as nature
-use Rattle.sd_types.specs.declared.scope.Variable.{Variable}
-use Rattle.sd_types.specs.declared.scope.Scope.{Scope}
 use Rattle.sd_types.specs.declared.scope.Site.TheVariants as site
-use Rattle.sd_types.specs.Names.{is_among}
-use Rattle.sd_types.specs.Answer.{and_then}
-use Rattle.sd_types.specs.Tables.{named}
-use Rattle.sd_types.specs.Scopes.{or_global, if_named, declared_as}
-use Rattle.sd_types.specs.Statements.{Routine, routine, assigned_as, assignable}
-use Rattle.sd_types.specs.Declarations.{variables_as, parameters, body_variables, modifies_of}
-use Rattle.sd_meaning.specs.Routine.{Routine as SourceRoutine}
-use Rattle.sd_meaning.specs.Inputs.{globals_in}
-use Rattle.sd_extract.specs.Extract.{Source, state_of, index_in}
-use Rattle.sd_extract.specs.Laws.{Among, IsLocal, IsModified, MayAssign}
+use Rattle.sd_types.specs.Statements.{Routine}
+use Rattle.sd_extract.specs.Laws.{IsLocal, IsModified, MayAssign}
 use Rattle.sd_extract.proofs.FormedLookups.{global_found, is_outer}
 use Rattle.sd_extract.proofs.FormedPlaces.{IsScope, outer_named}
 use Rattle.sd_extract.proofs.FormedModifies.{unnumbered, modifies_there}

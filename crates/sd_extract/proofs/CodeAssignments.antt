@@ -3,12 +3,9 @@ use Rattle.std.proofs.Common.{◌≡◌, ◌∙◌, sym, ap, refl, ℕ, zero, su
 use Rattle.std.proofs.lemmas.List.{append-nil}
 use Rattle.std.proofs.Math.ListN.{drop_of_length-le}
 use Rattle.sd_base.proofs.Lists.{drop-at, take-at}
-use Rattle.sd_ast.specs.declared.Expr.{Expr}
-use Rattle.sd_ast.specs.declared.Left.{Left}
-use Rattle.sd_core.specs.declared.CoreExpr.{CoreExpr, Op}
+use Rattle.sd_extract.proofs.SourceWords.{Expr, Left}
+use Rattle.sd_extract.proofs.CoreWords.{CoreExpr, Op, Names, both, core_of, stored, cores, all_stored}
 use Rattle.sd_core.specs.declared.CoreOp.TheVariants as op
-use Rattle.sd_extract.specs.Names.{Names, both, core_of}
-use Rattle.sd_extract.specs.Extract.{stored, cores, all_stored}
 use Rattle.sd_extract.specs.Scopes.{reads}
 
 none_right : (N : Names) (ls : List Left) → all_stored N ls [] ≡ []

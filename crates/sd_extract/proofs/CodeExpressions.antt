@@ -1,17 +1,12 @@
 -- Expressions as code sees them.
 use Rattle.std.proofs.Common.{◌≡◌, List, [], ◌∷◌, refl, sym, ap, ◌∙◌}
-use Rattle.sd_base.specs.Value.{Text}
-use Rattle.sd_ast.specs.declared.Expr.{Expr}
-use Rattle.sd_ast.specs.declared.UnOp.{UnOp}
-use Rattle.sd_ast.specs.declared.BinOp.{BinOp}
-use Rattle.sd_ast.specs.declared.ExprKind.{ExprKind, Apply, Old, Unary, Binary, Select, Store, Row_of-Expr, end_of-Expr, more_of-Expr, items-the_row-Expr, items_hidden-the_row-Expr-0}
+use Rattle.sd_extract.proofs.SourceWords.{Text, Expr, UnOp, BinOp, ExprKind, Row_of-Expr, end_of-Expr, more_of-Expr}
+use Rattle.sd_extract.proofs.CoreWords.{CoreExpr, Op, Names, both, unary_of, binary_of, core_of, cores_of, cores}
+use Rattle.sd_ast.specs.declared.ExprKind.{Apply, Old, Unary, Binary, Select, Store, items-the_row-Expr, items_hidden-the_row-Expr-0}
 use Rattle.sd_ast.specs.declared.ExprKind.TheBlock.{hidden-the_row-Expr-0}
 use Rattle.sd_ast.proofs.TreeLemmas.{old_is, unary_is, binary_is, select_is, store_is}
 use Rattle.sd_core.specs.declared.CoreOp.TheVariants as op
-use Rattle.sd_core.specs.declared.CoreExpr.{CoreExpr, Op}
 use Rattle.sd_core.specs.declared.CoreExpr.{Apply as Applied}
-use Rattle.sd_extract.specs.Names.{Names, both, unary_of, binary_of, core_of, cores_of}
-use Rattle.sd_extract.specs.Extract.{cores}
 
 row_cores : (N : Names) {m : _} (es : Row_of-Expr m) → cores_of N es ≡ cores N (items-the_row-Expr m es)
 row_cores N end_of-Expr = refl

@@ -4,8 +4,7 @@ use Rattle.std.specs.Prelude.{Option}
 use Rattle.std.specs.List.{AllByRecursion, filter_map}
 use Rattle.std.proofs.lemmas.List.Elements.{filter_map-append}
 use Rattle.sd_base.proofs.Lists.{drop-at}
-use Rattle.sd_ast.specs.declared.Stmt.{Stmt}
-use Rattle.sd_meaning.specs.Run.{kinds_of}
+use Rattle.sd_extract.proofs.SourceWords.{Stmt, kinds_of}
 
 pub all_map : {A B : Type 0} (P : A → Type 0) (Q : B → Type 0) (f : A → B) → ((a : A) → P a → Q (f a)) → (xs : List A) → AllByRecursion P xs → AllByRecursion Q (map f xs)
 all_map P Q f h [] a = tt

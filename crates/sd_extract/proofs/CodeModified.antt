@@ -6,11 +6,10 @@ use Rattle.std.specs.Cmp.Lexicographic.{nat_list_eq_equiv}
 use Rattle.std.proofs.lemmas.List.{append-nil}
 use Rattle.std.proofs.Math.ListN.{drop_of_length-le}
 use Rattle.std.proofs.lemmas.List.Folds.{list_any-append}
-use Rattle.sd_base.specs.Value.{Text, same_text}
+use Rattle.sd_extract.proofs.SourceWords.{Text, same_text, Spec, Modifies, Requires, Ensures}
+use Rattle.sd_extract.proofs.CoreWords.{new_names, modified_names}
 use Rattle.sd_base.proofs.Texts.{same_text-is, same_text-flip}
-use Rattle.sd_ast.specs.declared.Spec.{Spec}
-use Rattle.sd_ast.specs.declared.Spec.TheVariants.{Modifies, Requires, Ensures}
-use Rattle.sd_extract.specs.Extract.{is_among, new_names, modified_names}
+use Rattle.sd_extract.specs.Extract.{is_among}
 use Rattle.sd_extract.specs.Modified.{HasSeen, with_new, all_new, specs_new}
 
 -- ---- one name

@@ -3,16 +3,9 @@ use Rattle.std.proofs.Common.{◌≡◌, ◌∙◌, sym, ap, subst, refl, ℕ, s
 use Rattle.std.specs.Prelude.{Option, Some, None, option_map, slice_get, if◌then◌else◌}
 use Rattle.std.specs.Cmp.Lexicographic.{bytes_decides}
 use Rattle.std.proofs.lemmas.Option.{same_Some, none-some}
-use Rattle.sd_base.specs.declared.Var.{Var}
+use Rattle.sd_extract.proofs.SourceWords.{Var, Text, same_text, names_of}
+use Rattle.sd_extract.proofs.CoreWords.{Spot, Slot, Global, slots_from, globals_from, index_in, var_in, place_in, either_place, item_at}
 use Rattle.sd_base.specs.Names.{place_from}
-use Rattle.sd_base.specs.Value.{Text, same_text}
-use Rattle.sd_ast.specs.Tree.{names_of}
-use Rattle.sd_core.specs.declared.Spot.{Spot}
-use Rattle.sd_core.specs.declared.Spot.TheVariants.{Slot, Global}
-use Rattle.sd_core.specs.Run.{slots_from}
-use Rattle.sd_extract.specs.Extract.{globals_from, index_in, var_in}
-use Rattle.sd_extract.specs.Names.{place_in, either_place}
-use Rattle.sd_extract.specs.Places.{item_at}
 
 place_from-suc : (n : ℕ) (ys : List Text) (x : Text) → place_from (suc n) ys x ≡ option_map (λ k. suc k) (place_from n ys x)
 place_from-suc n [] x = refl

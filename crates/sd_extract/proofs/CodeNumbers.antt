@@ -5,14 +5,9 @@ use Rattle.std.specs.Cmp.Lexicographic.{nat_list_eq_equiv}
 use Rattle.std.proofs.lemmas.Slice.Eq.{slice_eq-Decides}
 use Rattle.std.proofs.lemmas.Bool.Decides.{Decides-eqb}
 use Rattle.std.proofs.Math.ListN.{drop_of_length-le}
-use Rattle.sd_base.specs.Value.{Text, same_text}
+use Rattle.sd_extract.proofs.SourceWords.{Text, same_text, Decl, Procedure, Proc, Program, routine_named}
+use Rattle.sd_extract.proofs.CoreWords.{number_from, size_of}
 use Rattle.sd_base.proofs.Texts.{same_text-is, same_text-flip}
-use Rattle.sd_ast.specs.declared.Decl.{Decl}
-use Rattle.sd_ast.specs.declared.Decl.TheVariants.{Procedure}
-use Rattle.sd_ast.specs.declared.Proc.{Proc}
-use Rattle.sd_ast.specs.declared.Program.{Program}
-use Rattle.sd_meaning.specs.Routine.{routine_named}
-use Rattle.sd_extract.specs.Extract.{number_from, size_of}
 use Rattle.sd_base.proofs.Lists.{drop-at}
 
 pub put_found : (g : Text → Option ℕ) (name f : Text) (number v : ℕ) → g name ≡ Some v → g f ≡ (if same_text f name then Some (unwrap_or (g f) number) else g f)

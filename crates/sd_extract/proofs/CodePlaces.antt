@@ -3,11 +3,9 @@ use Rattle.std.proofs.Common.{◌≡◌, ◌∙◌, sym, ap, refl, ℕ, zero, su
 use Rattle.std.specs.Prelude.{Option, Some, None, slice_get, if◌then◌else◌}
 use Rattle.std.specs.List.{position_from}
 use Rattle.sd_base.proofs.Lists.{drop-at}
-use Rattle.sd_base.specs.Value.{Text, same_text}
-use Rattle.sd_ast.specs.declared.Decl.{Decl}
-use Rattle.sd_ast.specs.declared.Decl.TheVariants.{Procedure, Implementation}
-use Rattle.sd_meaning.specs.Routine.{procedure_in, implementation_in}
-use Rattle.sd_extract.specs.Places.{item_at, procedure_of, implementation_of, is_procedure_named, is_implementation_named}
+use Rattle.sd_extract.proofs.SourceWords.{Text, same_text, Decl, Procedure, Implementation, procedure_in, implementation_in}
+use Rattle.sd_extract.proofs.CoreWords.{item_at}
+use Rattle.sd_extract.specs.Places.{procedure_of, implementation_of, is_procedure_named, is_implementation_named}
 
 -- one thing more at the front
 pub position_more : {A : Type 0} (test : A → Bool) (xs : List A) (place next : ℕ) (x : A) (was now : Option ℕ) → next ≡ place + 1 → place < length xs → x ≡ get_or xs place x → was ≡ position_from test next (drop next xs) → now ≡ (if test x then Some place else was) → now ≡ position_from test place (drop place xs)

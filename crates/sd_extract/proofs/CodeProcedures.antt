@@ -1,11 +1,7 @@
 -- Procedures as code sees them.
 use Rattle.std.proofs.Common.{◌≡◌, ◌∙◌, ap, ℕ, suc, ◌+◌, List, [], ◌∷◌, ◌++◌, append_assoc, arith}
-use Rattle.sd_base.specs.Value.{Text}
-use Rattle.sd_ast.specs.declared.Program.{Program}
-use Rattle.sd_ast.specs.declared.Stmt.{Stmt}
-use Rattle.sd_meaning.specs.Run.{kinds_of}
-use Rattle.sd_core.specs.declared.CoreProc.{CoreProc}
-use Rattle.sd_extract.specs.Extract.{Source, body_proc, each_loop_in, procs_of}
+use Rattle.sd_extract.proofs.SourceWords.{Text, Program, Stmt, kinds_of}
+use Rattle.sd_extract.proofs.CoreWords.{CoreProc, Source, body_proc, each_loop_in, procs_of}
 
 pub procs_made : (P : Program) (number : Text → ℕ) (S : Source) (p : CoreProc) (first : ℕ) (stmts : List Stmt) (o o' o'' : List CoreProc) → p ≡ body_proc P number S → o' ≡ o ++ p ∷ [] → first ≡ 1 + S.number → stmts ≡ S.routine.body.stmts
     → o'' ≡ o' ++ each_loop_in P number S first (kinds_of stmts) → o'' ≡ o ++ procs_of P number S

@@ -5,20 +5,15 @@ use Rattle.std.specs.List.{AllByRecursion, Contains, IsDistinct, slice_index_or}
 use Rattle.std.specs.Cmp.Lexicographic.{bytes_decides}
 use Rattle.std.proofs.lemmas.Option.{same_Some}
 use Rattle.std.proofs.lemmas.Bool.{and_parts}
-use Rattle.sd_base.specs.declared.Sort.{Sort}
-use Rattle.sd_base.specs.declared.Var.{Var}
-use Rattle.sd_base.specs.Value.{Text, same_text, Value}
+use Rattle.sd_extract.proofs.SourceWords.{Sort, Var, Text, same_text, Value, names_of, Store, value_of}
+use Rattle.sd_extract.proofs.CoreWords.{nothing, sorts_of, HaveSorts}
 use Rattle.sd_base.proofs.Lists.{all-append, all-front, all-back}
 use Rattle.sd_base.proofs.Texts.{same_text-other_way}
 use Rattle.sd_base.proofs.SortLemmas.{same_sort-is, same_sort-refl}
-use Rattle.sd_ast.specs.Tree.{names_of}
-use Rattle.sd_meaning.specs.Evaluate.{Store, value_of}
 use Rattle.sd_meaning.specs.Run.{named}
 use Rattle.sd_meaning.specs.Inputs.{IsStoreOf}
 use Rattle.sd_core.specs.declared.Shared.{Shared}
-use Rattle.sd_core.specs.Run.{nothing}
-use Rattle.sd_core.specs.Formed.{sorts_of, same_sort}
-use Rattle.sd_core.specs.Meanings.{HaveSorts}
+use Rattle.sd_core.specs.Formed.{same_sort}
 use Rattle.sd_core.specs.Failure.{place_from, shared_at, shared_from, shared_of}
 use Rattle.sd_extract.proofs.Searches.{first_or_later}
 

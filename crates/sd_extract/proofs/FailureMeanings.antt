@@ -2,22 +2,13 @@
 use Rattle.std.proofs.Common.{List, [], ◌∷◌, map, refl, sym, subst}
 use Rattle.std.specs.Prelude.{IsTrue}
 use Rattle.std.specs.List.{AllByRecursion}
-use Rattle.sd_base.specs.declared.Sort.{Sort}
-use Rattle.sd_base.specs.declared.Var.{Var}
-use Rattle.sd_base.specs.Value.{Text, Value}
+use Rattle.sd_extract.proofs.SourceWords.{Sort, Var, Text, Value, Meaning, interpretation, truth_of, Decl, Const, Function, Axiom, Expr, Program, value, HasSorts, nowhere, uniques_in}
+use Rattle.sd_extract.proofs.CoreWords.{is_true, HaveSorts, constants_named, functions_in, axioms_in, core_axiom, core_program, AxiomsAreKept}
 use Rattle.sd_base.specs.Sorts.{HasSort}
-use Rattle.sd_base.specs.Meaning.{Meaning, Table, interpretation, truth_of}
+use Rattle.sd_base.specs.Meaning.{Table}
 use Rattle.sd_base.proofs.Lists.{all-append, all-front, all-back, all-weaker}
-use Rattle.sd_ast.specs.declared.Decl.{Decl}
-use Rattle.sd_ast.specs.declared.Decl.TheVariants.{Const, Function, Axiom}
-use Rattle.sd_ast.specs.declared.Expr.{Expr}
-use Rattle.sd_ast.specs.declared.Program.{Program}
-use Rattle.sd_meaning.specs.Evaluate.{value}
-use Rattle.sd_meaning.specs.Inputs.{HasSorts, HasSignature, nowhere, IsTrueOf, uniques_in, AreDistinct}
-use Rattle.sd_core.specs.Run.{is_true}
-use Rattle.sd_core.specs.Meanings.{HaveSorts, FitsTable, Fits, Differ, IsMeaningOf}
-use Rattle.sd_extract.specs.Programs.{constants_named, functions_in, axioms_in, core_axiom, core_program}
-use Rattle.sd_extract.specs.Laws.{AxiomsAreKept}
+use Rattle.sd_meaning.specs.Inputs.{HasSignature, IsTrueOf, AreDistinct}
+use Rattle.sd_core.specs.Meanings.{FitsTable, Fits, Differ, IsMeaningOf}
 use Rattle.sd_extract.proofs.CodeLists.{all_map}
 
 -- ---- lists

@@ -2,15 +2,8 @@
 use Rattle.std.proofs.Common.{◌≡◌, ℕ, suc, ◌+◌, ◌≤◌, ◌<◌, List, [], ◌∷◌, ◌++◌, Option, Some, None, refl, sym, ◌∙◌, ap, subst, length, ⊎_elim, arith}
 use Rattle.std.specs.Prelude.{Bool, true, false, ◌⊎◌, option_map, unwrap_or, if◌then◌else◌}
 use Rattle.std.proofs.lemmas.List.{length-map}
-use Rattle.sd_base.specs.declared.Var.{Var}
-use Rattle.sd_base.specs.Value.{Text, same_text}
-use Rattle.sd_ast.specs.Tree.{names_of}
-use Rattle.sd_core.specs.declared.Spot.{Spot}
-use Rattle.sd_core.specs.declared.Spot.TheVariants.{Slot, Global}
-use Rattle.sd_core.specs.declared.CoreStmt.{CoreStmt}
-use Rattle.sd_core.specs.Run.{slots_from}
-use Rattle.sd_extract.specs.Names.{Names, place_in, either_place, place_of}
-use Rattle.sd_extract.specs.Extract.{Source, state_of, names_at, frame_at, globals_from, index_in, spot_of}
+use Rattle.sd_extract.proofs.SourceWords.{Var, Text, same_text, names_of}
+use Rattle.sd_extract.proofs.CoreWords.{Spot, Slot, Global, CoreStmt, slots_from, Names, place_in, either_place, place_of, Source, state_of, names_at, frame_at, globals_from, index_in, spot_of}
 pub use Rattle.sd_extract.specs.Laws.{Among, IsLocal, IsModified, MayAssign}
 use Rattle.sd_extract.proofs.Writes.{Apart, Misses, SetsAt}
 use Rattle.sd_extract.proofs.Agree.{Room, CanSet}

@@ -1,31 +1,16 @@
 -- Expressions keep their types.
 use Rattle.std.proofs.Common.{◌≡◌, List, [], ◌∷◌, Some, refl, sym, ◌∙◌, ap, subst}
 use Rattle.std.specs.Prelude.{true, false}
-use Rattle.sd_base.specs.declared.Sort.{Sort, Bool as BoolSort}
-use Rattle.sd_base.specs.Value.{Text}
-use Rattle.sd_base.specs.Sorts.{MapOf}
-use Rattle.sd_ast.specs.declared.BinOp.{BinOp}
+use Rattle.sd_extract.proofs.SourceWords.{Sort, BoolSort, Text, MapOf, BinOp, UnOp, Expr, ExprKind, Apply', Row_of-Expr, end_of-Expr, more_of-Expr, OldOf, UnaryOf, BinaryOf, SelectOf, StoreOf, Variable, Signature, Context, HasType, AllHave}
+use Rattle.sd_extract.proofs.CoreWords.{CoreOp, CoreExpr, Apply, Op, Row_of-CoreExpr, end_of-CoreExpr, more_of-CoreExpr, items-the_row-CoreExpr, items_hidden-the_row-CoreExpr-0, hidden-the_row-CoreExpr-0, Function, Store, IsIndexSort}
+use Rattle.sd_extract.proofs.CoreWords.{IsSort, declared_as, AllHaveTypes, HasCoreType, Names, place_of, at_place, negated, both, unary_of, binary_of, core_of, cores_of, cores}
 use Rattle.sd_ast.specs.declared.BinOp.TheVariants as bin
-use Rattle.sd_ast.specs.declared.UnOp.{UnOp}
 use Rattle.sd_ast.specs.declared.UnOp.TheVariants as un
-use Rattle.sd_ast.specs.declared.Expr.{Expr}
-use Rattle.sd_ast.specs.declared.ExprKind.{ExprKind, Var, Apply', Row_of-Expr, end_of-Expr, more_of-Expr}
-use Rattle.sd_ast.specs.Tree.{OldOf, UnaryOf, BinaryOf, SelectOf, StoreOf}
-use Rattle.sd_types.specs.declared.scope.Variable.{Variable}
-use Rattle.sd_types.specs.declared.scope.Signature.{Signature}
-use Rattle.sd_types.specs.Scopes.{Context}
-use Rattle.sd_types.specs.Typing.{HasType, HaveTypes, TakesOne, TakesTwo}
-use Rattle.sd_types.specs.TypedBodies.{AllHave}
-use Rattle.sd_core.specs.declared.CoreOp.{CoreOp}
+use Rattle.sd_ast.specs.declared.ExprKind.{Var}
+use Rattle.sd_types.specs.Typing.{HaveTypes, TakesOne, TakesTwo}
 use Rattle.sd_core.specs.declared.CoreOp.TheVariants as op
-use Rattle.sd_core.specs.declared.CoreExpr.{CoreExpr, Apply, Op, Row_of-CoreExpr, end_of-CoreExpr, more_of-CoreExpr, items-the_row-CoreExpr, items_hidden-the_row-CoreExpr-0}
-use Rattle.sd_core.specs.declared.CoreExpr.TheBlock.{hidden-the_row-CoreExpr-0}
-use Rattle.sd_core.specs.declared.Function.{Function}
-use Rattle.sd_core.specs.Store.{Store}
-use Rattle.sd_core.specs.Formed.{IsIndexSort, IsSort, declared_as, Takes, AllHaveTypes}
-use Rattle.sd_core.specs.Formed.{HasType as HasCoreType, HaveTypes as HaveCoreTypes}
-use Rattle.sd_extract.specs.Names.{Names, place_of, at_place, negated, both, unary_of, binary_of, core_of, cores_of}
-use Rattle.sd_extract.specs.Extract.{cores}
+use Rattle.sd_core.specs.Formed.{Takes}
+use Rattle.sd_core.specs.Formed.{HaveTypes as HaveCoreTypes}
 
 -- ---- operators of the core
 

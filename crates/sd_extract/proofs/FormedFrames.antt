@@ -6,42 +6,14 @@ use Rattle.std.proofs.Common.{append_assoc, length-append}
 use Rattle.sd_base.proofs.Lists.{slice_get-between, all-append, all-weaker}
 use Rattle.std.proofs.lemmas.List.{length-map}
 use Rattle.std.proofs.lemmas.Option.{same_Some, none-some}
-use Rattle.sd_base.specs.declared.Sort.{Sort}
-use Rattle.sd_base.specs.declared.Var.{Var}
-use Rattle.sd_base.specs.Value.{Text, same_text}
-use Rattle.sd_ast.specs.Tree.{names_of}
-use Rattle.sd_ast.specs.declared.Program.{Program}
-use Rattle.sd_ast.specs.declared.Proc.{Proc}
-use Rattle.sd_ast.specs.declared.Impl.{Impl}
-use Rattle.sd_ast.specs.declared.Spec.{Spec}
-use Rattle.sd_ast.specs.declared.Body.{Body}
-use Rattle.sd_meaning.specs.Routine.{procedure_in, implementation_in, with_body, routine_named}
-use Rattle.sd_meaning.specs.Routine.{Routine as SourceRoutine}
-use Rattle.sd_meaning.specs.Inputs.{globals_in}
-use Rattle.sd_types.specs.declared.refusal.TypeError.{TypeError}
+use Rattle.sd_extract.proofs.SourceWords.{Sort, Var, Text, same_text, names_of, Program, Proc, Impl, Spec, Body, procedure_in, implementation_in, with_body, routine_named, SourceRoutine, globals_in, TypeError, Variable, Callee, Nature}
+use Rattle.sd_extract.proofs.SourceWords.{Scope, is_among, named, or_global, routine, assigned_as, modified_rule, has_body, variables_as, parameters, modifies_of, callee_of, body_variables}
+use Rattle.sd_extract.proofs.CoreWords.{Spot, Slot, Global, CoreStmt, CoreProc, CoreProgram, Store, set_all, slots_from, sorts_of, state_sorts, sort_at, IsSort, AreApart, Within, Names, place_in, either_place, place_of, Source, state_of}
+use Rattle.sd_extract.proofs.CoreWords.{globals_from, names_at, frame_at, on_args, index_in, modified_names, source_of, number_from, core_procs, body_proc, each_loop_in, kinds, core_program}
 use Rattle.sd_types.specs.declared.refusal.TypeError.TheVariants.{NoBody, NotModified}
-use Rattle.sd_types.specs.declared.scope.Variable.{Variable}
-use Rattle.sd_types.specs.declared.scope.Callee.{Callee}
-use Rattle.sd_types.specs.declared.scope.Nature.{Nature}
 use Rattle.sd_types.specs.declared.scope.Nature.TheVariants as nature
-use Rattle.sd_types.specs.declared.scope.Scope.{Scope}
 use Rattle.sd_types.specs.declared.scope.Site.TheVariants as site
-use Rattle.sd_types.specs.Names.{is_among}
-use Rattle.sd_types.specs.Tables.{named}
-use Rattle.sd_types.specs.Scopes.{or_global}
-use Rattle.sd_types.specs.Statements.{Routine, routine, assigned_as, is_global, modified_rule, has_body}
-use Rattle.sd_types.specs.Declarations.{variables_as, parameters, modifies_of, callee_of, body_variables}
-use Rattle.sd_core.specs.declared.Spot.{Spot}
-use Rattle.sd_core.specs.declared.Spot.TheVariants.{Slot, Global}
-use Rattle.sd_core.specs.declared.CoreStmt.{CoreStmt}
-use Rattle.sd_core.specs.declared.CoreProc.{CoreProc}
-use Rattle.sd_core.specs.declared.CoreProgram.{CoreProgram}
-use Rattle.sd_core.specs.Store.{Store, set_all}
-use Rattle.sd_core.specs.Run.{slots_from}
-use Rattle.sd_core.specs.Formed.{sorts_of, state_sorts, sort_at, IsSort, AreApart, Within}
-use Rattle.sd_extract.specs.Names.{Names, place_in, either_place, place_of}
-use Rattle.sd_extract.specs.Extract.{Source, state_of, globals_from, names_at, frame_at, on_args, index_in, modified_names, source_of, number_from, core_procs, body_proc, each_loop_in, kinds}
-use Rattle.sd_extract.specs.Programs.{core_program}
+use Rattle.sd_types.specs.Statements.{Routine, is_global}
 use Rattle.sd_extract.proofs.FormedTables.{global_entries, procedure_entries, body_names}
 use Rattle.sd_extract.proofs.FormedChecks.{distinct_new}
 use Rattle.sd_extract.proofs.FormedLookups.{globals_as, global_found, no_global, constant_no_global, is_outer, procedure_found, HasBody, has_a_body}

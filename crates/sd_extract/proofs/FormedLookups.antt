@@ -4,27 +4,10 @@ use Rattle.std.specs.Prelude.{Bool, true, false, cond, ◌||◌, ◌⊎◌, if�
 use Rattle.std.specs.List.{AllByRecursion}
 use Rattle.std.specs.Cmp.Lexicographic.{bytes_decides}
 use Rattle.std.proofs.lemmas.Option.{same_Some, none-some}
-use Rattle.sd_base.specs.declared.Sort.{Sort}
-use Rattle.sd_base.specs.declared.Var.{Var}
-use Rattle.sd_base.specs.Value.{Text, same_text}
-use Rattle.sd_ast.specs.declared.Decl.{Decl}
-use Rattle.sd_ast.specs.declared.Decl.TheVariants.{Const, Function, Globals, Procedure, Implementation}
-use Rattle.sd_ast.specs.declared.Proc.{Proc}
-use Rattle.sd_ast.specs.declared.Impl.{Impl}
-use Rattle.sd_ast.specs.declared.Body.{Body}
-use Rattle.sd_meaning.specs.Routine.{procedure_in, implementation_in}
-use Rattle.sd_meaning.specs.Inputs.{globals_in}
-use Rattle.sd_types.specs.declared.scope.Variable.{Variable}
-use Rattle.sd_types.specs.declared.scope.Signature.{Signature}
-use Rattle.sd_types.specs.declared.scope.Callee.{Callee}
-use Rattle.sd_types.specs.declared.scope.Nature.{Nature}
+use Rattle.sd_extract.proofs.SourceWords.{Sort, Var, Text, same_text, Decl, Const, Function, Globals, Procedure, Implementation, Proc, Impl, Body, procedure_in, implementation_in, globals_in, Variable, Signature, Callee, Nature, is_among}
+use Rattle.sd_extract.proofs.SourceWords.{named, variables_as, constants_of, callee_of}
+use Rattle.sd_extract.proofs.CoreWords.{CoreFunction, declared_as, constants_named, functions_in}
 use Rattle.sd_types.specs.declared.scope.Nature.TheVariants as nature
-use Rattle.sd_types.specs.Names.{is_among}
-use Rattle.sd_types.specs.Tables.{named}
-use Rattle.sd_types.specs.Declarations.{variables_as, constants_of, callee_of}
-use Rattle.sd_core.specs.declared.Function.{Function as CoreFunction}
-use Rattle.sd_core.specs.Formed.{declared_as}
-use Rattle.sd_extract.specs.Programs.{constants_named, functions_in}
 use Rattle.sd_extract.proofs.Searches.{first_or_later, none_later, same_front}
 use Rattle.sd_extract.proofs.FormedTables.{OnceEach, global_entries, function_entries, procedure_entries, if_body, body_names}
 

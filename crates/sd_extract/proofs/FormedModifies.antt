@@ -6,24 +6,11 @@ use Rattle.std.specs.Cmp.Lexicographic.{bytes_decides}
 use Rattle.std.proofs.lemmas.Option.{same_Some, none-some}
 use Rattle.std.proofs.lemmas.Bool.{or_parts, or_left, or_right, ne_eqb, false_from_ne_true}
 use Rattle.std.proofs.lemmas.List.Folds.{list_any-append}
-use Rattle.sd_base.specs.declared.Sort.{Sort}
-use Rattle.sd_base.specs.declared.Var.{Var}
-use Rattle.sd_base.specs.Value.{Text, same_text}
+use Rattle.sd_extract.proofs.SourceWords.{Sort, Var, Text, same_text, Spec, Modifies, is_among, Nature, named, modifies_of, variables_as, names_of}
+use Rattle.sd_extract.proofs.CoreWords.{Spot, Global, sorts_of, copies_in, place_in, globals_from, index_in, var_in, new_names, modified_names}
 use Rattle.sd_base.proofs.Lists.{all-append, all-front, all-back, all-weaker, contains-tail}
 use Rattle.sd_base.proofs.Texts.{same_text-refl, same_text-other_way}
-use Rattle.sd_ast.specs.declared.Spec.{Spec}
-use Rattle.sd_ast.specs.declared.Spec.TheVariants.{Modifies}
-use Rattle.sd_types.specs.Names.{is_among}
-use Rattle.sd_types.specs.declared.scope.Nature.{Nature}
-use Rattle.sd_types.specs.Tables.{named}
-use Rattle.sd_types.specs.Declarations.{modifies_of, variables_as}
-use Rattle.sd_core.specs.declared.Spot.{Spot}
-use Rattle.sd_core.specs.declared.Spot.TheVariants.{Global}
-use Rattle.sd_core.specs.Formed.{sorts_of, copy_of}
-use Rattle.sd_core.specs.Formed.{copies_of as copies_in}
-use Rattle.sd_ast.specs.Tree.{names_of}
-use Rattle.sd_extract.specs.Names.{place_in}
-use Rattle.sd_extract.specs.Extract.{globals_from, index_in, var_in, new_names, modified_names}
+use Rattle.sd_core.specs.Formed.{copy_of}
 use Rattle.sd_extract.specs.Extract.{is_among as is_in}
 use Rattle.sd_extract.proofs.Searches.{none_later}
 use Rattle.sd_extract.proofs.CodeNames.{by_index, index_is, place_in-globals}

@@ -6,20 +6,10 @@ use Rattle.std.proofs.Common.{append_assoc, length-append}
 use Rattle.std.proofs.lemmas.Option.{none-some}
 use Rattle.std.proofs.lemmas.Bool.{false_from_ne_true}
 use Rattle.sd_base.proofs.Lists.{slice_get-between}
-use Rattle.sd_base.specs.Value.{Text, same_text}
+use Rattle.sd_extract.proofs.SourceWords.{Text, same_text, Decl, Procedure, Program, Proc, StmtKind, If', While', Row_of-Stmt, end_of-Stmt, more_of-Stmt, Routine, procedure_in, routine_named, clauses_of, globals_in, kinds_in, named}
+use Rattle.sd_extract.proofs.SourceWords.{callee_of}
+use Rattle.sd_extract.proofs.CoreWords.{CoreProc, Source, counts, counts_all, counts_each, has_returns, kinds, loop_proc, loops_in, all_loops_in, each_loop_in, procs_of, source_of, size_of, number_from, routine_procs, procs_from}
 use Rattle.sd_base.proofs.Texts.{same_text-refl}
-use Rattle.sd_ast.specs.declared.Decl.{Decl}
-use Rattle.sd_ast.specs.declared.Decl.TheVariants.{Procedure}
-use Rattle.sd_ast.specs.declared.Program.{Program}
-use Rattle.sd_ast.specs.declared.Proc.{Proc}
-use Rattle.sd_ast.specs.declared.StmtKind.{StmtKind, If', While', Row_of-Stmt, end_of-Stmt, more_of-Stmt}
-use Rattle.sd_meaning.specs.Routine.{Routine, procedure_in, routine_named, clauses_of}
-use Rattle.sd_meaning.specs.Inputs.{globals_in}
-use Rattle.sd_meaning.specs.Run.{kinds_in}
-use Rattle.sd_types.specs.Tables.{named}
-use Rattle.sd_types.specs.Declarations.{callee_of}
-use Rattle.sd_core.specs.declared.CoreProc.{CoreProc}
-use Rattle.sd_extract.specs.Extract.{Source, counts, counts_all, counts_each, has_returns, kinds, loop_proc, loops_in, all_loops_in, each_loop_in, procs_of, source_of, size_of, number_from, routine_procs, procs_from}
 use Rattle.sd_extract.proofs.FormedTables.{OnceEach, procedure_entries}
 use Rattle.sd_extract.proofs.FormedLookups.{procedure_named}
 use Rattle.sd_extract.proofs.FormedStatements.{LoopsAt, AllLoopsAt, EachLoopsAt}

@@ -4,32 +4,13 @@ use Rattle.std.specs.Prelude.{Bool, true, false, cond, set, slice_get, if◌then
 use Rattle.std.specs.List.{AllByRecursion}
 use Rattle.std.specs.Cmp.Lexicographic.{bytes_decides}
 use Rattle.std.proofs.lemmas.Option.{same_Some, none-some, cond_some}
-use Rattle.sd_base.specs.declared.Sort.{Sort}
-use Rattle.sd_base.specs.declared.Var.{Var}
-use Rattle.sd_base.specs.Value.{Text, same_text}
+use Rattle.sd_extract.proofs.SourceWords.{Sort, Var, Text, same_text, names_of, Proc, Program, Variable, Signature, Nature, Scope, named, context, may_name, if_named, or_global, variables_as, parameters}
+use Rattle.sd_extract.proofs.CoreWords.{Spot, Slot, Global, Function, Store, set_all, sorts_of, sort_at, IsSort, AreSpotsOf, AreApart, HasCoreType, Names, place_in, either_place, place_of, at_place, globals_from, on_args, functions_in}
 use Rattle.sd_base.proofs.Lists.{all-append}
-use Rattle.sd_ast.specs.Tree.{names_of}
-use Rattle.sd_ast.specs.declared.Proc.{Proc}
-use Rattle.sd_ast.specs.declared.Program.{Program}
-use Rattle.sd_types.specs.declared.scope.Variable.{Variable}
-use Rattle.sd_types.specs.declared.scope.Signature.{Signature}
-use Rattle.sd_types.specs.declared.scope.Nature.{Nature}
 use Rattle.sd_types.specs.declared.scope.Nature.TheVariants as nature
-use Rattle.sd_types.specs.declared.scope.Scope.{Scope}
 use Rattle.sd_types.specs.declared.scope.Site.{Site}
 use Rattle.sd_types.specs.declared.scope.Site.TheVariants as site
-use Rattle.sd_types.specs.Tables.{named}
-use Rattle.sd_types.specs.Scopes.{context, may_name, has_old, if_named, or_global}
-use Rattle.sd_types.specs.Declarations.{variables_as, parameters}
-use Rattle.sd_core.specs.declared.Spot.{Spot}
-use Rattle.sd_core.specs.declared.Spot.TheVariants.{Slot, Global}
-use Rattle.sd_core.specs.declared.Function.{Function}
-use Rattle.sd_core.specs.Store.{Store, set_all}
-use Rattle.sd_core.specs.Formed.{sorts_of, sort_at, IsSort, AreSpotsOf, AreApart}
-use Rattle.sd_core.specs.Formed.{HasType as HasCoreType}
-use Rattle.sd_extract.specs.Names.{Names, place_in, either_place, place_of, at_place}
-use Rattle.sd_extract.specs.Extract.{globals_from, on_args}
-use Rattle.sd_extract.specs.Programs.{functions_in}
+use Rattle.sd_types.specs.Scopes.{has_old}
 use Rattle.sd_extract.proofs.Searches.{first_or_later, none_later, same_front}
 use Rattle.sd_extract.proofs.FormedExpressions.{Reads, Sees}
 use Rattle.sd_extract.proofs.FormedTables.{OnceEach, global_entries, function_entries}

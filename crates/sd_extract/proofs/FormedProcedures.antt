@@ -5,42 +5,20 @@ use Rattle.std.specs.List.{AllByRecursion, filter_map, cons_option}
 use Rattle.std.proofs.Common.{length-append}
 use Rattle.std.proofs.lemmas.List.{append-nil, map-append}
 use Rattle.std.proofs.lemmas.Option.{same_Some, none-some}
-use Rattle.sd_base.specs.declared.Sort.{Sort, Bool as BoolSort}
-use Rattle.sd_base.specs.declared.Var.{Var}
-use Rattle.sd_base.specs.Value.{Text}
+use Rattle.sd_extract.proofs.SourceWords.{Sort, BoolSort, Var, Text, names_of, Program, Proc, Expr, Invariant, StmtKind, Assert, Assume, Assign, Call, If', While', Break, Return, Row_of-Stmt, end_of-Stmt, more_of-Stmt, SourceRoutine}
+use Rattle.sd_extract.proofs.SourceWords.{procedure_in, routine_named, requires_of, ensures_of, clauses_of, globals_in, kinds_in, Scope, Context, context, routine, variables_as, parameters, modifies_of, body_variables, HasType, IsTypedStmt}
+use Rattle.sd_extract.proofs.SourceWords.{AreTypedStmts}
+use Rattle.sd_extract.proofs.CoreWords.{Global, At, Literal, CoreStmt, CoreProc, Function, CoreProgram, Store, slots_from, sorts_of, state_sorts, IsSort, AllHaveTypes, AreSpotsOf, IsFormed, AllFormed, IsProc, copies_in, core_of, counts}
+use Rattle.sd_extract.proofs.CoreWords.{counts_all, counts_each, none, has_returns, Source, state_of, copies_of, frame_at, kinds, put, check, assume, on_args, loop_call, each_extracted, contract, leave, body_frame, body_copies, body_start}
+use Rattle.sd_extract.proofs.CoreWords.{body_proc, loop_state, loop_hidden, left_of, loop_frame, loop_start, turn_of, loop_proc, loops_in, all_loops_in, each_loop_in, procs_of, hidden, ins_of, index_in, var_in, modified_names, number_from}
+use Rattle.sd_extract.proofs.CoreWords.{core_procs, core_program, functions_in}
 use Rattle.sd_base.proofs.Lists.{all-append}
-use Rattle.sd_ast.specs.Tree.{names_of}
-use Rattle.sd_ast.specs.declared.Program.{Program}
-use Rattle.sd_ast.specs.declared.Proc.{Proc}
-use Rattle.sd_ast.specs.declared.Expr.{Expr}
-use Rattle.sd_ast.specs.declared.Invariant.{Invariant}
-use Rattle.sd_ast.specs.declared.StmtKind.{StmtKind, Assert, Assume, Assign, Call, If', While', Break, Return, Row_of-Stmt, end_of-Stmt, more_of-Stmt}
-use Rattle.sd_meaning.specs.Routine.{Routine as SourceRoutine, procedure_in, routine_named, requires_of, ensures_of, clauses_of}
-use Rattle.sd_meaning.specs.Inputs.{globals_in}
-use Rattle.sd_meaning.specs.Run.{kinds_in}
 use Rattle.sd_types.specs.declared.scope.Nature.TheVariants as nature
-use Rattle.sd_types.specs.declared.scope.Scope.{Scope}
 use Rattle.sd_types.specs.declared.scope.Site.TheVariants as site
-use Rattle.sd_types.specs.Scopes.{Context, context}
-use Rattle.sd_types.specs.Statements.{Routine, routine}
-use Rattle.sd_types.specs.Declarations.{variables_as, parameters, modifies_of, body_variables}
-use Rattle.sd_types.specs.Typing.{HasType}
-use Rattle.sd_types.specs.TypedBodies.{AllTruths, IsTypedStmt, AreTypedStmts}
-use Rattle.sd_core.specs.declared.Spot.TheVariants.{Global}
-use Rattle.sd_core.specs.declared.CoreExpr.{At}
-use Rattle.sd_core.specs.declared.CoreExpr.{Truth as Literal}
-use Rattle.sd_core.specs.declared.CoreStmt.{CoreStmt}
+use Rattle.sd_types.specs.Statements.{Routine}
+use Rattle.sd_types.specs.TypedBodies.{AllTruths}
 use Rattle.sd_core.specs.declared.CoreStmt as core
-use Rattle.sd_core.specs.declared.CoreProc.{CoreProc}
-use Rattle.sd_core.specs.declared.Function.{Function}
-use Rattle.sd_core.specs.declared.CoreProgram.{CoreProgram}
-use Rattle.sd_core.specs.Store.{Store}
-use Rattle.sd_core.specs.Run.{slots_from}
-use Rattle.sd_core.specs.Formed.{sorts_of, state_sorts, IsSort, AllHaveTypes, AreSpotsOf, IsFormed, AllFormed, IsLoop, IsProc}
-use Rattle.sd_core.specs.Formed.{copies_of as copies_in}
-use Rattle.sd_extract.specs.Names.{core_of}
-use Rattle.sd_extract.specs.Extract.{counts, counts_all, counts_each, none, has_returns, Source, state_of, copies_of, frame_at, kinds, put, check, assume, on_args, loop_call, each_extracted, contract, leave, body_frame, body_copies, body_start, body_proc, loop_state, loop_hidden, left_of, loop_frame, loop_start, turn_of, loop_proc, loops_in, all_loops_in, each_loop_in, procs_of, hidden, ins_of, index_in, var_in, modified_names, number_from, core_procs}
-use Rattle.sd_extract.specs.Programs.{core_program, functions_in}
+use Rattle.sd_core.specs.Formed.{IsLoop}
 use Rattle.sd_extract.proofs.FormedExpressions.{Sees, core_typed}
 use Rattle.sd_extract.proofs.FormedChecks.{IsChecked, AreChecked, EachChecked, EachTyped, row_each_checked, row_each_typed}
 use Rattle.sd_extract.proofs.FormedSpots.{Holds, holds_left, holds_right, spots_hold, spots_typed, slots_targets}

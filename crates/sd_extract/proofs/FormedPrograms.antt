@@ -7,37 +7,17 @@ use Rattle.std.specs.Cmp.Lexicographic.{bytes_decides}
 use Rattle.std.proofs.lemmas.List.{map-append}
 use Rattle.std.proofs.lemmas.Option.{none-some}
 use Rattle.std.proofs.lemmas.List.Elements.{filter-append}
-use Rattle.sd_base.specs.declared.Sort.{Sort, Bool as BoolSort}
-use Rattle.sd_base.specs.declared.Var.{Var}
-use Rattle.sd_base.specs.Value.{Text, same_text}
+use Rattle.sd_extract.proofs.SourceWords.{Sort, BoolSort, Var, Text, same_text, Decl, Const, Function, Axiom, Globals, Procedure, Program, StmtKind, If', While', Row_of-Stmt, end_of-Stmt, more_of-Stmt, Routine, routine_named, globals_in}
+use Rattle.sd_extract.proofs.SourceWords.{uniques_in, Variable, Signature, Nature, Scope, named, context, may_name, known_sort, variables_as, constants_of, callee_of, known_sorts, decl_rule}
+use Rattle.sd_extract.proofs.CoreWords.{CoreFunction, CoreProc, CoreProgram, sorts_of, names_of, IsSort, IsProc, HasCoreType, place_of, at_place, Source, counts, counts_all, kinds, loops_in, all_loops_in, each_loop_in, source_of, size_of}
+use Rattle.sd_extract.proofs.CoreWords.{number_from, routine_procs, procs_from, constants_named, functions_in, axioms_in, no_names, core_axiom, core_program, ExtractedIsFormed}
 use Rattle.sd_base.proofs.Lists.{all-append, all-back}
 use Rattle.sd_base.proofs.Texts.{same_text-refl}
-use Rattle.sd_ast.specs.declared.Decl.{Decl}
-use Rattle.sd_ast.specs.declared.Decl.TheVariants.{Const, Function, Axiom, Globals, Procedure}
-use Rattle.sd_ast.specs.declared.Program.{Program}
-use Rattle.sd_ast.specs.declared.StmtKind.{StmtKind, If', While', Row_of-Stmt, end_of-Stmt, more_of-Stmt}
-use Rattle.sd_meaning.specs.Routine.{Routine, routine_named}
-use Rattle.sd_meaning.specs.Inputs.{globals_in, uniques_in, constants_of_sort}
-use Rattle.sd_types.specs.declared.scope.Variable.{Variable}
-use Rattle.sd_types.specs.declared.scope.Signature.{Signature}
-use Rattle.sd_types.specs.declared.scope.Nature.{Nature}
+use Rattle.sd_meaning.specs.Inputs.{constants_of_sort}
 use Rattle.sd_types.specs.declared.scope.Nature.TheVariants as nature
-use Rattle.sd_types.specs.declared.scope.Scope.{Scope}
 use Rattle.sd_types.specs.declared.scope.Site.TheVariants as site
-use Rattle.sd_types.specs.Tables.{named}
-use Rattle.sd_types.specs.Scopes.{context, may_name}
-use Rattle.sd_types.specs.Phrases.{known_sort}
-use Rattle.sd_types.specs.Declarations.{variables_as, constants_of, callee_of, known_sorts, decl_rule}
 use Rattle.sd_types.proofs.TypingLemmas.{parts}
-use Rattle.sd_core.specs.declared.Function.{Function as CoreFunction}
-use Rattle.sd_core.specs.declared.CoreProc.{CoreProc}
-use Rattle.sd_core.specs.declared.CoreProgram.{CoreProgram}
-use Rattle.sd_core.specs.Formed.{sorts_of, names_of, no_state, IsSort, functions_as, roots, IsConstant, IsSignature, IsProc, WellFormed}
-use Rattle.sd_core.specs.Formed.{HasType as HasCoreType}
-use Rattle.sd_extract.specs.Names.{place_of, at_place}
-use Rattle.sd_extract.specs.Extract.{Source, counts, counts_all, kinds, loops_in, all_loops_in, each_loop_in, source_of, size_of, number_from, routine_procs, procs_from}
-use Rattle.sd_extract.specs.Programs.{constants_named, functions_in, axioms_in, no_names, core_axiom, core_program}
-use Rattle.sd_extract.specs.Laws.{ExtractedIsFormed}
+use Rattle.sd_core.specs.Formed.{no_state, functions_as, roots, IsConstant, IsSignature, WellFormed}
 use Rattle.sd_extract.proofs.Searches.{none_later, same_front}
 use Rattle.sd_extract.proofs.FormedExpressions.{Sees, core_typed}
 use Rattle.sd_extract.proofs.FormedTables.{keys, OnceEach, entries_distinct, global_entries, function_entries, procedure_entries}

@@ -2,15 +2,9 @@
 use Rattle.std.proofs.Common.{◌≡◌, ◌≢◌, ℕ, suc, ◌+◌, ◌≤◌, ◌<◌, List, [], ◌∷◌, ◌++◌, map, length, Some, refl, sym, ◌∙◌, subst, arith}
 use Rattle.std.specs.Prelude.{slice_get, Contains}
 use Rattle.std.specs.List.{AllByRecursion}
-use Rattle.sd_base.specs.declared.Sort.{Sort}
+use Rattle.sd_extract.proofs.SourceWords.{Sort}
+use Rattle.sd_extract.proofs.CoreWords.{Spot, Slot, Global, At, Function, Store, slots_from, AllHaveTypes, AreSpotsOf, AreApart, Within, AreTargets}
 use Rattle.sd_base.proofs.Lists.{all-push, all-weaker, contains-tail, slice_get-append_right}
-use Rattle.sd_core.specs.declared.Spot.{Spot}
-use Rattle.sd_core.specs.declared.Spot.TheVariants.{Slot, Global}
-use Rattle.sd_core.specs.declared.CoreExpr.{At}
-use Rattle.sd_core.specs.declared.Function.{Function}
-use Rattle.sd_core.specs.Store.{Store}
-use Rattle.sd_core.specs.Run.{slots_from}
-use Rattle.sd_core.specs.Formed.{AllHaveTypes, AreSpotsOf, AreApart, Within, AreTargets}
 
 -- ---- slots
 

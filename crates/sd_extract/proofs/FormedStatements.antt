@@ -4,45 +4,20 @@ use Rattle.std.specs.Prelude.{Bool, true, false, slice_get, Contains, unwrap_or,
 use Rattle.std.specs.List.{AllByRecursion, IsDistinct}
 use Rattle.std.specs.Cmp.Lexicographic.{bytes_decides}
 use Rattle.std.proofs.Common.{length-append}
-use Rattle.sd_base.specs.declared.Sort.{Sort, Bool as BoolSort}
-use Rattle.sd_base.specs.Value.{Text, same_text}
-use Rattle.sd_base.specs.Sorts.{MapOf}
-use Rattle.sd_ast.specs.declared.Program.{Program}
-use Rattle.sd_ast.specs.declared.Proc.{Proc}
-use Rattle.sd_ast.specs.declared.Expr.{Expr}
-use Rattle.sd_ast.specs.declared.Left.{Left}
-use Rattle.sd_ast.specs.declared.StmtKind.{StmtKind, Assert, Assume, Assign, Call, If', While', Break, Return, Row_of-Stmt, end_of-Stmt, more_of-Stmt}
-use Rattle.sd_meaning.specs.Routine.{Clause, procedure_in, routine_named, requires_of}
-use Rattle.sd_meaning.specs.Routine.{Routine as SourceRoutine}
-use Rattle.sd_meaning.specs.Inputs.{globals_in}
-use Rattle.sd_types.specs.declared.scope.Variable.{Variable}
-use Rattle.sd_types.specs.declared.scope.Callee.{Callee}
-use Rattle.sd_types.specs.declared.scope.Scope.{Scope}
+use Rattle.sd_extract.proofs.SourceWords.{Sort, BoolSort, Text, same_text, MapOf, Program, Proc, Expr, Left, StmtKind, Assert, Assume, Assign, Call, If', While', Break, Return, Row_of-Stmt, end_of-Stmt, more_of-Stmt, Clause, procedure_in}
+use Rattle.sd_extract.proofs.SourceWords.{routine_named, requires_of, SourceRoutine, globals_in, Variable, Callee, Scope, and_then, named, Context, context, assigned_as, assignable, modified_rule, has_body, left_names, parameters, HasType}
+use Rattle.sd_extract.proofs.SourceWords.{AllHave, Calls, IsTypedStmt, AreTypedStmts}
+use Rattle.sd_extract.proofs.CoreWords.{Spot, Slot, CoreExpr, At, CoreStmt, If, Row_of-CoreStmt, end_of-CoreStmt, more_of-CoreStmt, items-the_row-CoreStmt, items_hidden-the_row-CoreStmt-0, hidden-the_row-CoreStmt-0, CoreProc, CoreProgram}
+use Rattle.sd_extract.proofs.CoreWords.{Store, slots_from, sorts_of, state_sorts, sort_at, IsSort, AllHaveTypes, AreSpotsOf, AreApart, Within, AreTargets, IsFormed, AllFormed, HasCoreType, Names, place_of, at_place, negated, both, core_of}
+use Rattle.sd_extract.proofs.CoreWords.{Counts, plus, counts, counts_all, counts_each, has_return, has_returns, Frame, put, checked, check, assume, spot_of, stored, cores, all_stored, on_args, call_of, loop_call, leave_if, extracted}
+use Rattle.sd_extract.proofs.CoreWords.{all_extracted, each_extracted, ins_of, source_of, has_return_among}
 use Rattle.sd_types.specs.declared.scope.Site.TheVariants as site
-use Rattle.sd_types.specs.Answer.{and_then}
-use Rattle.sd_types.specs.Tables.{named}
-use Rattle.sd_types.specs.Scopes.{Context, context}
 use Rattle.sd_types.specs.Scopes.{declared_as as declared_in}
-use Rattle.sd_types.specs.Statements.{Routine, assigned_as, assignable, modified_rule, has_body, left_names}
-use Rattle.sd_types.specs.Declarations.{parameters}
-use Rattle.sd_types.specs.Typing.{HasType}
-use Rattle.sd_types.specs.TypedBodies.{AllHave, IsVariableOf, AreVariablesOf, Leads, Assigns, Calls, IsTypedStmt, AreTypedStmts}
-use Rattle.sd_core.specs.declared.Spot.{Spot}
-use Rattle.sd_core.specs.declared.Spot.TheVariants.{Slot}
+use Rattle.sd_types.specs.Statements.{Routine}
+use Rattle.sd_types.specs.TypedBodies.{IsVariableOf, AreVariablesOf, Leads, Assigns}
 use Rattle.sd_core.specs.declared.CoreOp.TheVariants as op
-use Rattle.sd_core.specs.declared.CoreExpr.{CoreExpr, At}
-use Rattle.sd_core.specs.declared.CoreStmt.{CoreStmt, If, Row_of-CoreStmt, end_of-CoreStmt, more_of-CoreStmt, items-the_row-CoreStmt, items_hidden-the_row-CoreStmt-0}
 use Rattle.sd_core.specs.declared.CoreStmt as core
-use Rattle.sd_core.specs.declared.CoreStmt.TheBlock.{hidden-the_row-CoreStmt-0}
-use Rattle.sd_core.specs.declared.CoreProc.{CoreProc}
-use Rattle.sd_core.specs.declared.CoreProgram.{CoreProgram}
-use Rattle.sd_core.specs.Store.{Store}
-use Rattle.sd_core.specs.Run.{slots_from}
-use Rattle.sd_core.specs.Formed.{sorts_of, state_sorts, sort_at, IsSort, AllHaveTypes, AreSpotsOf, AreApart, Within, AreTargets, IsCall, IsFormed, AreFormed, AllFormed}
-use Rattle.sd_core.specs.Formed.{HasType as HasCoreType}
-use Rattle.sd_extract.specs.Names.{Names, place_of, at_place, negated, both, core_of}
-use Rattle.sd_extract.specs.Extract.{Counts, plus, counts, counts_all, counts_each, has_return, has_returns, Frame, put, checked, check, assume, spot_of, stored, cores, all_stored, on_args, call_of, loop_call, leave_if, extracted, all_extracted, each_extracted, ins_of, source_of}
-use Rattle.sd_extract.specs.Counted.{has_return_among}
+use Rattle.sd_core.specs.Formed.{IsCall, AreFormed}
 use Rattle.sd_base.proofs.Lists.{all-append}
 use Rattle.sd_extract.proofs.CodeLists.{all_map}
 use Rattle.sd_extract.proofs.FormedExpressions.{Sees, core_typed, list_cores_typed, negated_typed, read_typed, write_typed}

@@ -4,23 +4,12 @@ use Rattle.std.specs.Prelude.{Bool, true, false, cond, ◌||◌, Result, if◌th
 use Rattle.std.specs.List.{AllByRecursion, IsDistinct}
 use Rattle.std.proofs.Common.{append_assoc}
 use Rattle.std.proofs.lemmas.List.{append-nil, map-append}
-use Rattle.sd_base.specs.declared.Var.{Var}
-use Rattle.sd_base.specs.Value.{Text, same_text}
-use Rattle.sd_ast.specs.declared.Decl.{Decl}
-use Rattle.sd_ast.specs.declared.Decl.TheVariants.{Types, Const, Function, Axiom, Globals, Procedure, Implementation}
-use Rattle.sd_ast.specs.declared.Body.{Body}
-use Rattle.sd_ast.specs.declared.Head.{Head}
-use Rattle.sd_types.specs.declared.refusal.TypeError.{TypeError}
-use Rattle.sd_types.specs.declared.refusal.TypeError.TheVariants.{Twice}
-use Rattle.sd_types.specs.declared.scope.Variable.{Variable}
-use Rattle.sd_types.specs.declared.scope.Signature.{Signature}
-use Rattle.sd_types.specs.declared.scope.Callee.{Callee}
-use Rattle.sd_types.specs.declared.scope.Scope.{Scope}
+use Rattle.sd_extract.proofs.SourceWords.{Var, Text, same_text, Decl, Const, Function, Axiom, Globals, Procedure, Implementation, Body, Head, TypeError, Twice, Variable, Signature, Callee, Scope, is_among, and_then, named, with_name}
+use Rattle.sd_extract.proofs.SourceWords.{with_names, variables_as, constants_of, callee_of, locals_of, own_names}
+use Rattle.sd_ast.specs.declared.Decl.TheVariants.{Types}
 use Rattle.sd_types.specs.declared.scope.Nature.TheVariants as nature
-use Rattle.sd_types.specs.Names.{is_among}
-use Rattle.sd_types.specs.Answer.{and_then}
-use Rattle.sd_types.specs.Tables.{named, with_name, with_names, with_entry, with_entries}
-use Rattle.sd_types.specs.Declarations.{variables_as, constants_of, callee_of, locals_of, own_names, with_body, enter_procedure, enter_implementation, enter, enter_all}
+use Rattle.sd_types.specs.Tables.{with_entry, with_entries}
+use Rattle.sd_types.specs.Declarations.{with_body, enter_procedure, enter_implementation, enter, enter_all}
 use Rattle.sd_types.proofs.TypingLemmas.{parts, ok_is}
 use Rattle.sd_extract.proofs.FormedChecks.{distinct_new}
 

@@ -1,3 +1,5 @@
+pub mod SourceWords
+pub mod CoreWords
 pub mod Searches
 pub mod Expressions
 pub mod Writes

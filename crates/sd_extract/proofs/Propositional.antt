@@ -2,26 +2,13 @@
 use Rattle.std.proofs.Common.{◌≡◌, ℕ, ◌+◌, Bool, true, false, List, [], ◌∷◌, ◌++◌, map, Option, Some, None, refl}
 use Rattle.std.specs.Prelude.{option_map, if◌then◌else◌}
 use Rattle.std.specs.List.{AllByRecursion, filter_map, cons_option}
-use Rattle.sd_base.specs.declared.sort.Sort.{Bool as BoolSort}
-use Rattle.sd_base.specs.declared.sort.Var.{Var}
-use Rattle.sd_base.specs.Value.{Text, same_text}
+use Rattle.sd_extract.proofs.SourceWords.{BoolSort, Var, Text, same_text, Body, Proc, Impl, Spec, Requires, Ensures, Decl, Globals, Procedure, Implementation, Program, Routine, requires_of, ensures_of, procedure_in, implementation_in}
+use Rattle.sd_extract.proofs.SourceWords.{with_body, routine_named, globals_in, uniques_in}
+use Rattle.sd_extract.proofs.CoreWords.{Global, At, Source, source_of, var_in, copies_of, kinds, none, put, check, assume, on_args, contract, leave, body_frame, body_start, body_proc, hidden, each_extracted, procs_of, size_of, number_from}
+use Rattle.sd_extract.proofs.CoreWords.{routine_procs, procs_from, functions_in, axioms_in, core_axiom, AreTruths, IsPropositional}
 use Rattle.sd_base.proofs.Lists.{all-append}
-use Rattle.sd_ast.specs.declared.tree.Body.{Body}
-use Rattle.sd_ast.specs.declared.tree.Proc.{Proc}
-use Rattle.sd_ast.specs.declared.tree.Impl.{Impl}
-use Rattle.sd_ast.specs.declared.tree.Spec.{Spec}
-use Rattle.sd_ast.specs.declared.tree.Spec.TheVariants.{Requires, Ensures}
-use Rattle.sd_ast.specs.declared.tree.Decl.{Decl}
-use Rattle.sd_ast.specs.declared.tree.Decl.TheVariants.{Globals, Procedure, Implementation}
-use Rattle.sd_ast.specs.declared.tree.Program.{Program}
-use Rattle.sd_core.specs.declared.tree.Spot.TheVariants.{Global}
-use Rattle.sd_core.specs.declared.tree.CoreExpr.{At}
 use Rattle.sd_core.specs.Propositional as propositional
-use Rattle.sd_meaning.specs.Routine.{Routine, requires_of, ensures_of, procedure_in, implementation_in, with_body, routine_named}
-use Rattle.sd_meaning.specs.Inputs.{globals_in, uniques_in}
-use Rattle.sd_extract.specs.Extract.{Source, source_of, var_in, copies_of, kinds, none, put, check, assume, on_args, contract, leave, body_frame, body_start, body_proc, hidden, each_extracted, procs_of, size_of, number_from, routine_procs, procs_from}
-use Rattle.sd_extract.specs.Programs.{functions_in, axioms_in, core_axiom}
-use Rattle.sd_extract.specs.Propositional.{AreTruths, IsPropositional, IsPropositionalSpec, IsPropositionalHead, IsPropositionalBody, MaybePropositionalBody, IsPropositionalDecl}
+use Rattle.sd_extract.specs.Propositional.{IsPropositionalSpec, IsPropositionalHead, IsPropositionalBody, MaybePropositionalBody, IsPropositionalDecl}
 use Rattle.sd_extract.specs.Laws.{PropositionalIsKept}
 use Rattle.sd_extract.proofs.PropositionalLemmas.{AllPropositional, IsNumberless, checks-propositional, assumes-propositional, put-propositional, each_extracted-propositional, hidden-truths, each_loops-none}
 use Rattle.sd_extract.proofs.CodeLists.{all_map, map_all}

@@ -1,31 +1,19 @@
 -- Expressions and statements without numbers, calls and loops become such ones of the core.
 use Rattle.std.proofs.Common.{◌≡◌, ℕ, ◌+◌, Bool, true, false, List, [], ◌∷◌, map, Option, Some, None, refl, sym, ap, ◌∙◌, subst}
 use Rattle.std.specs.List.{AllByRecursion}
-use Rattle.sd_base.specs.Value.{Text}
+use Rattle.sd_extract.proofs.SourceWords.{Text, BinOp, UnOp, Expr, Left, ExprKind, Apply', Row_of-Expr, end_of-Expr, more_of-Expr, StmtKind, Assert, Assume, Assign, Call, If', While', Break, Return, Row_of-Stmt, end_of-Stmt, more_of-Stmt}
+use Rattle.sd_extract.proofs.SourceWords.{Program, OldOf, UnaryOf, BinaryOf, SelectOf, StoreOf, Clause}
+use Rattle.sd_extract.proofs.CoreWords.{Spot, CoreOp, CoreExpr, Apply, Op, Row_of-CoreExpr, end_of-CoreExpr, more_of-CoreExpr, items-the_row-CoreExpr, items_hidden-the_row-CoreExpr-0, hidden-the_row-CoreExpr-0, CoreStmt, If}
+use Rattle.sd_extract.proofs.CoreWords.{Row_of-CoreStmt, end_of-CoreStmt, more_of-CoreStmt, items-the_row-CoreStmt, items_hidden-the_row-CoreStmt-0, hidden-the_row-CoreStmt-0, CoreProc, Names, at_place, place_of, unary_of, binary_of}
+use Rattle.sd_extract.proofs.CoreWords.{negated, both, core_of, cores_of, Counts, Frame, Source, plus, counts, counts_all, put, checked, check, assume, stored, all_stored, cores, extracted, all_extracted, each_extracted, args_in}
+use Rattle.sd_extract.proofs.CoreWords.{all_args_in, each_args_in, lefts_in, all_lefts_in, each_left_in, hidden, loops_in, all_loops_in, each_loop_in, AreTruths, IsPropositional}
 use Rattle.sd_base.proofs.Lists.{all-append}
-use Rattle.sd_ast.specs.declared.tree.BinOp.{BinOp}
 use Rattle.sd_ast.specs.declared.tree.BinOp.TheVariants as bin
-use Rattle.sd_ast.specs.declared.tree.UnOp.{UnOp}
 use Rattle.sd_ast.specs.declared.tree.UnOp.TheVariants as un
-use Rattle.sd_ast.specs.declared.tree.Expr.{Expr}
-use Rattle.sd_ast.specs.declared.tree.Left.{Left}
-use Rattle.sd_ast.specs.declared.tree.ExprKind.{ExprKind, Num, Truth, Var, Apply', Row_of-Expr, end_of-Expr, more_of-Expr}
-use Rattle.sd_ast.specs.declared.tree.StmtKind.{StmtKind, Assert, Assume, Assign, Call, If', While', Break, Return, Row_of-Stmt, end_of-Stmt, more_of-Stmt}
-use Rattle.sd_ast.specs.declared.tree.Program.{Program}
-use Rattle.sd_ast.specs.Tree.{OldOf, UnaryOf, BinaryOf, SelectOf, StoreOf}
-use Rattle.sd_core.specs.declared.tree.Spot.{Spot}
-use Rattle.sd_core.specs.declared.tree.CoreOp.{CoreOp}
+use Rattle.sd_ast.specs.declared.tree.ExprKind.{Num, Truth, Var}
 use Rattle.sd_core.specs.declared.tree.CoreOp.TheVariants as op
-use Rattle.sd_core.specs.declared.tree.CoreExpr.{CoreExpr, Apply, Op, Row_of-CoreExpr, end_of-CoreExpr, more_of-CoreExpr, items-the_row-CoreExpr, items_hidden-the_row-CoreExpr-0}
-use Rattle.sd_core.specs.declared.tree.CoreExpr.TheBlock.{hidden-the_row-CoreExpr-0}
-use Rattle.sd_core.specs.declared.tree.CoreStmt.{CoreStmt, If, Row_of-CoreStmt, end_of-CoreStmt, more_of-CoreStmt, items-the_row-CoreStmt, items_hidden-the_row-CoreStmt-0}
-use Rattle.sd_core.specs.declared.tree.CoreStmt.TheBlock.{hidden-the_row-CoreStmt-0}
-use Rattle.sd_core.specs.declared.tree.CoreProc.{CoreProc}
 use Rattle.sd_core.specs.Propositional as propositional
-use Rattle.sd_meaning.specs.Routine.{Clause}
-use Rattle.sd_extract.specs.Names.{Names, at_place, place_of, unary_of, binary_of, negated, both, core_of, cores_of}
-use Rattle.sd_extract.specs.Extract.{Counts, Frame, Source, plus, counts, counts_all, put, checked, check, assume, stored, all_stored, cores, extracted, all_extracted, each_extracted, args_in, all_args_in, each_args_in, lefts_in, all_lefts_in, each_left_in, hidden, loops_in, all_loops_in, each_loop_in}
-use Rattle.sd_extract.specs.Propositional.{AreTruths, HasNoNumber, HaveNoNumber, NoneHasNumber, IsPropositional, ArePropositional}
+use Rattle.sd_extract.specs.Propositional.{HasNoNumber, HaveNoNumber, NoneHasNumber, ArePropositional}
 use Rattle.sd_extract.proofs.CodeLists.{all_map}
 
 -- ---- rows of the core as lists

@@ -4,19 +4,9 @@ use Rattle.std.specs.Prelude.{slice_get, if◌then◌else◌}
 use Rattle.std.specs.Cmp.Lexicographic.{bytes_decides}
 use Rattle.std.proofs.lemmas.Option.{none-some, same_Some}
 use Rattle.std.proofs.lemmas.Bool.{false_from_ne_true}
-use Rattle.sd_base.specs.Value.{Text, same_text}
-use Rattle.sd_ast.specs.declared.Decl.{Decl}
-use Rattle.sd_ast.specs.declared.Decl.TheVariants.{Procedure}
-use Rattle.sd_ast.specs.declared.Program.{Program}
-use Rattle.sd_ast.specs.declared.Proc.{Proc}
-use Rattle.sd_ast.specs.declared.StmtKind.{StmtKind, If', While', Row_of-Stmt, end_of-Stmt, more_of-Stmt}
-use Rattle.sd_meaning.specs.Routine.{Routine, procedure_in, routine_named}
-use Rattle.sd_meaning.specs.Inputs.{globals_in}
-use Rattle.sd_types.specs.Tables.{named}
-use Rattle.sd_types.specs.Declarations.{callee_of, WellTyped}
-use Rattle.sd_core.specs.declared.CoreProc.{CoreProc}
-use Rattle.sd_extract.specs.Extract.{counts, counts_all, Source, kinds, loops_in, all_loops_in, each_loop_in, source_of, size_of, number_from, routine_procs, procs_from}
-use Rattle.sd_extract.specs.Laws.{number_of, RootsAreProcedures}
+use Rattle.sd_extract.proofs.SourceWords.{Text, same_text, Decl, Procedure, Program, Proc, StmtKind, If', While', Row_of-Stmt, end_of-Stmt, more_of-Stmt, Routine, procedure_in, routine_named, globals_in, named, callee_of, WellTyped}
+use Rattle.sd_extract.proofs.CoreWords.{CoreProc, counts, counts_all, Source, kinds, loops_in, all_loops_in, each_loop_in, source_of, size_of, number_from, routine_procs, procs_from, number_of}
+use Rattle.sd_extract.specs.Laws.{RootsAreProcedures}
 use Rattle.sd_extract.proofs.FormedTables.{OnceEach, procedure_entries}
 use Rattle.sd_extract.proofs.FormedLookups.{procedure_named}
 use Rattle.sd_extract.proofs.FormedDeclarations.{is_typed, procedures_once}
