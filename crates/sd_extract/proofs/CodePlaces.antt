@@ -16,11 +16,11 @@ position_more test xs place next x was now one within at before after =
 first_at : {A B : Type 0} (test : A → Bool) (of : Option A → Option B) (first : List A → Option B) → of None ≡ None → first [] ≡ None → ((x : A) (xs : List A) → first (x ∷ xs) ≡ (if test x then of (Some x) else first xs))
     → (whole : List A) (n : ℕ) (xs : List A) → ((j : ℕ) → slice_get whole (n + j) ≡ slice_get xs j) → of (item_at whole (position_from test n xs)) ≡ first xs
 first_at test of first none nil more whole n [] same = none ∙ sym nil
-first_at test of first none nil more whole n (x ∷ xs) same = go (test x) (first_at test of first none nil more whole (n + 1) xs (λ j. let e : (n + 1) + j ≡ n + suc j = omega arith in ap (slice_get whole) e ∙ same (suc j))) ∙ sym (more x xs)
-  where
-    go : (b : Bool) → of (item_at whole (position_from test (n + 1) xs)) ≡ first xs → of (item_at whole (cond b (Some n) (position_from test (n + 1) xs))) ≡ (if b then of (Some x) else first xs)
-    go true rest = let e : n ≡ n + 0 = omega arith in ap of (ap (slice_get whole) e ∙ same 0)
-    go false rest = rest
+first_at test of first none nil more whole n (x ∷ xs) same =
+    elim (test x) as (λ b. of (item_at whole (cond b (Some n) (position_from test (n + 1) xs))) ≡ (if b then of (Some x) else first xs)) [
+      | true ↦ (let e : n ≡ n + 0 = omega arith in ap of (ap (slice_get whole) e ∙ same 0))
+      | false ↦ first_at test of first none nil more whole (n + 1) xs (λ j. let e : (n + 1) + j ≡ n + suc j = omega arith in ap (slice_get whole) e ∙ same (suc j))
+    ] ∙ sym (more x xs)
 
 pub procedure_found : (ds : List Decl) (f : Text) (decl : Option Decl) (place : Option ℕ) → decl ≡ item_at ds place → place ≡ position_from (is_procedure_named f) 0 ds → procedure_of decl ≡ procedure_in ds f
 procedure_found ds f decl place here is = ap procedure_of (here ∙ ap (item_at ds) is) ∙ first_at (is_procedure_named f) procedure_of (λ ds. procedure_in ds f) refl refl more ds 0 ds (λ j. let e : 0 + j ≡ j = omega arith in ap (slice_get ds) e)

@@ -33,11 +33,8 @@ pub value_of-named : (st : Store Value) (xs : List Text) (ps : List Spot) (y : T
 value_of-named st [] [] y = refl
 value_of-named st [] (p ∷ ps) y = refl
 value_of-named st (x ∷ xs) [] y = refl
-value_of-named st (x ∷ xs) (p ∷ ps) y = go (same_text y x) (value_of-named st xs ps y)
-  where
-    go : (b : Bool) → value_of (named xs (at_all st ps)) y ≡ option_map (read nothing st) (place_in xs ps y) → (if b then Some (read nothing st p) else value_of (named xs (at_all st ps)) y) ≡ option_map (read nothing st) (if b then Some p else place_in xs ps y)
-    go true e = refl
-    go false e = e
+value_of-named st (x ∷ xs) (p ∷ ps) y =
+    elim (same_text y x) as (λ b. (if b then Some (read nothing st p) else value_of (named xs (at_all st ps)) y) ≡ option_map (read nothing st) (if b then Some p else place_in xs ps y)) [ true ↦ refl | false ↦ value_of-named st xs ps y ]
 
 by_place : (I : Interpretation) (st : Store Value) (x : Text) (o g : Option Spot) → unwrap_or (option_map (read nothing st) o) (unwrap_or (option_map (read nothing st) g) (I.constant x)) ≡ value_in I st (at_place (either_place o g) x)
 by_place I st x (Some p) g = refl

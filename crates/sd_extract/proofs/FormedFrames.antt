@@ -32,11 +32,10 @@ sorts_length vs = sym (length-map vs (λ v. v.sort))
 declared_first : (o : Option Proc) (i : Option Impl) (r : SourceRoutine) → with_body o i ≡ Some r → o ≡ Some r.declared
 declared_first None i r e = absurd (none-some r e)
 declared_first (Some p) (Some i) r e = ap (λ (x : SourceRoutine). Some x.declared) (same_Some _ _ e)
-declared_first (Some p) None r e = go p.body e
-  where
-    go : (b : Option Body) → option_map (λ b. record { declared = p; head = p.head; body = b }) b ≡ Some r → Some p ≡ Some r.declared
-    go None k = absurd (none-some r k)
-    go (Some b) k = ap (λ (x : SourceRoutine). Some x.declared) (same_Some _ _ k)
+declared_first (Some p) None r e = elim p.body as (λ b. option_map (λ b. record { declared = p; head = p.head; body = b }) b ≡ Some r → Some p ≡ Some r.declared) [
+  | None ↦ λ k. absurd (none-some r k)
+  | Some b ↦ λ k. ap (λ (x : SourceRoutine). Some x.declared) (same_Some _ _ k)
+] e
 
 pub declared_of : (P : Program) (f : Text) (r : SourceRoutine) → routine_named P f ≡ Some r → procedure_in P.decls f ≡ Some r.declared
 declared_of P f r e = declared_first (procedure_in P.decls f) (implementation_in P.decls f) r e
@@ -135,11 +134,7 @@ module _ (P : Program) (G : Scope) (typed : IsTyped P G) where
   -- a global that typing lets a routine modify is in its list
   modified_number : (locals : List (Text × Variable)) (specs : List Spec) (x : Text) (i : ℕ) → modified_rule (routine G locals (modifies_of specs)) x ≡ Ok tt → index_in globals x ≡ Some i → Contains (filter_map (index_in globals) (modified_names specs [])) i
   modified_number locals specs x i h e =
-      modifies_there globals specs x i e (go (named G.globals x) (index_global x i e) h)
-    where
-      go : (o : Option Variable) → is_global o ≡ true → (if is_global o then if_modified specs x else passed) ≡ passed → is_among (modifies_of specs) x ≡ true
-      go o g k =
-          in_modifies x (is_among (modifies_of specs) x) tt (ap (λ (b : Bool). if b then if_modified specs x else passed) (sym g) ∙ k)
+      modifies_there globals specs x i e (in_modifies x (is_among (modifies_of specs) x) tt (ap (λ (b : Bool). if b then if_modified specs x else passed) (sym (index_global x i e)) ∙ h))
 
   -- ---- calls
 

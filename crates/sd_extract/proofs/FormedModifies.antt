@@ -60,20 +60,18 @@ index_once vs x y i j e f same =
 -- what is said of each mentioned global is said of its number
 pub numbers_have : (vs : List Var) (Q : ℕ → Type 0) (names : List Text) → AllByRecursion (λ x. (i : ℕ) → index_in vs x ≡ Some i → Q i) names → AllByRecursion Q (filter_map (index_in vs) names)
 numbers_have vs Q [] h = tt
-numbers_have vs Q (x ∷ names) h = go (index_in vs x) refl (numbers_have vs Q names h.1)
-  where
-    go : (o : Option ℕ) → index_in vs x ≡ o → AllByRecursion Q (filter_map (index_in vs) names) → AllByRecursion Q (cons_option o (filter_map (index_in vs) names))
-    go None e k = k
-    go (Some i) e k = (h.0 i e, k)
+numbers_have vs Q (x ∷ names) h = elim (index_in vs x) as (λ o. index_in vs x ≡ o → AllByRecursion Q (cons_option o (filter_map (index_in vs) names))) [
+  | None ↦ λ e. numbers_have vs Q names h.1
+  | Some i ↦ λ e. (h.0 i e, numbers_have vs Q names h.1)
+] refl
 
 pub numbers_once : (vs : List Var) (names : List Text) → IsDistinct same_text names → IsDistinct ◌==◌ (filter_map (index_in vs) names)
 unfolding IsDistinct
 numbers_once vs [] h = tt
-numbers_once vs (x ∷ names) h = go (index_in vs x) refl (numbers_once vs names h.1)
-  where
-    go : (o : Option ℕ) → index_in vs x ≡ o → IsDistinct ◌==◌ (filter_map (index_in vs) names) → IsDistinct ◌==◌ (cons_option o (filter_map (index_in vs) names))
-    go None e k = k
-    go (Some i) e k = (numbers_have vs (λ j. (i == j) ≡ false) names (all-weaker (λ y. same_text x y ≡ false) (λ y. (j : ℕ) → index_in vs y ≡ Some j → (i == j) ≡ false) (λ y t j f. ne_eqb i j (λ same. let g = (bytes_decides x y).1 (index_once vs x y i j e f same) in cc)) names h.0), k)
+numbers_once vs (x ∷ names) h = elim (index_in vs x) as (λ o. index_in vs x ≡ o → IsDistinct ◌==◌ (cons_option o (filter_map (index_in vs) names))) [
+  | None ↦ λ e. numbers_once vs names h.1
+  | Some i ↦ λ e. (numbers_have vs (λ j. (i == j) ≡ false) names (all-weaker (λ y. same_text x y ≡ false) (λ y. (j : ℕ) → index_in vs y ≡ Some j → (i == j) ≡ false) (λ y t j f. ne_eqb i j (λ same. let g = (bytes_decides x y).1 (index_once vs x y i j e f same) in cc)) names h.0), numbers_once vs names h.1)
+] refl
 
 -- ---- names that are mentioned
 
@@ -203,8 +201,7 @@ modifies_there vs specs x i e h =
 -- ---- the spot of a global
 
 pub global_spot : (vs : List Var) (x : Text) (q : Spot) → place_in (names_of vs) (globals_from 0 vs) x ≡ Some q → (i : ℕ) × (index_in vs x ≡ Some i) × (q ≡ Global i)
-global_spot vs x q h = go (index_in vs x) (sym (place_in-globals vs 0 x) ∙ h)
-  where
-    go : (o : Option ℕ) → option_map (λ j. Global (0 + j)) o ≡ Some q → (i : ℕ) × (o ≡ Some i) × (q ≡ Global i)
-    go None e = absurd (none-some q e)
-    go (Some i) e = let f : 0 + i ≡ i = omega arith in (i, refl, sym (same_Some (Global (0 + i)) q e) ∙ ap (λ (n : ℕ). Global n) f)
+global_spot vs x q h = elim (index_in vs x) as (λ o. option_map (λ j. Global (0 + j)) o ≡ Some q → (i : ℕ) × (o ≡ Some i) × (q ≡ Global i)) [
+  | None ↦ λ e. absurd (none-some q e)
+  | Some i ↦ λ e. let f : 0 + i ≡ i = omega arith in (i, refl, sym (same_Some (Global (0 + i)) q e) ∙ ap (λ (n : ℕ). Global n) f)
+] (sym (place_in-globals vs 0 x) ∙ h)

@@ -209,11 +209,10 @@ module _ (P : Program) (G : Scope) (typed : IsTyped P G) (global_sorts : AllByRe
       all-append (IsFormed K B) copying (requires ++ (stmts ++ leave S)) copying_formed (all-append (IsFormed K B) requires (stmts ++ leave S) (requires_at B n_ins (body_copies S) first (leave S) body_fits) (all-append (IsFormed K B) stmts (leave S) stmts_formed leave_formed))
 
   known_ins : (g : Text) → AllByRecursion IsSort (sorts_of (ins_of (procedure_in P.decls g)))
-  known_ins g = go (procedure_in P.decls g) refl
-    where
-      go : (o : Option Proc) → procedure_in P.decls g ≡ o → AllByRecursion IsSort (sorts_of (ins_of o))
-      go None e = tt
-      go (Some d) e = (proc_is_fine P G typed g d e).ins
+  known_ins g = elim (procedure_in P.decls g) as (λ o. procedure_in P.decls g ≡ o → AllByRecursion IsSort (sorts_of (ins_of o))) [
+    | None ↦ λ e. tt
+    | Some d ↦ λ e. (proc_is_fine P G typed g d e).ins
+  ] refl
 
   copies_fit : AllByRecursion IsSort (sorts_of (copies_of S))
   copies_fit =

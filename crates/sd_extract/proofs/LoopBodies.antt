@@ -66,11 +66,7 @@ module _ (S : Source) (I : Interpretation) (p : CoreProc) (returns : Bool) (size
 
   module _ (G : HasGlobals (names_of S.globals) R H.names) (far : Spaced S R H left) (outs : out_spots p ≡ H.state ++ left) (ins_long : length ins ≡ length S.routine.head.ins) (copies_long : length copies ≡ length S.copied) where
     left_long : (b : Bool) → length left ≡ length (left_values returns b)
-    left_long b = go returns
-      where
-        go : (r : Bool) → length (left_of S r) ≡ length (left_values r b)
-        go true = refl
-        go false = refl
+    left_long b = elim returns as (λ r. length (left_of S r) ≡ length (left_values r b)) [ true ↦ refl | false ↦ refl ]
 
     -- a run of the loop's procedure that is over with these
     over : (b : Bool) (s : State) (st : Store Value) → TiedIn R H s st → at_all st left ≡ left_values returns b → (state : List Value) × (later : List Value) × (CoreEnded (outs_of p st) st.globals false ≡ CoreEnded (state ++ left_values returns b) later false) × IsState S s ins state copies later × Keeps S.modifies globals later

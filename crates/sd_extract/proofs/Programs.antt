@@ -35,11 +35,10 @@ pub record IsLoopOf (P : Program) (S : Source) (k : ℕ) (loop : StmtKind) : Typ
 
 -- what holds of the source of each routine holds of a source
 pub of_source : (P : Program) (f : Text) (Q : Source → Type 0) → ((r : Routine) → routine_named P f ≡ Some r → Q (source_at P f r)) → (S : Source) → source_named P f ≡ Some S → Q S
-of_source P f Q h S e = go (routine_named P f) h e
-  where
-    go : (o : Option Routine) → ((r : Routine) → o ≡ Some r → Q (source_at P f r)) → option_map (source_of (globals_in P.decls) (number P f)) o ≡ Some S → Q S
-    go None k e = absurd (none-some S e)
-    go (Some r) k e = subst Q (same_Some _ _ e) (k r refl)
+of_source P f Q h S e = elim (routine_named P f) as (λ o. ((r : Routine) → o ≡ Some r → Q (source_at P f r)) → option_map (source_of (globals_in P.decls) (number P f)) o ≡ Some S → Q S) [
+  | None ↦ λ k e. absurd (none-some S e)
+  | Some r ↦ λ k e. subst Q (same_Some _ _ e) (k r refl)
+] h e
 
 module _ (P : Program) (fine : ProgramFine P) where
   abbrev T : Setting
