@@ -1,12 +1,11 @@
 -- Names without repetition.
-use Rattle.std.proofs.Common.{◌≡◌, ◌∙◌, sym, ap, refl, ℕ, ◌+◌, ◌<◌, ◌≤◌, Bool, true, false, cond, List, [], ◌∷◌, ◌++◌, append_assoc, length, drop, get_or, arith}
+use Rattle.std.proofs.Common.{◌≡◌, ◌∙◌, sym, ap, refl, ℕ, ◌≤◌, Bool, true, false, List, [], ◌∷◌, ◌++◌, append_assoc, length, drop, arith}
 use Rattle.std.specs.Prelude.{Option, Some, ◌||◌, if◌then◌else◌}
 use Rattle.std.specs.Option.{is_some}
-use Rattle.std.specs.Cmp.Lexicographic.{nat_list_eq_equiv}
 use Rattle.std.proofs.lemmas.List.{append-nil}
 use Rattle.std.proofs.Math.ListN.{drop_of_length-le}
 use Rattle.std.proofs.lemmas.List.Folds.{list_any-append}
-use Rattle.sd_extract.proofs.SourceWords.{Text, same_text, Spec, Modifies, Requires, Ensures}
+use Rattle.sd_extract.proofs.SourceWords.{Text, same_text, Spec, Modifies}
 use Rattle.sd_extract.proofs.CoreWords.{new_names, modified_names}
 use Rattle.sd_base.proofs.Texts.{same_text-is, same_text-flip}
 use Rattle.sd_extract.specs.Extract.{is_among}

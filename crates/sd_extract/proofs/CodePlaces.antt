@@ -1,9 +1,9 @@
 -- What tables of places tell of the things at these places.
-use Rattle.std.proofs.Common.{◌≡◌, ◌∙◌, sym, ap, refl, ℕ, zero, suc, ◌+◌, ◌<◌, Bool, true, false, cond, List, [], ◌∷◌, length, get_or, drop, arith}
+use Rattle.std.proofs.Common.{◌≡◌, ◌∙◌, sym, ap, refl, ℕ, suc, ◌+◌, ◌<◌, Bool, true, false, cond, List, [], ◌∷◌, length, get_or, drop, arith}
 use Rattle.std.specs.Prelude.{Option, Some, None, slice_get, if◌then◌else◌}
 use Rattle.std.specs.List.{position_from}
 use Rattle.sd_base.proofs.Lists.{drop-at}
-use Rattle.sd_extract.proofs.SourceWords.{Text, same_text, Decl, Procedure, Implementation, procedure_in, implementation_in}
+use Rattle.sd_extract.proofs.SourceWords.{Text, Decl, Procedure, Implementation, procedure_in, implementation_in}
 use Rattle.sd_extract.proofs.CoreWords.{item_at}
 use Rattle.sd_extract.specs.Places.{procedure_of, implementation_of, is_procedure_named, is_implementation_named}
 

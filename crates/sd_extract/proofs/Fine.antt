@@ -1,9 +1,9 @@
 -- What typing gives: assigned variables are kept apart from everything that stays.
-use Rattle.std.proofs.Common.{◌≡◌, ℕ, suc, ◌+◌, ◌≤◌, ◌<◌, List, [], ◌∷◌, ◌++◌, Option, Some, None, refl, sym, ◌∙◌, ap, subst, length, ⊎_elim, arith}
-use Rattle.std.specs.Prelude.{Bool, true, false, ◌⊎◌, option_map, unwrap_or, if◌then◌else◌}
+use Rattle.std.proofs.Common.{◌≡◌, ℕ, suc, ◌+◌, ◌≤◌, ◌<◌, List, [], ◌∷◌, ◌++◌, Option, Some, None, sym, ◌∙◌, ap, subst, length, ⊎_elim, arith}
+use Rattle.std.specs.Prelude.{◌⊎◌, option_map, unwrap_or}
 use Rattle.std.proofs.lemmas.List.{length-map}
-use Rattle.sd_extract.proofs.SourceWords.{Var, Text, same_text, names_of}
-use Rattle.sd_extract.proofs.CoreWords.{Spot, Slot, Global, CoreStmt, slots_from, Names, place_in, either_place, place_of, Source, state_of, names_at, frame_at, globals_from, index_in, spot_of}
+use Rattle.sd_extract.proofs.SourceWords.{Text, names_of}
+use Rattle.sd_extract.proofs.CoreWords.{Spot, Slot, Global, CoreStmt, slots_from, Names, place_in, either_place, place_of, Source, state_of, names_at, frame_at, index_in, spot_of}
 pub use Rattle.sd_extract.specs.Laws.{Among, IsLocal, IsModified, MayAssign}
 use Rattle.sd_extract.proofs.Writes.{Apart, Misses, SetsAt}
 use Rattle.sd_extract.proofs.Agree.{Room, CanSet}

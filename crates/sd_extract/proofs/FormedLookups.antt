@@ -1,9 +1,9 @@
 -- What typing finds by name, extraction and the core find too.
 use Rattle.std.proofs.Common.{◌≡◌, ◌≢◌, List, [], ◌∷◌, ◌++◌, Option, Some, None, refl, sym, ◌∙◌, ap, subst, ⊎_elim, inl, inr}
-use Rattle.std.specs.Prelude.{Bool, true, false, cond, ◌||◌, ◌⊎◌, if◌then◌else◌}
+use Rattle.std.specs.Prelude.{Bool, true, false, ◌||◌, ◌⊎◌, if◌then◌else◌}
 use Rattle.std.specs.List.{AllByRecursion}
 use Rattle.std.specs.Cmp.Lexicographic.{bytes_decides}
-use Rattle.std.proofs.lemmas.Option.{same_Some, none-some}
+use Rattle.std.proofs.lemmas.Option.{none-some}
 use Rattle.sd_extract.proofs.SourceWords.{Sort, Var, Text, same_text, Decl, Const, Function, Globals, Procedure, Implementation, Proc, Impl, Body, procedure_in, implementation_in, globals_in, Variable, Signature, Callee, Nature, is_among}
 use Rattle.sd_extract.proofs.SourceWords.{named, variables_as, constants_of, callee_of}
 use Rattle.sd_extract.proofs.CoreWords.{CoreFunction, declared_as, constants_named, functions_in}

@@ -8,7 +8,7 @@ use Rattle.std.proofs.lemmas.List.{map-append}
 use Rattle.std.proofs.lemmas.Option.{none-some}
 use Rattle.std.proofs.lemmas.List.Elements.{filter-append}
 use Rattle.sd_extract.proofs.SourceWords.{Sort, BoolSort, Var, Text, same_text, Decl, Const, Function, Axiom, Globals, Procedure, Program, StmtKind, If', While', Row_of-Stmt, end_of-Stmt, more_of-Stmt, Routine, routine_named, globals_in}
-use Rattle.sd_extract.proofs.SourceWords.{uniques_in, Variable, Signature, Nature, Scope, named, context, may_name, known_sort, variables_as, constants_of, callee_of, known_sorts, decl_rule}
+use Rattle.sd_extract.proofs.SourceWords.{uniques_in, Variable, Signature, Nature, Scope, named, context, may_name, known_sort, variables_as, constants_of, known_sorts, decl_rule}
 use Rattle.sd_extract.proofs.CoreWords.{CoreFunction, CoreProc, CoreProgram, sorts_of, names_of, IsSort, IsProc, HasCoreType, place_of, at_place, Source, counts, counts_all, kinds, loops_in, all_loops_in, each_loop_in, source_of, size_of}
 use Rattle.sd_extract.proofs.CoreWords.{number_from, routine_procs, procs_from, constants_named, functions_in, axioms_in, no_names, core_axiom, core_program, ExtractedIsFormed}
 use Rattle.sd_base.proofs.Lists.{all-append, all-back}
