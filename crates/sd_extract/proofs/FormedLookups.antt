@@ -8,8 +8,8 @@ use Rattle.sd_extract.proofs.SourceWords.{Sort, Var, Text, same_text, Decl, Cons
 use Rattle.sd_extract.proofs.SourceWords.{named, variables_as, constants_of, callee_of}
 use Rattle.sd_extract.proofs.CoreWords.{CoreFunction, declared_as, constants_named, functions_in}
 use Rattle.sd_types.specs.declared.scope.Nature.TheVariants as nature
-use Rattle.sd_extract.proofs.Searches.{first_or_later, none_later, same_front}
-use Rattle.sd_extract.proofs.FormedTables.{OnceEach, global_entries, function_entries, procedure_entries, if_body, body_names}
+use Rattle.sd_extract.proofs.Searches.{first_or_later, same_front}
+use Rattle.sd_extract.proofs.FormedTables.{OnceEach, none_append, once_append, global_entries, function_entries, procedure_entries, if_body, body_names}
 
 -- ---- functions and constants
 
@@ -78,46 +78,30 @@ past_constants s [] es x v other h = h
 past_constants s (c ∷ names) es x v other h =
     first_or_later (same_text x c) _ _ _ h (λ _ k. absurd (other (ap (λ (w : Variable). w.nature) k))) (λ _. past_constants s names es x v other)
 
-variables_prefix : (n : Nature) (vs ws : List Var) (es : List (Text × Variable)) (x : Text) (v : Variable) → named (variables_as n vs ++ es) x ≡ Some v → (named es x ≡ Some v → named (variables_as n ws) x ≡ Some v) → named (variables_as n (vs ++ ws)) x ≡ Some v
-variables_prefix n [] ws es x v h rest = rest h
-variables_prefix n (y ∷ vs) ws es x v h rest = same_front (same_text x y.name) _ _ _ _ h (λ k. variables_prefix n vs ws es x v k rest)
+pub variables_prefix : (n : Nature) (vs ws : List Var) (es : List (Text × Variable)) (x : Text) (o : Option Variable) → named (variables_as n vs ++ es) x ≡ o → (named es x ≡ o → named (variables_as n ws) x ≡ o) → named (variables_as n (vs ++ ws)) x ≡ o
+variables_prefix n [] ws es x o h rest = rest h
+variables_prefix n (y ∷ vs) ws es x o h rest = same_front (same_text x y.name) _ _ _ _ h (λ k. variables_prefix n vs ws es x o k rest)
 
 pub global_found : (ds : List Decl) (x : Text) (v : Variable) → named (global_entries ds) x ≡ Some v → v.nature ≡ nature.Global → named (globals_as ds) x ≡ Some v
 global_found [] x v h n = h
 global_found (Const u xs s ∷ ds) x v h n =
     global_found ds x v (past_constants s xs (global_entries ds) x v (not_constant v n) h) n
 global_found (Globals vs ∷ ds) x v h n =
-    variables_prefix nature.Global vs (globals_in ds) (global_entries ds) x v h (λ k. global_found ds x v k n)
+    variables_prefix nature.Global vs (globals_in ds) (global_entries ds) x (Some v) h (λ k. global_found ds x v k n)
 global_found (_ ∷ ds) x v h n = global_found ds x v h n
-
-none_past_constants : (s : Sort) (names : List Text) (es : List (Text × Variable)) (x : Text) → named (constants_of s names ++ es) x ≡ None → named es x ≡ None
-none_past_constants s [] es x h = h
-none_past_constants s (c ∷ names) es x h = none_past_constants s names es x (none_later (same_text x c) _ _ h).1
-
-pub none_prefix : (n : Nature) (vs ws : List Var) (es : List (Text × Variable)) (x : Text) → named (variables_as n vs ++ es) x ≡ None → (named es x ≡ None → named (variables_as n ws) x ≡ None) → named (variables_as n (vs ++ ws)) x ≡ None
-none_prefix n [] ws es x h rest = rest h
-none_prefix n (y ∷ vs) ws es x h rest = same_front (same_text x y.name) _ _ _ _ h (λ k. none_prefix n vs ws es x k rest)
 
 -- what isn't declared is no global
 pub no_global : (ds : List Decl) (x : Text) → named (global_entries ds) x ≡ None → named (globals_as ds) x ≡ None
 no_global [] x h = h
-no_global (Const u xs s ∷ ds) x h = no_global ds x (none_past_constants s xs (global_entries ds) x h)
-no_global (Globals vs ∷ ds) x h = none_prefix nature.Global vs (globals_in ds) (global_entries ds) x h (no_global ds x)
+no_global (Const u xs s ∷ ds) x h = no_global ds x (none_append (constants_of s xs) (global_entries ds) x h).1
+no_global (Globals vs ∷ ds) x h = variables_prefix nature.Global vs (globals_in ds) (global_entries ds) x None h (no_global ds x)
 no_global (_ ∷ ds) x h = no_global ds x h
-
-pub once_past_constants : (s : Sort) (names : List Text) (es : List (Text × Variable)) → OnceEach (constants_of s names ++ es) → OnceEach es
-once_past_constants s [] es h = h
-once_past_constants s (c ∷ names) es h = once_past_constants s names es h.1
-
-pub once_past_variables : (n : Nature) (vs : List Var) (es : List (Text × Variable)) → OnceEach (variables_as n vs ++ es) → OnceEach es
-once_past_variables n [] es h = h
-once_past_variables n (v ∷ vs) es h = once_past_variables n vs es h.1
 
 among_constants : (s : Sort) (names : List Text) (es fs : List (Text × Variable)) (x : Text) (v : Variable) → OnceEach (constants_of s names ++ es) → named (constants_of s names ++ es) x ≡ Some v → (named es x ≡ None → named fs x ≡ None) → (named es x ≡ Some v → named fs x ≡ None) → named fs x ≡ None
 among_constants s [] es fs x v once h absent rest = rest h
 among_constants s (c ∷ names) es fs x v once h absent rest =
     first_or_later (same_text x c) _ _ _ h
-    (λ e _. absent (none_past_constants s names es x (subst (λ (y : Text). named (constants_of s names ++ es) y ≡ None) (sym ((bytes_decides x c).0 e)) once.0)))
+    (λ e _. absent (none_append (constants_of s names) es x (subst (λ (y : Text). named (constants_of s names ++ es) y ≡ None) (sym ((bytes_decides x c).0 e)) once.0)).1)
     (λ _ k. among_constants s names es fs x v once.1 k absent rest)
 
 past_globals : (n : Nature) (vs ws : List Var) (es : List (Text × Variable)) (x : Text) (v : Variable) → n ≢ v.nature → named (variables_as n vs ++ es) x ≡ Some v → (named es x ≡ Some v → named (variables_as n ws) x ≡ None) → named (variables_as n (vs ++ ws)) x ≡ None
@@ -129,9 +113,9 @@ past_globals n (y ∷ vs) ws es x v other h rest =
 pub constant_no_global : (ds : List Decl) (x : Text) (v : Variable) → OnceEach (global_entries ds) → named (global_entries ds) x ≡ Some v → v.nature ≡ nature.Constant → named (globals_as ds) x ≡ None
 constant_no_global [] x v once h n = refl
 constant_no_global (Const u xs s ∷ ds) x v once h n =
-    among_constants s xs (global_entries ds) (globals_as ds) x v once h (no_global ds x) (λ k. constant_no_global ds x v (once_past_constants s xs (global_entries ds) once) k n)
+    among_constants s xs (global_entries ds) (globals_as ds) x v once h (no_global ds x) (λ k. constant_no_global ds x v (once_append (constants_of s xs) (global_entries ds) once) k n)
 constant_no_global (Globals vs ∷ ds) x v once h n =
-    past_globals nature.Global vs (globals_in ds) (global_entries ds) x v (not_global v n) h (λ k. constant_no_global ds x v (once_past_variables nature.Global vs (global_entries ds) once) k n)
+    past_globals nature.Global vs (globals_in ds) (global_entries ds) x v (not_global v n) h (λ k. constant_no_global ds x v (once_append (variables_as nature.Global vs) (global_entries ds) once) k n)
 constant_no_global (_ ∷ ds) x v once h n = constant_no_global ds x v once h n
 
 -- what is declared is a global or a constant

@@ -13,7 +13,7 @@ use Rattle.sd_types.specs.declared.scope.Site.TheVariants as site
 use Rattle.sd_types.specs.Scopes.{has_old}
 use Rattle.sd_extract.proofs.Searches.{first_or_later, none_later, same_front}
 use Rattle.sd_extract.proofs.FormedExpressions.{Reads, Sees}
-use Rattle.sd_extract.proofs.FormedTables.{OnceEach, global_entries, function_entries}
+use Rattle.sd_extract.proofs.FormedTables.{OnceEach, none_append, global_entries, function_entries}
 use Rattle.sd_extract.proofs.FormedLookups.{function_found, constant_found, globals_as, global_found, constant_no_global, is_outer}
 
 -- ---- tables of variables and lists of names with their spots
@@ -269,7 +269,7 @@ module _ (P : Program) (G : Scope) (scope : IsScope P G) where
       let laid = laid_vars T nature.Input d.head.ins spots h in
       record {
         found = λ x v e m. laid_found T ins (names_of d.head.ins) spots x v laid (not_out d.head.ins x v e m);
-        absent = λ x e. laid_none T ins (names_of d.head.ins) spots x laid (none_first ins outs x e);
+        absent = λ x e. laid_none T ins (names_of d.head.ins) spots x laid (none_append ins outs x e).0;
         sorts = all-append (λ e. IsSort e.1.sort) ins outs (sorts_as nature.Input d.head.ins known_ins) (sorts_as nature.Output d.head.outs known_outs);
       }
     where
@@ -284,7 +284,3 @@ module _ (P : Program) (G : Scope) (scope : IsScope P G) where
       not_out : (vs : List Var) (x : Text) (v : Variable) → named (variables_as nature.Input vs ++ variables_as nature.Output d.head.outs) x ≡ Some v → may_name site.Requires v.nature ≡ true → named (variables_as nature.Input vs) x ≡ Some v
       not_out [] x v e m = absurd (out_no d.head.outs x v e m)
       not_out (y ∷ vs) x v e m = same_front (same_text x y.name) _ _ _ _ e (λ k. not_out vs x v k m)
-
-      none_first : (es fs : List (Text × Variable)) (x : Text) → named (es ++ fs) x ≡ None → named es x ≡ None
-      none_first [] fs x e = refl
-      none_first (f ∷ es) fs x e = same_front (same_text x f.0) _ _ _ _ e (none_first es fs x)

@@ -20,8 +20,8 @@ use Rattle.sd_types.proofs.TypingLemmas.{parts}
 use Rattle.sd_core.specs.Formed.{no_state, functions_as, roots, IsConstant, IsSignature, WellFormed}
 use Rattle.sd_extract.proofs.Searches.{none_later, same_front}
 use Rattle.sd_extract.proofs.FormedExpressions.{Sees, core_typed}
-use Rattle.sd_extract.proofs.FormedTables.{keys, OnceEach, entries_distinct, global_entries, function_entries, procedure_entries}
-use Rattle.sd_extract.proofs.FormedLookups.{function_found, constant_found, globals_as, no_global, none_prefix, once_past_constants, once_past_variables, is_outer}
+use Rattle.sd_extract.proofs.FormedTables.{none_append, once_append, keys, OnceEach, entries_distinct, global_entries, function_entries, procedure_entries}
+use Rattle.sd_extract.proofs.FormedLookups.{function_found, constant_found, globals_as, no_global, variables_prefix, is_outer}
 use Rattle.sd_extract.proofs.FormedPlaces.{IsScope, named_has, if_named-some, variable_sort, outer_named}
 use Rattle.sd_extract.proofs.FormedDeclarations.{known_fit, sorts_fit, vars_fit, IsTyped, is_typed, is_scope, procedures_once, truth_typed, routine_fine}
 use Rattle.sd_extract.proofs.FormedNumbers.{each_at, all_procs}
@@ -41,11 +41,11 @@ once_distinct (e ∷ es) h = (absent_keys es e.0 h.0, once_distinct es h.1)
 once_variables : (n : Nature) (vs ws : List Var) (es : List (Text × Variable)) → OnceEach (variables_as n vs ++ es) → ((x : Text) → named es x ≡ None → named (variables_as n ws) x ≡ None) → (OnceEach es → OnceEach (variables_as n ws)) → OnceEach (variables_as n (vs ++ ws))
 once_variables n [] ws es h absent rest = rest h
 once_variables n (y ∷ vs) ws es h absent rest =
-    (none_prefix n vs ws es y.name h.0 (absent y.name), once_variables n vs ws es h.1 absent rest)
+    (variables_prefix n vs ws es y.name None h.0 (absent y.name), once_variables n vs ws es h.1 absent rest)
 
 globals_once : (ds : List Decl) → OnceEach (global_entries ds) → OnceEach (globals_as ds)
 globals_once [] h = tt
-globals_once (Const u xs s ∷ ds) h = globals_once ds (once_past_constants s xs (global_entries ds) h)
+globals_once (Const u xs s ∷ ds) h = globals_once ds (once_append (constants_of s xs) (global_entries ds) h)
 globals_once (Globals vs ∷ ds) h = once_variables nature.Global vs (globals_in ds) (global_entries ds) h (no_global ds) (globals_once ds)
 globals_once (_ ∷ ds) h = globals_once ds h
 
@@ -80,29 +80,25 @@ constant_keys [] = refl
 constant_keys (Const u xs s ∷ ds) = constant_names s xs (functions_in ds) (constants_in ds) (constant_keys ds)
 constant_keys (_ ∷ ds) = constant_keys ds
 
-absent_constants : (s : Sort) (names : List Text) (es fs : List (Text × Variable)) (x : Text) → named (constants_of s names ++ es) x ≡ None → (named es x ≡ None → named fs x ≡ None) → named (constants_of s names ++ fs) x ≡ None
-absent_constants s [] es fs x h rest = rest h
-absent_constants s (c ∷ names) es fs x h rest = same_front (same_text x c) _ _ _ _ h (λ k. absent_constants s names es fs x k rest)
-
-past_variables : (n : Nature) (vs : List Var) (es : List (Text × Variable)) (x : Text) → named (variables_as n vs ++ es) x ≡ None → named es x ≡ None
-past_variables n [] es x h = h
-past_variables n (y ∷ vs) es x h = past_variables n vs es x (none_later (same_text x y.name) _ _ h).1
+same_front_table : {X : Type 0} (ds es fs : List (Text × X)) (x : Text) (o : Option X) → named (ds ++ es) x ≡ o → (named es x ≡ o → named fs x ≡ o) → named (ds ++ fs) x ≡ o
+same_front_table [] es fs x o h more = more h
+same_front_table (d ∷ ds) es fs x o h more = same_front (same_text x d.0) _ _ _ _ h (λ k. same_front_table ds es fs x o k more)
 
 no_constant : (ds : List Decl) (x : Text) → named (global_entries ds) x ≡ None → named (constants_in ds) x ≡ None
 no_constant [] x h = h
-no_constant (Const u xs s ∷ ds) x h = absent_constants s xs (global_entries ds) (constants_in ds) x h (no_constant ds x)
-no_constant (Globals vs ∷ ds) x h = no_constant ds x (past_variables nature.Global vs (global_entries ds) x h)
+no_constant (Const u xs s ∷ ds) x h = same_front_table (constants_of s xs) (global_entries ds) (constants_in ds) x None h (no_constant ds x)
+no_constant (Globals vs ∷ ds) x h = no_constant ds x (none_append (variables_as nature.Global vs) (global_entries ds) x h).1
 no_constant (_ ∷ ds) x h = no_constant ds x h
 
 once_constants : (s : Sort) (names : List Text) (es fs : List (Text × Variable)) → OnceEach (constants_of s names ++ es) → ((x : Text) → named es x ≡ None → named fs x ≡ None) → (OnceEach es → OnceEach fs) → OnceEach (constants_of s names ++ fs)
 once_constants s [] es fs h absent rest = rest h
 once_constants s (c ∷ names) es fs h absent rest =
-    (absent_constants s names es fs c h.0 (absent c), once_constants s names es fs h.1 absent rest)
+    (same_front_table (constants_of s names) es fs c None h.0 (absent c), once_constants s names es fs h.1 absent rest)
 
 constants_once : (ds : List Decl) → OnceEach (global_entries ds) → OnceEach (constants_in ds)
 constants_once [] h = tt
 constants_once (Const u xs s ∷ ds) h = once_constants s xs (global_entries ds) (constants_in ds) h (no_constant ds) (constants_once ds)
-constants_once (Globals vs ∷ ds) h = constants_once ds (once_past_variables nature.Global vs (global_entries ds) h)
+constants_once (Globals vs ∷ ds) h = constants_once ds (once_append (variables_as nature.Global vs) (global_entries ds) h)
 constants_once (_ ∷ ds) h = constants_once ds h
 
 -- ---- types

@@ -12,6 +12,7 @@ use Rattle.sd_types.specs.Tables.{with_entry, with_entries}
 use Rattle.sd_types.specs.Declarations.{with_body, enter_procedure, enter_implementation, enter, enter_all}
 use Rattle.sd_types.proofs.TypingLemmas.{parts, ok_is}
 use Rattle.sd_extract.proofs.FormedChecks.{distinct_new}
+use Rattle.sd_extract.proofs.Searches.{none_later}
 
 -- ---- tables
 
@@ -22,6 +23,15 @@ keys = map (λ e. e.0)
 abbrev pub OnceEach : {X : Type 0} → List (Text × X) → Type 0
 OnceEach [] = Unit {0}
 OnceEach (e ∷ es) = (named es e.0 ≡ None) × OnceEach es
+
+-- a name that is in neither of two tables
+pub none_append : {X : Type 0} (es fs : List (Text × X)) (x : Text) → named (es ++ fs) x ≡ None → (named es x ≡ None) × (named fs x ≡ None)
+none_append [] fs x h = (refl, h)
+none_append (e ∷ es) fs x h = let n = none_later (same_text x e.0) _ _ h in let r = none_append es fs x n.1 in (rw n.0 r.0, r.1)
+
+pub once_append : {X : Type 0} (es fs : List (Text × X)) → OnceEach (es ++ fs) → OnceEach fs
+once_append [] fs h = h
+once_append (e ∷ es) fs h = once_append es fs h.1
 
 named_among : {X : Type 0} (es : List (Text × X)) (x : Text) → is_some (named es x) ≡ is_among (keys es) x
 named_among [] x = refl
