@@ -7,9 +7,9 @@ use Rattle.std.specs.Cmp.Lexicographic.{bytes_decides}
 use Rattle.std.proofs.lemmas.List.{map-append}
 use Rattle.std.proofs.lemmas.Option.{none-some}
 use Rattle.std.proofs.lemmas.List.Elements.{filter-append}
-use Rattle.sd_extract.proofs.SourceWords.{Sort, BoolSort, Var, Text, same_text, Decl, Const, Function, Axiom, Globals, Procedure, Program, StmtKind, If', While', Row_of-Stmt, end_of-Stmt, more_of-Stmt, Routine, routine_named, globals_in}
+use Rattle.sd_extract.proofs.SourceWords.{Sort, BoolSort, Var, Text, same_text, Decl, Const, Function, Axiom, Globals, Procedure, Program, Routine, routine_named, globals_in}
 use Rattle.sd_extract.proofs.SourceWords.{uniques_in, Variable, Signature, Nature, Scope, named, context, may_name, known_sort, variables_as, constants_of, known_sorts, decl_rule}
-use Rattle.sd_extract.proofs.CoreWords.{CoreFunction, CoreProc, CoreProgram, sorts_of, names_of, IsSort, IsProc, HasCoreType, place_of, at_place, Source, counts, counts_all, kinds, loops_in, all_loops_in, each_loop_in, source_of, size_of}
+use Rattle.sd_extract.proofs.CoreWords.{CoreFunction, CoreProc, CoreProgram, sorts_of, names_of, IsSort, IsProc, HasCoreType, place_of, at_place, kinds, source_of, size_of}
 use Rattle.sd_extract.proofs.CoreWords.{number_from, routine_procs, procs_from, constants_named, functions_in, axioms_in, no_names, core_axiom, core_program, ExtractedIsFormed}
 use Rattle.sd_base.proofs.Lists.{all-append, all-back}
 use Rattle.sd_base.proofs.Texts.{same_text-refl}
@@ -26,6 +26,8 @@ use Rattle.sd_extract.proofs.FormedPlaces.{IsScope, named_has, if_named-some, va
 use Rattle.sd_extract.proofs.FormedDeclarations.{known_fit, sorts_fit, vars_fit, IsTyped, is_typed, is_scope, procedures_once, truth_typed, routine_fine}
 use Rattle.sd_extract.proofs.FormedNumbers.{each_at, all_procs}
 use Rattle.sd_extract.proofs.FormedProcedures.{routine_procs_formed}
+use Rattle.sd_extract.proofs.Parts.{each_loop_has}
+use Rattle.std.specs.List.{filter}
 
 -- ---- names stand once
 
@@ -200,22 +202,9 @@ module _ (P : Program) (G : Scope) (typed : IsTyped P G) where
 
   -- ---- names of procedures
 
-  mutual
-    loops_no_roots : (S : Source) (n : ℕ) (s : StmtKind) → roots (loops_in P (number_from P 0 P.decls) S n s) ≡ []
-    loops_no_roots S n (While' e invs shape body) = all_loops_no_roots S (suc n) body
-    loops_no_roots S n (If' e shape x shape' y) =
-        filter-append (λ p. is_none p.parent) (all_loops_in P (number_from P 0 P.decls) S n x) (all_loops_in P (number_from P 0 P.decls) S (n + (counts_all x).loops) y) ∙ (λ i. all_loops_no_roots S n x i ++ all_loops_no_roots S (n + (counts_all x).loops) y i)
-    loops_no_roots S n _ = refl
-
-    all_loops_no_roots : (S : Source) (n : ℕ) {m : _} (ss : Row_of-Stmt m) → roots (all_loops_in P (number_from P 0 P.decls) S n ss) ≡ []
-    all_loops_no_roots S n end_of-Stmt = refl
-    all_loops_no_roots S n (more_of-Stmt p s ss) =
-        filter-append (λ p. is_none p.parent) (loops_in P (number_from P 0 P.decls) S n s) (all_loops_in P (number_from P 0 P.decls) S (n + (counts s).loops) ss) ∙ (λ i. loops_no_roots S n s i ++ all_loops_no_roots S (n + (counts s).loops) ss i)
-
-  each_loop_no_roots : (S : Source) (n : ℕ) (ss : List StmtKind) → roots (each_loop_in P (number_from P 0 P.decls) S n ss) ≡ []
-  each_loop_no_roots S n [] = refl
-  each_loop_no_roots S n (s ∷ ss) =
-      filter-append (λ p. is_none p.parent) (loops_in P (number_from P 0 P.decls) S n s) (each_loop_in P (number_from P 0 P.decls) S (n + (counts s).loops) ss) ∙ (λ i. loops_no_roots S n s i ++ each_loop_no_roots S (n + (counts s).loops) ss i)
+  none_kept : {A : Type 0} (test : A → Bool) (xs : List A) → AllByRecursion (λ x. test x ≡ false) xs → filter test xs ≡ []
+  none_kept test [] h = refl
+  none_kept test (x ∷ xs) h = rw h.0 (none_kept test xs h.1)
 
   abbrev name_if : Option Routine → List Text
   name_if None = []
@@ -233,7 +222,7 @@ module _ (P : Program) (G : Scope) (typed : IsTyped P G) where
   routine_roots n None = refl
   routine_roots n (Some r) =
       let S = source_of (globals_in P.decls) n r in
-      ap (λ (ps : List CoreProc). r.head.name ∷ names ps) (each_loop_no_roots S (suc S.number) (kinds S))
+      ap (λ (ps : List CoreProc). r.head.name ∷ names ps) (none_kept (λ p. is_none p.parent) _ (each_loop_has P (number_from P 0 P.decls) S (λ p. is_none p.parent ≡ false) (λ k guard invs returns turn. refl) (suc S.number) (kinds S)))
 
   all_root_names : (ds : List Decl) (n : ℕ) → names (roots (procs_from P n ds)) ≡ root_names ds
   all_root_names [] n = refl

@@ -1,6 +1,7 @@
 pub mod SourceWords
 pub mod CoreWords
 pub mod Searches
+pub mod Parts
 pub mod Expressions
 pub mod Writes
 pub mod Statements

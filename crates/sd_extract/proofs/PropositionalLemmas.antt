@@ -5,8 +5,8 @@ use Rattle.sd_extract.proofs.SourceWords.{Text, BinOp, UnOp, Expr, Left, ExprKin
 use Rattle.sd_extract.proofs.SourceWords.{Program, OldOf, UnaryOf, BinaryOf, SelectOf, StoreOf, Clause}
 use Rattle.sd_extract.proofs.CoreWords.{Spot, CoreOp, CoreExpr, Apply, Op, Row_of-CoreExpr, end_of-CoreExpr, more_of-CoreExpr, items-the_row-CoreExpr, items_hidden-the_row-CoreExpr-0, hidden-the_row-CoreExpr-0, CoreStmt, If}
 use Rattle.sd_extract.proofs.CoreWords.{Row_of-CoreStmt, end_of-CoreStmt, more_of-CoreStmt, items-the_row-CoreStmt, items_hidden-the_row-CoreStmt-0, hidden-the_row-CoreStmt-0, CoreProc, Names, at_place, place_of, unary_of, binary_of}
-use Rattle.sd_extract.proofs.CoreWords.{negated, both, core_of, cores_of, Counts, Frame, Source, plus, counts, counts_all, put, checked, check, assume, stored, all_stored, cores, extracted, all_extracted, each_extracted, args_in}
-use Rattle.sd_extract.proofs.CoreWords.{all_args_in, each_args_in, lefts_in, all_lefts_in, each_left_in, hidden, loops_in, all_loops_in, each_loop_in, AreTruths, IsPropositional}
+use Rattle.sd_extract.proofs.CoreWords.{negated, both, core_of, cores_of, Counts, Frame, Source, plus, counts, counts_all, put, checked, check, assume, stored, all_stored, cores, extracted, all_extracted, each_extracted}
+use Rattle.sd_extract.proofs.CoreWords.{loops_in, all_loops_in, each_loop_in, IsPropositional}
 use Rattle.sd_base.proofs.Lists.{all-append}
 use Rattle.sd_ast.specs.declared.tree.BinOp.TheVariants as bin
 use Rattle.sd_ast.specs.declared.tree.UnOp.TheVariants as un
@@ -151,47 +151,7 @@ module _ (P : Program) (number : Text → ℕ) (F : Frame) (leave : AllPropositi
   each_extracted-propositional at (k ∷ ks) h =
       all-append propositional.IsPropositional (extracted P number F at k) (each_extracted P number F (plus at (counts k)) ks) (extracted-propositional at k h.0) (each_extracted-propositional (plus at (counts k)) ks h.1)
 
--- ---- hidden locals and loops: there are none
-
-module _ (P : Program) where
-  mutual
-    args-none : (at : Counts) (k : StmtKind) → IsPropositional k → AreTruths (args_in P at k)
-    args-none at (Call xs f es) h = absurd h
-    args-none at (If' e shape a shape' b) h =
-        all-append _ (all_args_in P at a) (all_args_in P (plus at (counts_all a)) b) (row_args-none at a h.1) (row_args-none (plus at (counts_all a)) b h.2)
-    args-none at (While' e invs shape body) h = absurd h
-    args-none at _ h = tt
-
-    row_args-none : (at : Counts) {m : _} (r : Row_of-Stmt m) → ArePropositional r → AreTruths (all_args_in P at r)
-    row_args-none at end_of-Stmt h = tt
-    row_args-none at (more_of-Stmt p k ks) h =
-        all-append _ (args_in P at k) (all_args_in P (plus at (counts k)) ks) (args-none at k h.0) (row_args-none (plus at (counts k)) ks h.1)
-
-  each_args-none : (at : Counts) (ks : List StmtKind) → AllByRecursion IsPropositional ks → AreTruths (each_args_in P at ks)
-  each_args-none at [] h = tt
-  each_args-none at (k ∷ ks) h =
-      all-append _ (args_in P at k) (each_args_in P (plus at (counts k)) ks) (args-none at k h.0) (each_args-none (plus at (counts k)) ks h.1)
-
-  mutual
-    lefts-none : (at : Counts) (k : StmtKind) → IsPropositional k → AreTruths (lefts_in at k)
-    lefts-none at (Call xs f es) h = absurd h
-    lefts-none at (If' e shape a shape' b) h =
-        all-append _ (all_lefts_in at a) (all_lefts_in (plus at (counts_all a)) b) (row_lefts-none at a h.1) (row_lefts-none (plus at (counts_all a)) b h.2)
-    lefts-none at (While' e invs shape body) h = absurd h
-    lefts-none at _ h = tt
-
-    row_lefts-none : (at : Counts) {m : _} (r : Row_of-Stmt m) → ArePropositional r → AreTruths (all_lefts_in at r)
-    row_lefts-none at end_of-Stmt h = tt
-    row_lefts-none at (more_of-Stmt p k ks) h =
-        all-append _ (lefts_in at k) (all_lefts_in (plus at (counts k)) ks) (lefts-none at k h.0) (row_lefts-none (plus at (counts k)) ks h.1)
-
-  each_lefts-none : (at : Counts) (ks : List StmtKind) → AllByRecursion IsPropositional ks → AreTruths (each_left_in at ks)
-  each_lefts-none at [] h = tt
-  each_lefts-none at (k ∷ ks) h =
-      all-append _ (lefts_in at k) (each_left_in (plus at (counts k)) ks) (lefts-none at k h.0) (each_lefts-none (plus at (counts k)) ks h.1)
-
-  pub hidden-truths : (at : Counts) (ks : List StmtKind) → AllByRecursion IsPropositional ks → AreTruths (hidden P at ks)
-  hidden-truths at ks h = all-append _ (each_args_in P at ks) (each_left_in at ks) (each_args-none at ks h) (each_lefts-none at ks h)
+-- ---- loops: there are none
 
 module _ (P : Program) (number : Text → ℕ) (S : Source) (Q : CoreProc → Type 0) where
   mutual

@@ -4,50 +4,16 @@ use Rattle.std.specs.Prelude.{slice_get, if◌then◌else◌}
 use Rattle.std.specs.Cmp.Lexicographic.{bytes_decides}
 use Rattle.std.proofs.lemmas.Option.{none-some, same_Some}
 use Rattle.std.proofs.lemmas.Bool.{false_from_ne_true}
-use Rattle.sd_extract.proofs.SourceWords.{Text, same_text, Decl, Procedure, Program, Proc, StmtKind, If', While', Row_of-Stmt, end_of-Stmt, more_of-Stmt, Routine, procedure_in, routine_named, globals_in, named, callee_of, WellTyped}
-use Rattle.sd_extract.proofs.CoreWords.{CoreProc, counts, counts_all, Source, kinds, loops_in, all_loops_in, each_loop_in, source_of, size_of, number_from, routine_procs, procs_from, number_of}
+use Rattle.sd_extract.proofs.SourceWords.{Text, same_text, Decl, Procedure, Program, Proc, Routine, procedure_in, routine_named, globals_in, named, callee_of, WellTyped}
+use Rattle.sd_extract.proofs.CoreWords.{CoreProc, kinds, each_loop_in, source_of, size_of, number_from, routine_procs, procs_from, number_of}
 use Rattle.sd_extract.specs.Laws.{RootsAreProcedures}
 use Rattle.sd_extract.proofs.FormedTables.{OnceEach, procedure_entries}
 use Rattle.sd_extract.proofs.FormedLookups.{procedure_named}
 use Rattle.sd_extract.proofs.FormedDeclarations.{is_typed, procedures_once}
 use Rattle.sd_extract.proofs.LawLemmas.{name_kept}
 use Rattle.sd_extract.proofs.FormedNumbers.{routine_length}
-
--- ---- loops have a parent
-
-abbrev AreLoops : List CoreProc → Type 0
-AreLoops [] = Unit {0}
-AreLoops (p ∷ ps) = (is_some p.parent ≡ true) × AreLoops ps
-
-loops_append : (ps qs : List CoreProc) → AreLoops ps → AreLoops qs → AreLoops (ps ++ qs)
-loops_append [] qs a b = b
-loops_append (p ∷ ps) qs a b = (a.0, loops_append ps qs a.1 b)
-
-loop_at : (ps : List CoreProc) (i : ℕ) (p : CoreProc) → AreLoops ps → slice_get ps i ≡ Some p → is_some p.parent ≡ true
-loop_at [] i p a e = absurd (cc)
-loop_at (q ∷ ps) zero p a e = ap (λ (x : CoreProc). is_some x.parent) (sym (same_Some _ _ e)) ∙ a.0
-loop_at (q ∷ ps) (suc i) p a e = loop_at ps i p a.1 e
-
-module _ (P : Program) (number : Text → ℕ) (S : Source) where
-  mutual
-    are_loops : (n : ℕ) (s : StmtKind) → AreLoops (loops_in P number S n s)
-    are_loops n (While' e invs shape body) = (refl, all_are_loops (suc n) body)
-    are_loops n (If' e shape x shape' y) =
-        let m = n + (counts_all x).loops in
-        loops_append (all_loops_in P number S n x) (all_loops_in P number S m y) (all_are_loops n x) (all_are_loops m y)
-    are_loops n _ = tt
-
-    all_are_loops : (n : ℕ) {m : _} (ss : Row_of-Stmt m) → AreLoops (all_loops_in P number S n ss)
-    all_are_loops n end_of-Stmt = tt
-    all_are_loops n (more_of-Stmt p s ss) =
-        let m = n + (counts s).loops in
-        loops_append (loops_in P number S n s) (all_loops_in P number S m ss) (are_loops n s) (all_are_loops m ss)
-
-  each_is_loop : (n : ℕ) (ss : List StmtKind) → AreLoops (each_loop_in P number S n ss)
-  each_is_loop n [] = tt
-  each_is_loop n (s ∷ ss) =
-      let m = n + (counts s).loops in
-      loops_append (loops_in P number S n s) (each_loop_in P number S m ss) (are_loops n s) (each_is_loop m ss)
+use Rattle.sd_base.proofs.Lists.{all-at}
+use Rattle.sd_extract.proofs.Parts.{each_loop_has}
 
 -- ---- where a procedure without a parent stands
 
@@ -81,7 +47,7 @@ module _ (P : Program) (w : WellTyped P) where
   first_is n f (Some r) (suc i) p e g root =
       let S = source_of (globals_in P.decls) n r in
       let number = number_from P 0 P.decls in
-      let loop = loop_at (each_loop_in P number S (suc n) (kinds S)) i p (each_is_loop P number S (suc n) (kinds S)) g in
+      let loop = all-at (λ (q : CoreProc). is_some q.parent ≡ true) (each_loop_in P number S (suc n) (kinds S)) i p (each_loop_has P number S (λ q. is_some q.parent ≡ true) (λ k guard invs returns turn. refl) (suc n) (kinds S)) g in
       let none = ap is_some root in
       absurd (cc)
 
