@@ -14,8 +14,7 @@ use Rattle.sd_types.specs.declared.refusal.TypeError.TheVariants.{Kind}
 use Rattle.sd_types.specs.declared.scope.Nature.TheVariants as nature
 use Rattle.sd_types.specs.declared.scope.Site.TheVariants as site
 use Rattle.sd_types.specs.Answer.{each}
-use Rattle.sd_types.specs.Phrases.{is_of, sort_of}
-use Rattle.sd_types.specs.Phrases.{index_sort}
+use Rattle.sd_types.specs.Phrases.{is_of, sort_of, index_sort}
 use Rattle.sd_types.specs.Declarations.{nothing, known_vars, head_rule, spec_rule, body_stmts_rule, body_rule, own_body_rule, procedure_rule, have_sorts, same_types}
 use Rattle.sd_types.specs.TypedBodies.{IsTypedBody, IsTypedOwnBody, HasTypedBody, HaveTypedBodies}
 use Rattle.sd_types.proofs.TypingLemmas.{parts, ok_is, fits-same, types_exact}

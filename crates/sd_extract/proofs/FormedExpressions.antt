@@ -9,8 +9,7 @@ use Rattle.sd_ast.specs.declared.UnOp.TheVariants as un
 use Rattle.sd_ast.specs.declared.ExprKind.{Var}
 use Rattle.sd_types.specs.Typing.{HaveTypes, TakesOne, TakesTwo}
 use Rattle.sd_core.specs.declared.CoreOp.TheVariants as op
-use Rattle.sd_core.specs.Formed.{Takes}
-use Rattle.sd_core.specs.Formed.{HaveTypes as HaveCoreTypes}
+use Rattle.sd_core.specs.Formed.{Takes, HaveTypes as HaveCoreTypes}
 
 -- ---- operators of the core
 

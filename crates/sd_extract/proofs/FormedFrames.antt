@@ -1,8 +1,7 @@
 -- The frames of a typed procedure, and what its calls run.
-use Rattle.std.proofs.Common.{◌≡◌, ◌≢◌, ℕ, suc, ◌+◌, ◌≤◌, List, [], ◌∷◌, ◌++◌, length, Option, Some, None, Ok, Err, refl, sym, ◌∙◌, ap, subst, ⊎_elim, arith}
+use Rattle.std.proofs.Common.{◌≡◌, ◌≢◌, ℕ, suc, ◌+◌, ◌≤◌, List, [], ◌∷◌, ◌++◌, length, Option, Some, None, Ok, Err, refl, sym, ◌∙◌, ap, subst, ⊎_elim, arith, append_assoc, length-append}
 use Rattle.std.specs.Prelude.{Bool, true, false, Result, slice_get, Contains, option_map, if◌then◌else◌}
 use Rattle.std.specs.List.{AllByRecursion, filter_map}
-use Rattle.std.proofs.Common.{append_assoc, length-append}
 use Rattle.sd_base.proofs.Lists.{slice_get-between, all-append, all-weaker}
 use Rattle.std.proofs.lemmas.List.{length-map}
 use Rattle.std.proofs.lemmas.Option.{same_Some, none-some}

@@ -1,13 +1,11 @@
 -- The procedures of a body and of its loops are well formed.
-use Rattle.std.proofs.Common.{◌≡◌, ℕ, zero, suc, ◌+◌, ◌-◌, ◌≤◌, List, [], ◌∷◌, ◌++◌, map, length, Some, None, refl, sym, ◌∙◌, ap, subst, inl, inr, arith}
+use Rattle.std.proofs.Common.{◌≡◌, ℕ, zero, suc, ◌+◌, ◌-◌, ◌≤◌, List, [], ◌∷◌, ◌++◌, map, length, Some, None, refl, sym, ◌∙◌, ap, subst, inl, inr, arith, length-append}
 use Rattle.std.specs.Prelude.{Bool, true, false, ◌⊎◌, slice_get, codes, if◌then◌else◌}
 use Rattle.std.specs.List.{AllByRecursion, filter_map, cons_option}
-use Rattle.std.proofs.Common.{length-append}
 use Rattle.std.proofs.lemmas.List.{append-nil, map-append}
 use Rattle.std.proofs.lemmas.Option.{same_Some, none-some}
-use Rattle.sd_extract.proofs.SourceWords.{Sort, BoolSort, Var, Text, names_of, Program, Expr, Invariant, StmtKind, If', While', Row_of-Stmt, end_of-Stmt, more_of-Stmt, SourceRoutine}
-use Rattle.sd_extract.proofs.SourceWords.{procedure_in, routine_named, requires_of, ensures_of, clauses_of, globals_in, kinds_in, Scope, Context, context, routine, variables_as, parameters, modifies_of, body_variables, HasType, IsTypedStmt}
-use Rattle.sd_extract.proofs.SourceWords.{AreTypedStmts}
+use Rattle.sd_extract.proofs.SourceWords.{Sort, BoolSort, Var, Text, names_of, Program, Expr, Invariant, StmtKind, If', While', Row_of-Stmt, end_of-Stmt, more_of-Stmt, SourceRoutine, procedure_in, routine_named, requires_of, ensures_of}
+use Rattle.sd_extract.proofs.SourceWords.{clauses_of, globals_in, kinds_in, Scope, Context, context, routine, variables_as, parameters, modifies_of, body_variables, HasType, IsTypedStmt, AreTypedStmts}
 use Rattle.sd_extract.proofs.CoreWords.{Global, At, Literal, CoreStmt, CoreProc, Function, CoreProgram, Store, slots_from, sorts_of, state_sorts, IsSort, AllHaveTypes, AreSpotsOf, IsFormed, AllFormed, IsProc, copies_in, core_of, counts}
 use Rattle.sd_extract.proofs.CoreWords.{counts_all, counts_each, none, has_returns, Source, state_of, copies_of, frame_at, kinds, put, check, assume, on_args, loop_call, each_extracted, contract, leave, body_frame, body_copies, body_start}
 use Rattle.sd_extract.proofs.CoreWords.{body_proc, loop_state, loop_hidden, left_of, loop_frame, loop_start, turn_of, loop_proc, loops_in, all_loops_in, each_loop_in, procs_of, hidden, ins_of, var_in, modified_names, number_from}

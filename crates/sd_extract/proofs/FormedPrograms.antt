@@ -2,7 +2,7 @@
 use Rattle.std.proofs.Common.{◌≡◌, ℕ, suc, ◌+◌, List, [], ◌∷◌, ◌++◌, map, Option, Some, None, Ok, refl, sym, ◌∙◌, ap, subst, ⊎_elim, arith}
 use Rattle.std.specs.Prelude.{Bool, true, false, cond, slice_get}
 use Rattle.std.specs.Option.{is_none}
-use Rattle.std.specs.List.{AllByRecursion, IsDistinct}
+use Rattle.std.specs.List.{AllByRecursion, IsDistinct, filter}
 use Rattle.std.specs.Cmp.Lexicographic.{bytes_decides}
 use Rattle.std.proofs.lemmas.List.{map-append}
 use Rattle.std.proofs.lemmas.Option.{none-some}
@@ -27,7 +27,6 @@ use Rattle.sd_extract.proofs.FormedDeclarations.{known_fit, sorts_fit, vars_fit,
 use Rattle.sd_extract.proofs.FormedNumbers.{each_at, all_procs}
 use Rattle.sd_extract.proofs.FormedProcedures.{routine_procs_formed}
 use Rattle.sd_extract.proofs.Parts.{each_loop_has}
-use Rattle.std.specs.List.{filter}
 
 -- ---- names stand once
 

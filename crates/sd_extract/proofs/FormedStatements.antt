@@ -1,9 +1,8 @@
 -- Statements become well formed statements of the core.
-use Rattle.std.proofs.Common.{◌≡◌, ◌≢◌, ℕ, suc, ◌+◌, ◌≤◌, List, [], ◌∷◌, ◌++◌, map, length, Option, Some, Ok, refl, sym, ◌∙◌, ap, subst, arith}
+use Rattle.std.proofs.Common.{◌≡◌, ◌≢◌, ℕ, suc, ◌+◌, ◌≤◌, List, [], ◌∷◌, ◌++◌, map, length, Option, Some, Ok, refl, sym, ◌∙◌, ap, subst, arith, length-append}
 use Rattle.std.specs.Prelude.{Bool, true, false, slice_get, Contains, unwrap_or, if◌then◌else◌}
 use Rattle.std.specs.List.{AllByRecursion, IsDistinct}
 use Rattle.std.specs.Cmp.Lexicographic.{bytes_decides}
-use Rattle.std.proofs.Common.{length-append}
 use Rattle.sd_extract.proofs.SourceWords.{Sort, BoolSort, Text, same_text, MapOf, Program, Proc, Expr, Left, StmtKind, Assert, Assume, Assign, Call, If', While', Break, Return, Row_of-Stmt, end_of-Stmt, more_of-Stmt, Clause, procedure_in}
 use Rattle.sd_extract.proofs.SourceWords.{routine_named, requires_of, SourceRoutine, globals_in, Variable, Callee, Scope, and_then, named, Context, context, assigned_as, assignable, modified_rule, has_body, left_names, parameters, HasType}
 use Rattle.sd_extract.proofs.SourceWords.{AllHave, Calls, IsTypedStmt, AreTypedStmts}

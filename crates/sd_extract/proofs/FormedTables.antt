@@ -1,8 +1,7 @@
 -- What a well-typed text declares: each name once, and found by every table.
-use Rattle.std.proofs.Common.{◌≡◌, List, [], ◌∷◌, ◌++◌, map, Option, Some, None, Ok, Err, is_some, refl, sym, ◌∙◌, ap, subst}
+use Rattle.std.proofs.Common.{◌≡◌, List, [], ◌∷◌, ◌++◌, map, Option, Some, None, Ok, Err, is_some, refl, sym, ◌∙◌, ap, subst, append_assoc}
 use Rattle.std.specs.Prelude.{Bool, true, false, cond, ◌||◌, Result, if◌then◌else◌}
 use Rattle.std.specs.List.{AllByRecursion, IsDistinct}
-use Rattle.std.proofs.Common.{append_assoc}
 use Rattle.std.proofs.lemmas.List.{append-nil, map-append}
 use Rattle.sd_extract.proofs.SourceWords.{Var, Text, same_text, Decl, Const, Function, Axiom, Globals, Procedure, Implementation, Body, Head, TypeError, Twice, Variable, Signature, Callee, Scope, is_among, and_then, named, with_name}
 use Rattle.sd_extract.proofs.SourceWords.{with_names, variables_as, constants_of, callee_of, locals_of, own_names}

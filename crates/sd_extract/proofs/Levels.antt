@@ -1,7 +1,6 @@
 -- At every bound the core procedures do what the source procedures do.
-use Rattle.std.proofs.Common.{◌≡◌, ℕ, zero, suc, ◌+◌, List, [], ◌∷◌, ◌++◌, Option, Some, None, refl, sym, ◌∙◌, ap, subst, get_or, length, arith}
+use Rattle.std.proofs.Common.{◌≡◌, ℕ, zero, suc, ◌+◌, List, [], ◌∷◌, ◌++◌, Option, Some, None, refl, sym, ◌∙◌, ap, subst, get_or, length, arith, append_assoc, length-append}
 use Rattle.std.specs.Prelude.{Bool, true, slice_get, codes}
-use Rattle.std.proofs.Common.{append_assoc, length-append}
 use Rattle.std.proofs.Math.Seq.{get_or-append_seam}
 use Rattle.std.proofs.lemmas.List.{length-map, map-append}
 use Rattle.sd_extract.proofs.SourceWords.{Var, Text, Value, Program, Proc, Expr, Invariant, StmtKind, While', Row_of-Stmt, Interpretation, State, Routine, clauses_of, requires_of, ensures_of, procedure_in, routine_named, names_of, Outcome}

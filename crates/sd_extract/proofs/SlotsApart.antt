@@ -1,7 +1,6 @@
 -- The slots of a body and of a loop's procedure are apart.
-use Rattle.std.proofs.Common.{◌≡◌, ◌≢◌, ℕ, zero, suc, ◌+◌, ◌≤◌, ◌<◌, List, [], ◌∷◌, ◌++◌, refl, sym, ◌∙◌, ap, subst, get_or, length, arith}
+use Rattle.std.proofs.Common.{◌≡◌, ◌≢◌, ℕ, zero, suc, ◌+◌, ◌≤◌, ◌<◌, List, [], ◌∷◌, ◌++◌, refl, sym, ◌∙◌, ap, subst, get_or, length, arith, append_assoc, length-append}
 use Rattle.std.specs.Prelude.{Bool, true, false, set, codes, if◌then◌else◌}
-use Rattle.std.proofs.Common.{append_assoc, length-append}
 use Rattle.std.proofs.Math.Seq.{get_or-append_seam}
 use Rattle.std.proofs.lemmas.List.{length-map}
 use Rattle.sd_extract.proofs.SourceWords.{Var, Text, Value, Expr, Program, StmtKind, Clause, names_of}
