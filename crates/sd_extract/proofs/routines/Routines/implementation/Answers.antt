@@ -1,5 +1,5 @@
 use Rattle.std.proofs.Common.{◌∙◌}
-use Rattle.sd_extract.proofs.CodePlaces.{implementation_found}
+use Rattle.sd_extract.proofs.CodeNames.{implementation_found}
 use Rattle.sd_extract.proofs.routines.Routines.implementation.Goals as goal
 
 pub returns : goal.returns

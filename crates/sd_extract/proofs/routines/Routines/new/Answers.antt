@@ -1,6 +1,6 @@
 use Rattle.std.proofs.Common.{◌≡◌, ◌+◌, ◌-◌, ◌<◌, length, arith}
 use Rattle.sd_extract.specs.Places.{is_procedure_named, is_implementation_named}
-use Rattle.sd_extract.proofs.CodePlaces.{position_more}
+use Rattle.sd_extract.proofs.CodeNames.{position_more}
 use Rattle.sd_extract.proofs.routines.Routines.new.Goals as goal
 
 pub decls-preserved : goal.decls-preserved

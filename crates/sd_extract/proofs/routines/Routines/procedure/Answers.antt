@@ -1,5 +1,5 @@
 use Rattle.std.proofs.Common.{◌∙◌}
-use Rattle.sd_extract.proofs.CodePlaces.{procedure_found}
+use Rattle.sd_extract.proofs.CodeNames.{procedure_found}
 use Rattle.sd_extract.proofs.routines.Routines.procedure.Goals as goal
 
 pub returns : goal.returns
