@@ -2,22 +2,11 @@
 use Rattle.std.proofs.Common.{◌≡◌, ℕ, List, [], ◌∷◌, Option, refl, sym, ◌∙◌, ap, subst}
 use Rattle.std.specs.Prelude.{Bool, true, false, map, if◌then◌else◌}
 use Rattle.std.proofs.lemmas.Simd.{map-map}
-use Rattle.sd_base.specs.Value.{Text, Value}
-use Rattle.sd_ast.specs.declared.Program.{Program}
-use Rattle.sd_ast.specs.declared.Expr.{Expr}
-use Rattle.sd_ast.specs.declared.Left.{Left}
-use Rattle.sd_ast.specs.declared.StmtKind.{StmtKind, Assert, Assume, Assign, Call, If', While', Break, Return, Row_of-Stmt, end_of-Stmt, more_of-Stmt}
-use Rattle.sd_base.specs.Meaning.{Interpretation}
-use Rattle.sd_meaning.specs.Evaluate.{State, value}
-use Rattle.sd_base.specs.Meaning.{truth_of}
-use Rattle.sd_meaning.specs.Run.{Flow, Next, Breaks, Returns, Failed, Blocked, Unfinished, and_then, each, Verdict, Holds, Fails, Blocks as FreeFails, if_holds, set as set_variable, set_all, values_of, new_values, Level, step, steps}
-use Rattle.sd_core.specs.declared.Spot.{Spot}
-use Rattle.sd_core.specs.declared.CoreExpr.{CoreExpr}
-use Rattle.sd_core.specs.declared.CoreStmt.{CoreStmt, If}
-use Rattle.sd_core.specs.Store.{Store, write, write_all}
-use Rattle.sd_core.specs.Run.{value_in, Step, Goes, Stops, Blocks, Lacks, Calls, then_run, run_all}
-use Rattle.sd_extract.specs.Names.{Names, core_of}
-use Rattle.sd_extract.specs.Extract.{Counts, plus, counts, counts_all, Frame, spot_of, all_stored, extracted, all_extracted, each_extracted}
+use Rattle.sd_extract.proofs.SourceWords.{Text, Value, Program, Expr, Left, StmtKind, Assert, Assume, Assign, Call, If', While', Break, Return, Row_of-Stmt, end_of-Stmt, more_of-Stmt, Interpretation, State, value, truth_of, Flow, Next}
+use Rattle.sd_extract.proofs.SourceWords.{Breaks, Returns, Failed, Blocked, Unfinished, each, Verdict, Holds, Fails, FreeFails, if_holds, set_variable, values_of, new_values, Level, step}
+use Rattle.sd_extract.proofs.CoreWords.{Spot, CoreExpr, CoreStmt, If, Store, write, write_all, value_in, Step, Goes, Stops, Blocks, Lacks, Calls, then_run, run_all, Names, core_of, Counts, plus, counts, counts_all, Frame, spot_of}
+use Rattle.sd_extract.proofs.CoreWords.{all_stored, extracted, all_extracted, each_extracted}
+use Rattle.sd_meaning.specs.Run.{and_then, set_all, steps}
 use Rattle.sd_extract.proofs.Expressions.{value_kept}
 use Rattle.sd_extract.proofs.Writes.{SetsAt, IsLaidOut, Tied, tied_set}
 use Rattle.sd_extract.proofs.Statements.{run-If, run-one, run-append, run-checked, after_verdict, stored_values}

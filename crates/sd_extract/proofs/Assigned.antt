@@ -3,27 +3,16 @@ use Rattle.std.proofs.Common.{◌≡◌, Bool, true, false, cond, ◌+◌, ◌<�
 use Rattle.std.specs.Prelude.{if◌then◌else◌, Contains}
 use Rattle.std.specs.List.{AllByRecursion, slice_index_or}
 use Rattle.std.proofs.lemmas.Option.{none-some, same_Some}
-use Rattle.sd_base.specs.declared.Var.{Var}
-use Rattle.sd_base.specs.Value.{Text, same_text}
-use Rattle.sd_ast.specs.declared.Program.{Program}
-use Rattle.sd_types.specs.declared.scope.Nature.{Nature}
+use Rattle.sd_extract.proofs.SourceWords.{Var, Text, same_text, Program, Nature, Variable, Scope, is_among, and_then, named, or_global, if_named, declared_as, routine, assigned_as, assignable, variables_as, parameters, body_variables}
+use Rattle.sd_extract.proofs.SourceWords.{modifies_of, SourceRoutine, globals_in}
+use Rattle.sd_extract.proofs.CoreWords.{Source, state_of, index_in, Among}
 use Rattle.sd_types.specs.declared.scope.Nature.TheVariants as nature
-use Rattle.sd_types.specs.declared.scope.Variable.{Variable}
-use Rattle.sd_types.specs.declared.scope.Scope.{Scope}
 use Rattle.sd_types.specs.declared.scope.Site.TheVariants as site
-use Rattle.sd_types.specs.Names.{is_among}
-use Rattle.sd_types.specs.Answer.{and_then}
-use Rattle.sd_types.specs.Tables.{named}
-use Rattle.sd_types.specs.Scopes.{or_global, if_named, declared_as}
-use Rattle.sd_types.specs.Statements.{Routine, routine, assigned_as, assignable}
-use Rattle.sd_types.specs.Declarations.{variables_as, parameters, body_variables, modifies_of}
-use Rattle.sd_meaning.specs.Routine.{Routine as SourceRoutine}
-use Rattle.sd_meaning.specs.Inputs.{globals_in}
-use Rattle.sd_extract.specs.Extract.{Source, state_of, index_in}
-use Rattle.sd_extract.specs.Law.{Among, IsLocal, IsModified, MayAssign}
+use Rattle.sd_types.specs.Statements.{Routine}
+use Rattle.sd_extract.specs.Laws.{IsLocal, IsModified, MayAssign}
 use Rattle.sd_extract.proofs.FormedLookups.{global_found, is_outer}
 use Rattle.sd_extract.proofs.FormedPlaces.{IsScope, outer_named}
-use Rattle.sd_extract.proofs.FormedModifies.{modifies_there}
+use Rattle.sd_extract.proofs.FormedModifies.{unnumbered, modifies_there}
 use Rattle.sd_extract.proofs.FormedFrames.{source_at, in_modifies}
 
 -- ---- numbers
@@ -51,45 +40,22 @@ numbered n (u ∷ us) x v h = elim (same_text x u.name) as (λ b. cond b (Some (
   | false ↦ λ e. let r = numbered n us x v e in (r.0, (suc r.1.0, ap (option_map (λ m. suc m)) r.1.1))
 ] h
 
-unnumbered : (n : Nature) (vs : List Var) (x : Text) → named (variables_as n vs) x ≡ None → index_in vs x ≡ None
-unnumbered n [] x h = refl
-unnumbered n (u ∷ us) x h = elim (same_text x u.name) as (λ b. cond b (Some (record { sort = u.sort; nature = n })) (named (variables_as n us) x) ≡ None → (if b then Some 0 else option_map (λ m. suc m) (index_in us x)) ≡ None) [
-  | true ↦ λ e. absurd (cc)
-  | false ↦ λ e. ap (option_map (λ m. suc m)) (unnumbered n us x e)
-] h
-
-index_append : (us vs : List Var) (x : Text) (i : ℕ) → index_in us x ≡ Some i → index_in (us ++ vs) x ≡ Some i
-index_append [] vs x i e = absurd (none-some i e)
-index_append (u ∷ us) vs x i e = go (same_text x u.name) (index_in us x) (index_append us vs x) e
-  where
-    go : (b : Bool) (o : Option ℕ) → ((j : ℕ) → o ≡ Some j → index_in (us ++ vs) x ≡ Some j) → (if b then Some 0 else option_map (λ n. suc n) o) ≡ Some i → (if b then Some 0 else option_map (λ n. suc n) (index_in (us ++ vs) x)) ≡ Some i
-    go true o h e = e
-    go false None h e = absurd (none-some i e)
-    go false (Some j) h e = ap (option_map (λ n. suc n)) (h j refl) ∙ e
-
-index_after : (us vs : List Var) (x : Text) (i : ℕ) → index_in us x ≡ None → index_in vs x ≡ Some i → index_in (us ++ vs) x ≡ Some (length us + i)
-index_after [] vs x i e h = h ∙ (let f : i ≡ 0 + i = omega arith in ap Some f)
-index_after (u ∷ us) vs x i e h = go (same_text x u.name) (index_in us x) (index_after us vs x i) e
-  where
-    go : (b : Bool) (o : Option ℕ) → (o ≡ None → index_in vs x ≡ Some i → index_in (us ++ vs) x ≡ Some (length us + i)) → (if b then Some 0 else option_map (λ n. suc n) o) ≡ None → (if b then Some 0 else option_map (λ n. suc n) (index_in (us ++ vs) x)) ≡ Some (length (u ∷ us) + i)
-    go true o k e = absurd (cc)
-    go false (Some j) k e = absurd (cc)
-    go false None k e = ap (option_map (λ n. suc n)) (k refl h) ∙ (let f : suc (length us + i) ≡ suc (length us) + i = omega arith in ap Some f)
-
-index_neither : (us vs : List Var) (x : Text) → index_in us x ≡ None → index_in vs x ≡ None → index_in (us ++ vs) x ≡ None
-index_neither [] vs x e h = h
-index_neither (u ∷ us) vs x e h = go (same_text x u.name) (index_in us x) (index_neither us vs x) e
-  where
-    go : (b : Bool) (o : Option ℕ) → (o ≡ None → index_in vs x ≡ None → index_in (us ++ vs) x ≡ None) → (if b then Some 0 else option_map (λ n. suc n) o) ≡ None → (if b then Some 0 else option_map (λ n. suc n) (index_in (us ++ vs) x)) ≡ None
-    go true o k e = absurd (cc)
-    go false (Some j) k e = absurd (cc)
-    go false None k e = ap (option_map (λ n. suc n)) (k refl h)
-
--- ---- assigned variables
-
 abbrev first_of : {X : Type 0} → Option X → Option X → Option X
 first_of (Some x) o = Some x
 first_of None o = o
+
+index_join : (us vs : List Var) (x : Text) → index_in (us ++ vs) x ≡ first_of (index_in us x) (option_map (λ i. length us + i) (index_in vs x))
+index_join [] vs x = elim (index_in vs x) as (λ o. o ≡ option_map (λ i. 0 + i) o) [ None ↦ refl | Some i ↦ (let f : i ≡ 0 + i = omega arith in ap Some f) ]
+index_join (u ∷ us) vs x = go (same_text x u.name) (index_in us x) (index_in vs x) (index_join us vs x)
+  where
+    go : (b : Bool) (o p : Option ℕ) → index_in (us ++ vs) x ≡ first_of o (option_map (λ i. length us + i) p)
+        → (if b then Some 0 else option_map (λ n. suc n) (index_in (us ++ vs) x)) ≡ first_of (if b then Some 0 else option_map (λ n. suc n) o) (option_map (λ i. suc (length us) + i) p)
+    go true o p h = refl
+    go false (Some j) p h = ap (option_map (λ n. suc n)) h
+    go false None None h = ap (option_map (λ n. suc n)) h
+    go false None (Some i) h = ap (option_map (λ n. suc n)) h ∙ (let f : suc (length us + i) ≡ suc (length us) + i = omega arith in ap Some f)
+
+-- ---- assigned variables
 
 named-append : {X : Type 0} (es fs : List (Text × X)) (x : Text) → named (es ++ fs) x ≡ first_of (named es x) (named fs x)
 named-append [] fs x = refl
@@ -129,12 +95,12 @@ module _ (P : Program) (G : Scope) (scope : IsScope P G) (f : Text) (r : SourceR
       go (Some v) b c g ea eb ec eg k = absurd (let no = refused x v.nature nature.Input (numbered nature.Input r.head.ins x v ea).0 k in cc)
       go None (Some v) c g ea eb ec eg k =
           let at = (numbered nature.Output r.head.outs x v eb).1 in
-          inl (record { not_in = unnumbered nature.Input r.head.ins x ea; at = at.0; found = index_append r.head.outs r.body.locals x at.0 at.1 })
+          inl (record { not_in = unnumbered nature.Input r.head.ins x ea; at = at.0; found = index_join r.head.outs r.body.locals x ∙ ap (λ o. first_of o (option_map (λ i. length r.head.outs + i) (index_in r.body.locals x))) at.1 })
       go None None (Some v) g ea eb ec eg k =
           let at = (numbered nature.Local r.body.locals x v ec).1 in
-          inl (record { not_in = unnumbered nature.Input r.head.ins x ea; at = length r.head.outs + at.0; found = index_after r.head.outs r.body.locals x at.0 (unnumbered nature.Output r.head.outs x eb) at.1 })
+          inl (record { not_in = unnumbered nature.Input r.head.ins x ea; at = length r.head.outs + at.0; found = index_join r.head.outs r.body.locals x ∙ (λ i. first_of (unnumbered nature.Output r.head.outs x eb i) (option_map (λ i. length r.head.outs + i) (at.1 i))) })
       go None None None (Some v) ea eb ec eg k =
-          inr (global_is x v (unnumbered nature.Input r.head.ins x ea) (index_neither r.head.outs r.body.locals x (unnumbered nature.Output r.head.outs x eb) (unnumbered nature.Local r.body.locals x ec)) eg k)
+          inr (global_is x v (unnumbered nature.Input r.head.ins x ea) (index_join r.head.outs r.body.locals x ∙ (λ i. first_of (unnumbered nature.Output r.head.outs x eb i) (option_map (λ i. length r.head.outs + i) (unnumbered nature.Local r.body.locals x ec i)))) eg k)
       go None None None None ea eb ec eg k = absurd (cc)
 
   pub all_may_assign : (xs : List Text) → AllByRecursion (λ x. assignable R x ≡ Ok tt) xs → MayAssign S xs

@@ -2,24 +2,12 @@
 use Rattle.std.proofs.Common.{◌≡◌, ℕ, List, [], ◌∷◌, ◌++◌, Option, Some, refl, sym, ◌∙◌, ap, subst, get_or, length, arith}
 use Rattle.std.specs.Prelude.{Bool, true, false, map, if◌then◌else◌}
 use Rattle.std.proofs.lemmas.List.{map-append, set-get_or, length-map}
-use Rattle.sd_base.specs.declared.Var.{Var}
-use Rattle.sd_base.specs.Value.{Text, Value}
-use Rattle.sd_base.specs.Meaning.{Interpretation}
-use Rattle.sd_meaning.specs.Evaluate.{State, variable, value}
-use Rattle.sd_base.specs.Meaning.{truth_of}
-use Rattle.sd_meaning.specs.Routine.{Routine, Clause, requires_of, ensures_of}
-use Rattle.sd_ast.specs.Tree.{names_of}
-use Rattle.sd_meaning.specs.Run.{Flow, Next, Breaks, Returns, Failed, Blocked, Unfinished, Outcome, Ended, Verdict, Holds, Fails, Blocks as FreeFails, verdict, named, starting, before, after, entered, if_ensured, if_assumed, returned, outcome_of, each, Level, step}
-use Rattle.sd_core.specs.declared.Spot.{Spot}
-use Rattle.sd_core.specs.declared.Spot.TheVariants.{Global}
-use Rattle.sd_core.specs.declared.CoreExpr.{At}
-use Rattle.sd_core.specs.declared.CoreStmt.{CoreStmt}
+use Rattle.sd_extract.proofs.SourceWords.{Var, Text, Value, Interpretation, State, variable, value, truth_of, Routine, Clause, requires_of, ensures_of, names_of, Flow, Next, Breaks, Returns, Failed, Blocked, Unfinished, Outcome, Ended}
+use Rattle.sd_extract.proofs.SourceWords.{Verdict, Holds, Fails, FreeFails, verdict, before, entered, if_assumed, outcome_of, each, Level, step}
+use Rattle.sd_extract.proofs.CoreWords.{Spot, Global, At, CoreStmt, CoreProc, Store, read, write_all, set_all, nothing, value_in, CoreEnded, Step, Goes, Stops, Blocks, Calls, then_run, run_all, slots_from, enter, outs_of, out_spots, end_of}
+use Rattle.sd_extract.proofs.CoreWords.{Names, place_of, at_place, core_of, Frame, check, assume, on_args, Source, state_of, kinds, contract, body_frame, body_copies, body_start, body_proc, each_extracted}
+use Rattle.sd_meaning.specs.Run.{named, starting, after, if_ensured, returned}
 use Rattle.sd_core.specs.declared.CoreStmt as core
-use Rattle.sd_core.specs.declared.CoreProc.{CoreProc}
-use Rattle.sd_core.specs.Store.{Store, read, write_all, set_all}
-use Rattle.sd_core.specs.Run.{nothing, value_in, Ended as CoreEnded, Step, Goes, Stops, Blocks, Calls, then_run, run_all, slots_from, enter, outs_of, out_spots, end_of}
-use Rattle.sd_extract.specs.Names.{Names, place_of, at_place, core_of}
-use Rattle.sd_extract.specs.Extract.{Frame, check, assume, on_args, Source, state_of, kinds, contract, body_frame, body_copies, body_start, body_proc, each_extracted}
 use Rattle.sd_extract.proofs.Expressions.{at_all, Kept, variable_kept, value_kept}
 use Rattle.sd_extract.proofs.Writes.{Distinct, HasShape}
 use Rattle.sd_extract.proofs.Statements.{run-append, run-put, run-checked, run-clauses, after_verdict}

@@ -1,25 +1,14 @@
 -- A call and what it becomes do the same, where the callee's runs do.
 use Rattle.std.proofs.Common.{◌≡◌, ℕ, suc, List, [], ◌∷◌, ◌++◌, Option, Some, None, refl, sym, ◌∙◌, ap, subst, get_or, length, arith}
 use Rattle.std.specs.Prelude.{map}
-use Rattle.sd_base.specs.Value.{Text, Value}
-use Rattle.sd_ast.specs.declared.Proc.{Proc}
-use Rattle.sd_ast.specs.declared.Expr.{Expr}
-use Rattle.sd_ast.specs.declared.StmtKind.{Call}
-use Rattle.sd_base.specs.Meaning.{Interpretation}
-use Rattle.sd_meaning.specs.Evaluate.{State}
+use Rattle.sd_extract.proofs.SourceWords.{Text, Value, Proc, Expr, Call, Interpretation, State, procedure_in, requires_of, names_of, Flow, Verdict, Holds, Fails, FreeFails, verdict, if_holds, values_of, before, Outcome, Ended, Failed}
+use Rattle.sd_extract.proofs.SourceWords.{Blocked, Unfinished, Level, step}
+use Rattle.sd_extract.proofs.CoreWords.{Spot, Slot, Global, At, Store, read, write, write_all, nothing, value_in, End, CoreUnfinished, Step, Calls, receive, run_all, slots_from, Names, Counts, Frame, Source, check, spot_of, cores, on_args}
+use Rattle.sd_extract.proofs.CoreWords.{call_of, extracted}
 use Rattle.sd_meaning.specs.Evaluate.{Store as Variables}
-use Rattle.sd_meaning.specs.Routine.{procedure_in, requires_of}
-use Rattle.sd_ast.specs.Tree.{names_of}
-use Rattle.sd_meaning.specs.Run.{Flow, Verdict, Holds, Fails, Blocks as FreeFails, verdict, if_holds, values_of, named, before, Outcome, Ended, Failed, Blocked, Unfinished, Level, received, called, call, step}
-use Rattle.sd_core.specs.declared.Spot.{Spot}
-use Rattle.sd_core.specs.declared.Spot.TheVariants.{Slot, Global}
-use Rattle.sd_core.specs.declared.CoreExpr.{At}
+use Rattle.sd_meaning.specs.Run.{named, received, called, call}
 use Rattle.sd_core.specs.declared.CoreStmt as core
-use Rattle.sd_core.specs.Store.{Store, read, write, write_all}
-use Rattle.sd_core.specs.Run.{nothing, value_in, End, Unfinished as CoreUnfinished, Step, Calls, receive, run_all, slots_from}
-use Rattle.sd_extract.specs.Names.{Names}
-use Rattle.sd_extract.specs.Extract.{Counts, Frame, Source, check, spot_of, cores, on_args, call_of, extracted}
-pub use Rattle.sd_extract.specs.Law.{NotIn, Keeps, SameEnds, Setting}
+pub use Rattle.sd_extract.specs.Laws.{NotIn, Keeps, SameEnds, Setting}
 use Rattle.sd_extract.proofs.Expressions.{at_all, Kept}
 use Rattle.sd_extract.proofs.Writes.{Apart, Distinct, HasShape, IsSpot, IsLaidOut, read-write_same, read-write_other, write_shape, at_all-write}
 use Rattle.sd_extract.proofs.Statements.{run-one, run-put, run-clauses, after_verdict, cores_values}

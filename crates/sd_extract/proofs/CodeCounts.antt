@@ -1,14 +1,9 @@
 -- Counts as code sees them.
 use Rattle.std.proofs.Common.{◌≡◌, ◌∙◌, sym, ap, refl, ℕ, ◌+◌, ◌<◌, Bool, List, ◌∷◌, length, drop, get_or, arith}
 use Rattle.std.specs.Prelude.{◌||◌}
-use Rattle.sd_ast.specs.declared.Expr.{Expr}
-use Rattle.sd_ast.specs.declared.Invariant.{Invariant}
-use Rattle.sd_ast.specs.declared.Stmt.{Stmt}
-use Rattle.sd_ast.specs.declared.StmtKind.{StmtKind, If, While, Row_of-Stmt, end_of-Stmt, more_of-Stmt, items-the_row-Stmt, items_hidden-the_row-Stmt-0}
-use Rattle.sd_ast.specs.declared.StmtKind.TheBlock.{hidden-the_row-Stmt-0}
-use Rattle.sd_meaning.specs.Run.{kinds_of, kinds_in}
-use Rattle.sd_extract.specs.Extract.{Counts, plus, of_loop, counts, counts_all, counts_each, has_return, has_returns}
-use Rattle.sd_extract.specs.Counted.{has_return_among}
+use Rattle.sd_extract.proofs.SourceWords.{Expr, Invariant, Stmt, StmtKind, If, While, Row_of-Stmt, end_of-Stmt, more_of-Stmt, hidden-the_row-Stmt-0, kinds_of, kinds_in}
+use Rattle.sd_extract.proofs.CoreWords.{Counts, plus, of_loop, counts, counts_all, counts_each, has_return, has_returns, has_return_among}
+use Rattle.sd_ast.specs.declared.StmtKind.{items-the_row-Stmt, items_hidden-the_row-Stmt-0}
 use Rattle.sd_extract.proofs.CodeLists.{kinds_next}
 
 pub plus_parts : (a b c d : ℕ) (m n : Counts) → a ≡ m.calls + n.calls → b ≡ m.args + n.args → c ≡ m.lefts + n.lefts → d ≡ m.loops + n.loops → ◌≡◌ {A = Counts} (record { calls = a; args = b; lefts = c; loops = d }) (plus m n)

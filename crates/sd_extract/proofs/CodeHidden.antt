@@ -1,16 +1,8 @@
 -- Hidden locals as code sees them.
 use Rattle.std.proofs.Common.{◌≡◌, ◌∙◌, sym, ap, refl, List, ◌++◌, append_assoc}
-use Rattle.sd_base.specs.declared.Var.{Var}
-use Rattle.sd_ast.specs.declared.Expr.{Expr}
-use Rattle.sd_ast.specs.declared.Invariant.{Invariant}
-use Rattle.sd_ast.specs.declared.Stmt.{Stmt}
-use Rattle.sd_ast.specs.declared.Program.{Program}
-use Rattle.sd_ast.specs.declared.StmtKind.{StmtKind, If, While, Row_of-Stmt, end_of-Stmt, more_of-Stmt}
-use Rattle.sd_ast.specs.declared.StmtKind.TheBlock.{hidden-the_row-Stmt-0}
-use Rattle.sd_meaning.specs.Run.{kinds_of, kinds_in}
-use Rattle.sd_extract.specs.Extract.{Counts, plus, counts, counts_all, counts_each, args_in, all_args_in, each_args_in, lefts_in, all_lefts_in, each_left_in}
+use Rattle.sd_extract.proofs.SourceWords.{Var, Expr, Invariant, Stmt, Program, StmtKind, If, While, Row_of-Stmt, end_of-Stmt, more_of-Stmt, hidden-the_row-Stmt-0, kinds_of, kinds_in}
+use Rattle.sd_extract.proofs.CoreWords.{Counts, plus, counts, counts_all, counts_each, args_in, all_args_in, each_args_in, lefts_in, all_lefts_in, each_left_in, has_return_among}
 use Rattle.sd_extract.specs.Scopes.{left_var}
-use Rattle.sd_extract.specs.Counted.{has_return_among}
 use Rattle.sd_extract.proofs.CodeCounts.{hidden_kinds, counts_hidden, returns_hidden}
 
 module _ (P : Program) where

@@ -1,24 +1,10 @@
--- The procedures of loops as code sees them.
+-- Procedures and those of loops as code sees them.
 use Rattle.std.proofs.Common.{◌≡◌, ◌∙◌, sym, ap, refl, ℕ, suc, ◌+◌, ◌-◌, ◌<◌, Bool, List, [], ◌∷◌, ◌++◌, append_assoc, length, drop, get_or, Some, arith}
 use Rattle.std.specs.Prelude.{codes, if◌then◌else◌}
 use Rattle.std.specs.Fmt.{decimal}
-use Rattle.sd_base.specs.declared.Var.{Var}
-use Rattle.sd_base.specs.Value.{Text}
-use Rattle.sd_ast.specs.declared.Expr.{Expr}
-use Rattle.sd_ast.specs.declared.Invariant.{Invariant}
-use Rattle.sd_ast.specs.declared.Stmt.{Stmt}
-use Rattle.sd_ast.specs.declared.Program.{Program}
-use Rattle.sd_ast.specs.declared.StmtKind.{StmtKind, If, While, Row_of-Stmt, end_of-Stmt, more_of-Stmt}
-use Rattle.sd_ast.specs.declared.StmtKind.TheBlock.{hidden-the_row-Stmt-0}
-use Rattle.sd_meaning.specs.Run.{kinds_of, kinds_in}
-use Rattle.sd_meaning.specs.Routine.{Clause, clauses_of}
-use Rattle.sd_core.specs.declared.Spot.{Spot}
-use Rattle.sd_core.specs.declared.Spot.TheVariants.{Slot}
-use Rattle.sd_core.specs.declared.CoreStmt.{CoreStmt}
-use Rattle.sd_core.specs.declared.CoreProc.{CoreProc}
-use Rattle.sd_core.specs.Run.{slots_from}
-use Rattle.sd_extract.specs.Extract.{Counts, plus, of_loop, counts, counts_all, counts_each, Frame, Source, state_of, copies_of, hidden, loop_state, loop_frame, left_of, loop_start, loop_proc, loops_in, all_loops_in, each_loop_in}
-use Rattle.sd_extract.specs.Counted.{has_return_among}
+use Rattle.sd_extract.proofs.SourceWords.{Var, Text, Expr, Invariant, Stmt, Program, StmtKind, If, While, Row_of-Stmt, end_of-Stmt, more_of-Stmt, hidden-the_row-Stmt-0, kinds_of, kinds_in, Clause, clauses_of}
+use Rattle.sd_extract.proofs.CoreWords.{Spot, Slot, CoreStmt, CoreProc, slots_from, Counts, plus, of_loop, counts, counts_all, counts_each, Frame, Source, state_of, copies_of, hidden, loop_state, loop_frame, left_of, loop_start, loop_proc}
+use Rattle.sd_extract.proofs.CoreWords.{loops_in, all_loops_in, each_loop_in, has_return_among, body_proc, procs_of}
 use Rattle.sd_extract.specs.Sources.{start_at, loop_with, left_out}
 use Rattle.sd_extract.proofs.CodeLists.{kinds_next}
 use Rattle.sd_extract.proofs.CodeCounts.{hidden_kinds, counts_hidden, returns_hidden}
@@ -108,3 +94,11 @@ pub number_next : (ss : List Stmt) (i : ℕ) (s : Stmt) (k next whole : ℕ) →
 number_next ss i s k next whole lt here sum so =
     let more : (counts_each (kinds_of (drop i ss))).loops ≡ (counts s.kind).loops + (counts_each (kinds_of (drop (i + 1) ss))).loops = ap (λ (ks : List StmtKind). (counts_each ks).loops) (kinds_next ss i s lt here) in
     omega (arith, sum, so, more)
+
+-- ---- a procedure and its loops
+
+pub procs_made : (P : Program) (number : Text → ℕ) (S : Source) (p : CoreProc) (first : ℕ) (stmts : List Stmt) (o o' o'' : List CoreProc) → p ≡ body_proc P number S → o' ≡ o ++ p ∷ [] → first ≡ 1 + S.number → stmts ≡ S.routine.body.stmts
+    → o'' ≡ o' ++ each_loop_in P number S first (kinds_of stmts) → o'' ≡ o ++ procs_of P number S
+procs_made P number S p first stmts o o' o'' made pushed is same loops =
+    let one : first ≡ suc S.number = omega (arith, is) in
+    loops ∙ ((λ i. pushed i ++ each_loop_in P number S (one i) (kinds_of (same i))) ∙ (append_assoc o (p ∷ []) _ ∙ ap (λ q. o ++ q ∷ each_loop_in P number S (suc S.number) (kinds_of S.routine.body.stmts)) made))

@@ -1,37 +1,26 @@
 -- Names without repetition.
-use Rattle.std.proofs.Common.{◌≡◌, ◌∙◌, sym, ap, refl, ℕ, ◌+◌, ◌<◌, ◌≤◌, Bool, true, false, cond, List, [], ◌∷◌, ◌++◌, append_assoc, length, drop, get_or}
+use Rattle.std.proofs.Common.{◌≡◌, ◌∙◌, sym, ap, refl, ℕ, ◌≤◌, Bool, true, false, List, [], ◌∷◌, ◌++◌, append_assoc, length, drop, arith}
 use Rattle.std.specs.Prelude.{Option, Some, ◌||◌, if◌then◌else◌}
 use Rattle.std.specs.Option.{is_some}
-use Rattle.std.specs.Cmp.Lexicographic.{nat_list_eq_equiv}
 use Rattle.std.proofs.lemmas.List.{append-nil}
 use Rattle.std.proofs.Math.ListN.{drop_of_length-le}
 use Rattle.std.proofs.lemmas.List.Folds.{list_any-append}
-use Rattle.sd_base.specs.Value.{Text, same_text}
+use Rattle.sd_extract.proofs.SourceWords.{Text, same_text, Spec, Modifies}
+use Rattle.sd_extract.proofs.CoreWords.{new_names, modified_names}
 use Rattle.sd_base.proofs.Texts.{same_text-is, same_text-flip}
-use Rattle.sd_ast.specs.declared.Spec.{Spec}
-use Rattle.sd_ast.specs.declared.Spec.TheVariants.{Modifies, Requires, Ensures}
-use Rattle.sd_extract.specs.Extract.{is_among, new_names, modified_names}
+use Rattle.sd_extract.specs.Extract.{is_among}
 use Rattle.sd_extract.specs.Modified.{HasSeen, with_new, all_new, specs_new}
 
 -- ---- one name
 
-pub seen_pushed : (was now : Text → Option ℕ) (names out : List Text) (name name' name'' : Text) (n : ℕ) → HasSeen was names → name' ≡ name → name'' ≡ name → ((x : Text) → now x ≡ cond (same_text name' x) (Some n) (was x)) → out ≡ names ++ name'' ∷ [] → HasSeen now out
-seen_pushed was now names out name name' name'' n seen same same' updated pushed x =
-    ap is_some (updated x)
-    ∙ (go (same_text name' x)
-    ∙ ((λ i. (ap (λ (y : Text). same_text y x) same ∙ same_text-flip name x) i || seen x i)
-    ∙ (swap (same_text x name) (is_among x names)
-    ∙ (ap (λ (y : Text). is_among x names || (same_text x y || false)) (sym same') ∙ (sym (list_any-append (same_text x) names (name'' ∷ [])) ∙ ap (is_among x) (sym pushed))))))
+pub seen_pushed : (was now : Text → Option ℕ) (names out : List Text) (name name' : Text) (n : ℕ) → HasSeen was names → name' ≡ name → ((x : Text) → now x ≡ (if same_text name x then Some n else was x)) → out ≡ names ++ name' ∷ [] → HasSeen now out
+seen_pushed was now names out name name' n seen same updated pushed x =
+    ap is_some (updated x) ∙ (go (same_text name x) (same_text-flip name x) (seen x)
+    ∙ (ap (λ (y : Text). is_among x names || (same_text x y || false)) (sym same) ∙ (sym (list_any-append (same_text x) names (name' ∷ [])) ∙ ap (is_among x) (sym pushed))))
   where
-    go : (b : Bool) → is_some (cond b (Some n) (was x)) ≡ (b || is_some (was x))
-    go true = refl
-    go false = refl
-
-    swap : (a b : Bool) → (a || b) ≡ (b || (a || false))
-    swap true true = refl
-    swap true false = refl
-    swap false true = refl
-    swap false false = refl
+    go : (b : Bool) → b ≡ same_text x name → is_some (was x) ≡ is_among x names → is_some (if b then Some n else was x) ≡ (is_among x names || (same_text x name || false))
+    go true is there = grind arith
+    go false is there = grind arith
 
 -- ---- many names
 

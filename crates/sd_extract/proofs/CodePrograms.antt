@@ -2,23 +2,10 @@
 use Rattle.std.proofs.Common.{◌≡◌, ◌∙◌, sym, ap, ℕ, suc, ◌+◌, ◌<◌, List, [], ◌∷◌, ◌++◌, append_assoc, length, drop, get_or, map, arith}
 use Rattle.std.specs.Prelude.{Some, None}
 use Rattle.std.specs.List.{filter_map}
-use Rattle.sd_base.specs.Value.{Text}
-use Rattle.sd_ast.specs.declared.Spec.{Spec}
-use Rattle.sd_ast.specs.declared.Decl.{Decl}
-use Rattle.sd_ast.specs.declared.Decl.TheVariants.{Procedure}
-use Rattle.sd_ast.specs.declared.Proc.{Proc}
-use Rattle.sd_ast.specs.declared.Program.{Program}
-use Rattle.sd_base.specs.declared.Var.{Var}
+use Rattle.sd_extract.proofs.SourceWords.{Text, Spec, Decl, Procedure, Proc, Program, Var, globals_in, uniques_in, kinds_of, Routine, routine_named}
+use Rattle.sd_extract.proofs.CoreWords.{CoreProc, Source, index_in, var_in, modified_names, number_from, size_of, counts_each, source_of, procs_of, routine_procs, procs_from, CoreExpr, Function, CoreProgram, functions_in, axioms_in}
+use Rattle.sd_extract.proofs.CoreWords.{core_axiom, core_program}
 use Rattle.sd_base.proofs.Lists.{drop-at}
-use Rattle.sd_meaning.specs.Inputs.{globals_in, uniques_in}
-use Rattle.sd_meaning.specs.Run.{kinds_of}
-use Rattle.sd_meaning.specs.Routine.{Routine, routine_named}
-use Rattle.sd_core.specs.declared.CoreProc.{CoreProc}
-use Rattle.sd_extract.specs.Extract.{Source, index_in, var_in, modified_names, number_from, size_of, counts_each, source_of, procs_of, routine_procs, procs_from}
-use Rattle.sd_core.specs.declared.CoreExpr.{CoreExpr}
-use Rattle.sd_core.specs.declared.Function.{Function}
-use Rattle.sd_core.specs.declared.CoreProgram.{CoreProgram}
-use Rattle.sd_extract.specs.Programs.{functions_in, axioms_in, core_axiom, core_program}
 
 -- a procedure without a body
 pub procs_none : (P : Program) (p : Proc) (n : ℕ) (ds : List Decl) (out : List CoreProc) → routine_named P p.head.name ≡ None → out ++ procs_from P n ds ≡ out ++ procs_from P n (Procedure p ∷ ds)

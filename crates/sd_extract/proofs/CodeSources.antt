@@ -1,10 +1,7 @@
 -- Where code keeps variables.
-use Rattle.std.proofs.Common.{◌≡◌, ◌∙◌, sym, ap, refl, ℕ, zero, suc, ◌+◌, ◌≤◌, List, [], ◌∷◌, ◌++◌, append_assoc, length, drop, arith}
+use Rattle.std.proofs.Common.{◌≡◌, ◌∙◌, sym, ap, refl, ℕ, suc, ◌+◌, ◌≤◌, List, [], ◌∷◌, ◌++◌, append_assoc, length, drop, arith}
 use Rattle.std.proofs.Math.ListN.{drop_of_length-le}
-use Rattle.sd_core.specs.declared.Spot.{Spot}
-use Rattle.sd_core.specs.declared.Spot.TheVariants.{Slot}
-use Rattle.sd_core.specs.Run.{slots_from}
-use Rattle.sd_core.specs.Store.{set_all}
+use Rattle.sd_extract.proofs.CoreWords.{Spot, Slot, slots_from, set_all}
 
 slots_append : {A : Type 0} (k : ℕ) (xs ys : List A) → slots_from k xs ++ slots_from (k + length xs) ys ≡ slots_from k (xs ++ ys)
 slots_append k [] ys = let none : k + 0 ≡ k = omega arith in ap (λ n. slots_from n ys) none

@@ -1,25 +1,11 @@
 -- Statements as code sees them.
 use Rattle.std.proofs.Common.{◌≡◌, ◌∙◌, sym, ap, refl, ℕ, suc, ◌+◌, ◌<◌, List, [], ◌∷◌, ◌++◌, append_assoc, length, drop, get_or, map, false}
-use Rattle.sd_base.specs.Value.{Text}
-use Rattle.sd_ast.specs.declared.Expr.{Expr}
-use Rattle.sd_ast.specs.declared.Invariant.{Invariant}
-use Rattle.sd_ast.specs.declared.Stmt.{Stmt}
-use Rattle.sd_ast.specs.declared.Proc.{Proc}
-use Rattle.sd_ast.specs.declared.Program.{Program}
-use Rattle.sd_ast.specs.declared.StmtKind.{StmtKind, If, While, Row_of-Stmt, end_of-Stmt, more_of-Stmt}
-use Rattle.sd_ast.specs.declared.StmtKind.TheBlock.{hidden-the_row-Stmt-0}
-use Rattle.sd_meaning.specs.Routine.{requires_of}
-use Rattle.sd_meaning.specs.Run.{kinds_of, kinds_in}
-use Rattle.sd_core.specs.declared.Spot.{Spot}
-use Rattle.sd_core.specs.declared.Spot.TheVariants.{Slot}
-use Rattle.sd_core.specs.declared.CoreExpr.{CoreExpr, At}
-use Rattle.sd_core.specs.declared.CoreStmt.{CoreStmt, Call}
+use Rattle.sd_extract.proofs.SourceWords.{Text, Expr, Invariant, Stmt, Proc, Program, StmtKind, If, While, Row_of-Stmt, end_of-Stmt, more_of-Stmt, hidden-the_row-Stmt-0, requires_of, kinds_of, kinds_in}
+use Rattle.sd_extract.proofs.CoreWords.{Spot, Slot, CoreExpr, At, CoreStmt, slots_from, Names, core_of, Counts, plus, counts, counts_all, counts_each, put, cores, spot_of, on_args, Frame, extracted, all_extracted, each_extracted}
+use Rattle.sd_extract.proofs.CoreWords.{has_return_among}
+use Rattle.sd_core.specs.declared.CoreStmt.{Call}
 use Rattle.sd_core.specs.declared.CoreStmt as core
-use Rattle.sd_core.specs.Run.{slots_from}
-use Rattle.sd_extract.specs.Names.{Names, core_of}
-use Rattle.sd_extract.specs.Extract.{Counts, plus, counts, counts_all, counts_each, put, cores, spot_of, on_args, Frame, extracted, all_extracted, each_extracted}
 use Rattle.sd_extract.specs.Scopes.{slots_upto, clause_stmt, call_with, reached}
-use Rattle.sd_extract.specs.Counted.{has_return_among}
 use Rattle.sd_extract.proofs.CodeLists.{kinds_next}
 use Rattle.sd_extract.proofs.CodeCounts.{hidden_kinds, counts_hidden, returns_hidden}
 

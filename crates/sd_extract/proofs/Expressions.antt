@@ -1,25 +1,19 @@
 -- A translated expression has the value of the expression.
 use Rattle.std.proofs.Common.{◌≡◌, List, [], ◌∷◌, Option, Some, None, refl, sym, ◌∙◌, ap, arith}
-use Rattle.std.specs.Prelude.{Bool, true, false, not, map, unwrap_or, option_map, if◌then◌else◌, int_lt, int_le, ℤ}
-use Rattle.sd_base.specs.Value.{Text, same_text, Value, Truth, read as read_map, write as write_map}
-use Rattle.sd_ast.specs.declared.BinOp.{BinOp}
+use Rattle.std.specs.Prelude.{true, false, not, map, unwrap_or, option_map, if◌then◌else◌, int_lt, int_le, ℤ}
+use Rattle.sd_extract.proofs.SourceWords.{Text, same_text, Value, Truth, write_map, BinOp, UnOp, ExprKind, Apply', Row_of-Expr, end_of-Expr, more_of-Expr, OldOf, UnaryOf, BinaryOf, SelectOf, StoreOf, Interpretation, State, value_of}
+use Rattle.sd_extract.proofs.SourceWords.{variable, value, truth_of, index_of}
+use Rattle.sd_extract.proofs.CoreWords.{Spot, CoreOp, CoreExpr, Apply, Op, Row_of-CoreExpr, end_of-CoreExpr, more_of-CoreExpr, items-the_row-CoreExpr, items_hidden-the_row-CoreExpr-0, hidden-the_row-CoreExpr-0, Store, read, nothing}
+use Rattle.sd_extract.proofs.CoreWords.{value_in, Names, place_in, either_place, place_of, at_place, negated, both, unary_of, binary_of, core_of, cores_of}
+use Rattle.sd_base.specs.Value.{read as read_map}
 use Rattle.sd_ast.specs.declared.BinOp.TheVariants as bin
-use Rattle.sd_ast.specs.declared.UnOp.{UnOp}
 use Rattle.sd_ast.specs.declared.UnOp.TheVariants as un
-use Rattle.sd_ast.specs.declared.ExprKind.{ExprKind, Var, Apply', Row_of-Expr, end_of-Expr, more_of-Expr}
-use Rattle.sd_ast.specs.Tree.{OldOf, UnaryOf, BinaryOf, SelectOf, StoreOf}
-use Rattle.sd_base.specs.Meaning.{Interpretation}
-use Rattle.sd_meaning.specs.Evaluate.{State, value_of, variable, unary, binary, value, values}
-use Rattle.sd_base.specs.Meaning.{number_of, truth_of, index_of}
+use Rattle.sd_ast.specs.declared.ExprKind.{Var}
+use Rattle.sd_meaning.specs.Evaluate.{unary, binary, values}
+use Rattle.sd_base.specs.Meaning.{number_of}
 use Rattle.sd_meaning.specs.Run.{named}
-use Rattle.sd_core.specs.declared.Spot.{Spot}
-use Rattle.sd_core.specs.declared.CoreOp.{CoreOp}
 use Rattle.sd_core.specs.declared.CoreOp.TheVariants as op
-use Rattle.sd_core.specs.declared.CoreExpr.{CoreExpr, Apply, Op, Row_of-CoreExpr, end_of-CoreExpr, more_of-CoreExpr, items-the_row-CoreExpr, items_hidden-the_row-CoreExpr-0}
-use Rattle.sd_core.specs.declared.CoreExpr.TheBlock.{hidden-the_row-CoreExpr-0}
-use Rattle.sd_core.specs.Store.{Store, read}
-use Rattle.sd_core.specs.Run.{nothing, apply, value_in, values_in}
-use Rattle.sd_extract.specs.Names.{Names, place_in, either_place, place_of, at_place, negated, both, unary_of, binary_of, core_of, cores_of}
+use Rattle.sd_core.specs.Run.{apply, values_in}
 
 -- ---- the tie
 
@@ -39,11 +33,8 @@ pub value_of-named : (st : Store Value) (xs : List Text) (ps : List Spot) (y : T
 value_of-named st [] [] y = refl
 value_of-named st [] (p ∷ ps) y = refl
 value_of-named st (x ∷ xs) [] y = refl
-value_of-named st (x ∷ xs) (p ∷ ps) y = go (same_text y x) (value_of-named st xs ps y)
-  where
-    go : (b : Bool) → value_of (named xs (at_all st ps)) y ≡ option_map (read nothing st) (place_in xs ps y) → (if b then Some (read nothing st p) else value_of (named xs (at_all st ps)) y) ≡ option_map (read nothing st) (if b then Some p else place_in xs ps y)
-    go true e = refl
-    go false e = e
+value_of-named st (x ∷ xs) (p ∷ ps) y =
+    elim (same_text y x) as (λ b. (if b then Some (read nothing st p) else value_of (named xs (at_all st ps)) y) ≡ option_map (read nothing st) (if b then Some p else place_in xs ps y)) [ true ↦ refl | false ↦ value_of-named st xs ps y ]
 
 by_place : (I : Interpretation) (st : Store Value) (x : Text) (o g : Option Spot) → unwrap_or (option_map (read nothing st) o) (unwrap_or (option_map (read nothing st) g) (I.constant x)) ≡ value_in I st (at_place (either_place o g) x)
 by_place I st x (Some p) g = refl

@@ -1,25 +1,21 @@
 -- Globals by name and by place, and those that two programs share.
-use Rattle.std.proofs.Common.{◌≡◌, ℕ, zero, suc, ◌+◌, ◌<◌, ◌⊎◌, inl, inr, Bool, true, false, List, [], ◌∷◌, map, length, get_or, Option, Some, None, refl, sym, ap, ◌∙◌, subst, arith}
+use Rattle.std.proofs.Common.{◌≡◌, ℕ, zero, suc, ◌+◌, ◌<◌, ◌⊎◌, inl, inr, ⊎_elim, Bool, true, false, List, [], ◌∷◌, map, length, get_or, Option, Some, None, refl, sym, ap, ◌∙◌, subst, arith}
 use Rattle.std.specs.Prelude.{◌&&◌, if◌then◌else◌}
 use Rattle.std.specs.List.{AllByRecursion, Contains, IsDistinct, slice_index_or}
 use Rattle.std.specs.Cmp.Lexicographic.{bytes_decides}
 use Rattle.std.proofs.lemmas.Option.{same_Some}
 use Rattle.std.proofs.lemmas.Bool.{and_parts}
-use Rattle.sd_base.specs.declared.Sort.{Sort}
-use Rattle.sd_base.specs.declared.Var.{Var}
-use Rattle.sd_base.specs.Value.{Text, same_text, Value}
+use Rattle.sd_extract.proofs.SourceWords.{Sort, Var, Text, same_text, Value, names_of, Store, value_of}
+use Rattle.sd_extract.proofs.CoreWords.{nothing, sorts_of, HaveSorts}
 use Rattle.sd_base.proofs.Lists.{all-append, all-front, all-back}
 use Rattle.sd_base.proofs.Texts.{same_text-other_way}
 use Rattle.sd_base.proofs.SortLemmas.{same_sort-is, same_sort-refl}
-use Rattle.sd_ast.specs.Tree.{names_of}
-use Rattle.sd_meaning.specs.Evaluate.{Store, value_of}
 use Rattle.sd_meaning.specs.Run.{named}
 use Rattle.sd_meaning.specs.Inputs.{IsStoreOf}
 use Rattle.sd_core.specs.declared.Shared.{Shared}
-use Rattle.sd_core.specs.Run.{nothing}
-use Rattle.sd_core.specs.Formed.{sorts_of, same_sort}
-use Rattle.sd_core.specs.Meanings.{HaveSorts}
+use Rattle.sd_core.specs.Formed.{same_sort}
 use Rattle.sd_core.specs.Failure.{place_from, shared_at, shared_from, shared_of}
+use Rattle.sd_extract.proofs.Searches.{first_or_later}
 
 -- ---- stores
 
@@ -78,21 +74,13 @@ stands_apart n s (y ∷ ys) k x a h = elim h [
   | inr r ↦ stands_apart (suc n) s ys k x a.1 r
 ]
 
-picked : {A : Type 0} (b : Bool) (x y : A) → b ≡ true → (if b then x else y) ≡ x
-picked true x y e = refl
-picked false x y e = absurd (cc)
-
-passed : {A : Type 0} (b : Bool) (x y : A) → b ≡ false → (if b then x else y) ≡ y
-passed true x y e = absurd (cc)
-passed false x y e = refl
-
 value_of-from : (xs : List Var) (vs whole : List Value) (n k : ℕ) (x : Var) → IsDistinct same_text (names_of xs) → length vs ≡ length xs → ((i : ℕ) → get_or whole (n + i) nothing ≡ get_or vs i nothing) → Stands n xs k x → value_of (named (names_of xs) vs) x.name ≡ Some (get_or whole k nothing)
 unfolding IsDistinct
 value_of-from [] vs whole n k x d l h s = absurd s
 value_of-from (y ∷ ys) [] whole n k x d l h s = absurd (omega arith)
 value_of-from (y ∷ ys) (v ∷ vs) whole n k x d l h s = elim s [
-  | inl e ↦ picked (same_text x.name y.name) (Some v) (value_of (named (names_of ys) vs) x.name) ((bytes_decides x.name y.name).1 (ap (λ (z : Var). z.name) (sym e.1))) ∙ ap Some (sym (h 0) ∙ ap (λ m. get_or whole m nothing) (let j : n + 0 ≡ k = omega arith in j))
-  | inr r ↦ passed (same_text x.name y.name) (Some v) (value_of (named (names_of ys) vs) x.name) (same_text-other_way y.name x.name (stands_apart (suc n) y.name ys k x d.0 r)) ∙ value_of-from ys vs whole (suc n) k x d.1 (omega arith) (λ i. ap (λ m. get_or whole m nothing) (let j : suc n + i ≡ n + suc i = omega arith in j) ∙ h (suc i)) r
+  | inl e ↦ ap (λ (c : Bool). if c then Some v else value_of (named (names_of ys) vs) x.name) ((bytes_decides x.name y.name).1 (ap (λ (z : Var). z.name) (sym e.1))) ∙ ap Some (sym (h 0) ∙ ap (λ m. get_or whole m nothing) (let j : n + 0 ≡ k = omega arith in j))
+  | inr r ↦ ap (λ (c : Bool). if c then Some v else value_of (named (names_of ys) vs) x.name) (same_text-other_way y.name x.name (stands_apart (suc n) y.name ys k x d.0 r)) ∙ value_of-from ys vs whole (suc n) k x d.1 (omega arith) (λ i. ap (λ m. get_or whole m nothing) (let j : suc n + i ≡ n + suc i = omega arith in j) ∙ h (suc i)) r
 ]
 
 -- a global by its name is the one at its place
@@ -116,22 +104,15 @@ is_same-refl x = rw ((bytes_decides x.name x.name).1 refl, same_sort-refl x.sort
 
 place_stands : (n : ℕ) (ys : List Var) (x : Var) (j : ℕ) → place_from n ys x ≡ Some j → Stands n ys j x
 place_stands n [] x j h = absurd (cc)
-place_stands n (y ∷ ys) x j h = go (is_same x y) refl (place_stands (suc n) ys x j) h
-  where
-    go : (b : Bool) → is_same x y ≡ b → (place_from (suc n) ys x ≡ Some j → Stands (suc n) ys j x) → (if b then Some n else place_from (suc n) ys x) ≡ Some j → Stands n (y ∷ ys) j x
-    go true e rest h = inl (cc, same_is x y e)
-    go false e rest h = inr (rest h)
+place_stands n (y ∷ ys) x j h =
+    first_or_later (is_same x y) _ _ _ h (λ e k. inl (sym k, same_is x y e)) (λ _ k. inr (place_stands (suc n) ys x j k))
 
 stands_placed : (n : ℕ) (ys : List Var) (x : Var) (j : ℕ) → Stands n ys j x → (i : ℕ) × (place_from n ys x ≡ Some i)
 stands_placed n [] x j s = absurd s
-stands_placed n (y ∷ ys) x j s = go (is_same x y) refl (stands_placed (suc n) ys x j) s
-  where
-    go : (b : Bool) → is_same x y ≡ b → (Stands (suc n) ys j x → (i : ℕ) × (place_from (suc n) ys x ≡ Some i)) → Stands n (y ∷ ys) j x → (i : ℕ) × ((if b then Some n else place_from (suc n) ys x) ≡ Some i)
-    go true e rest s = (n, refl)
-    go false e rest s = elim s [
-      | inl a ↦ absurd (let k : is_same x y ≡ true = ap (is_same x) a.1 ∙ is_same-refl x in cc)
-      | inr r ↦ rest r
-    ]
+stands_placed n (y ∷ ys) x j s = elim (is_same x y) as (λ b. is_same x y ≡ b → (i : ℕ) × ((if b then Some n else place_from (suc n) ys x) ≡ Some i)) [
+  | true ↦ λ e. (n, refl)
+  | false ↦ λ e. ⊎_elim (λ (a : (j ≡ n) × (y ≡ x)). absurd (let k : is_same x y ≡ true = ap (is_same x) a.1 ∙ is_same-refl x in cc)) (stands_placed (suc n) ys x j) s
+] refl
 
 -- ---- shared globals
 

@@ -2,28 +2,16 @@
 use Rattle.std.proofs.Common.{List, [], ◌∷◌, map, refl, sym, subst}
 use Rattle.std.specs.Prelude.{IsTrue}
 use Rattle.std.specs.List.{AllByRecursion}
-use Rattle.sd_base.specs.declared.Sort.{Sort}
-use Rattle.sd_base.specs.declared.Var.{Var}
-use Rattle.sd_base.specs.Value.{Text, Value}
+use Rattle.sd_extract.proofs.SourceWords.{Sort, Var, Text, Value, Meaning, interpretation, truth_of, Decl, Const, Function, Axiom, Expr, Program, value, HasSorts, nowhere, uniques_in}
+use Rattle.sd_extract.proofs.CoreWords.{is_true, HaveSorts, constants_named, functions_in, axioms_in, core_axiom, core_program, AxiomsAreKept}
 use Rattle.sd_base.specs.Sorts.{HasSort}
-use Rattle.sd_base.specs.Meaning.{Meaning, Table, interpretation, truth_of}
+use Rattle.sd_base.specs.Meaning.{Table}
 use Rattle.sd_base.proofs.Lists.{all-append, all-front, all-back, all-weaker}
-use Rattle.sd_ast.specs.declared.Decl.{Decl}
-use Rattle.sd_ast.specs.declared.Decl.TheVariants.{Const, Function, Axiom}
-use Rattle.sd_ast.specs.declared.Expr.{Expr}
-use Rattle.sd_ast.specs.declared.Program.{Program}
-use Rattle.sd_meaning.specs.Evaluate.{value}
-use Rattle.sd_meaning.specs.Inputs.{HasSorts, HasSignature, nowhere, IsTrueOf, uniques_in, AreDistinct}
-use Rattle.sd_core.specs.Run.{is_true}
-use Rattle.sd_core.specs.Meanings.{HaveSorts, FitsTable, Fits, Differ, IsMeaningOf}
-use Rattle.sd_extract.specs.Programs.{constants_named, functions_in, axioms_in, core_axiom, core_program}
-use Rattle.sd_extract.specs.Laws.{AxiomsAreKept}
+use Rattle.sd_meaning.specs.Inputs.{HasSignature, IsTrueOf, AreDistinct}
+use Rattle.sd_core.specs.Meanings.{FitsTable, Fits, Differ, IsMeaningOf}
+use Rattle.sd_extract.proofs.CodeLists.{all_map}
 
 -- ---- lists
-
-into_map : {A B : Type 0} (Q : B → Type 0) (f : A → B) (xs : List A) → AllByRecursion (λ a. Q (f a)) xs → AllByRecursion Q (map f xs)
-into_map Q f [] a = tt
-into_map Q f (x ∷ xs) a = (a.0, into_map Q f xs a.1)
 
 out_of_map : {A B : Type 0} (Q : B → Type 0) (f : A → B) (xs : List A) → AllByRecursion Q (map f xs) → AllByRecursion (λ a. Q (f a)) xs
 out_of_map Q f [] a = tt
@@ -100,12 +88,12 @@ module _ (P : Program) (M : Meaning) where
     core_axioms_hold : AllByRecursion HoldsHere (axioms_in P.decls) → AllByRecursion (λ e. IsTrue (is_true (interpretation M) e)) (map core_axiom (axioms_in P.decls))
     core_axioms_hold h =
         out_of_map IsTrue (is_true (interpretation M)) (map core_axiom (axioms_in P.decls))
-        (subst (AllByRecursion IsTrue) (sym (kept P M)) (into_map IsTrue (λ e. truth_of (value (interpretation M) nowhere e.kind)) (axioms_in P.decls) h))
+        (subst (AllByRecursion IsTrue) (sym (kept P M)) (all_map HoldsHere IsTrue (λ e. truth_of (value (interpretation M) nowhere e.kind)) (λ e k. k) (axioms_in P.decls) h))
 
     axioms_hold_here : AllByRecursion (λ e. IsTrue (is_true (interpretation M) e)) (map core_axiom (axioms_in P.decls)) → AllByRecursion HoldsHere (axioms_in P.decls)
     axioms_hold_here h =
         out_of_map IsTrue (λ e. truth_of (value (interpretation M) nowhere e.kind)) (axioms_in P.decls)
-        (subst (AllByRecursion IsTrue) (kept P M) (into_map IsTrue (is_true (interpretation M)) (map core_axiom (axioms_in P.decls)) h))
+        (subst (AllByRecursion IsTrue) (kept P M) (all_map (λ e. IsTrue (is_true (interpretation M) e)) IsTrue (is_true (interpretation M)) (λ e k. k) (map core_axiom (axioms_in P.decls)) h))
 
     pub core_meaning : ((s : Sort) → HasSort s (M.start s)) → AllByRecursion (IsTrueOf P M) P.decls → AreDistinct M (uniques_in P.decls) → IsMeaningOf (core_program P) M
     core_meaning starts h u = record {

@@ -3,24 +3,13 @@ use Rattle.std.proofs.Common.{◌≡◌, ℕ, List, length, Some, sym, ap, ◌�
 use Rattle.std.specs.Prelude.{slice_get}
 use Rattle.std.proofs.lemmas.List.{length-map}
 use Rattle.std.proofs.lemmas.Option.{same_Some}
-use Rattle.sd_base.specs.Value.{Text, Value}
-use Rattle.sd_base.specs.Meaning.{Meaning, interpretation}
-use Rattle.sd_ast.specs.declared.Program.{Program}
-use Rattle.sd_ast.specs.Tree.{names_of}
-use Rattle.sd_meaning.specs.Evaluate.{Store, value_of}
-use Rattle.sd_meaning.specs.Routine.{Routine, procedure_in, routine_named}
-use Rattle.sd_meaning.specs.Inputs.{HasSorts, in_sorts, globals_in, IsInput, SameInput}
-use Rattle.sd_meaning.specs.Run.{named, run}
+use Rattle.sd_extract.proofs.SourceWords.{Text, Value, Meaning, interpretation, Program, names_of, Store, value_of, Routine, procedure_in, routine_named, HasSorts, globals_in, run, WellTyped}
+use Rattle.sd_extract.proofs.CoreWords.{CoreProc, flag_run, sorts_of, HaveSorts, Exact, core_program, number_of, RunsAreKept, ProceduresAreKept, AxiomsAreKept, ExtractedIsFormed}
+use Rattle.sd_meaning.specs.Inputs.{in_sorts, IsInput, SameInput}
+use Rattle.sd_meaning.specs.Run.{named}
 use Rattle.sd_meaning.specs.NewFailure.{NewFailure}
-use Rattle.sd_types.specs.Declarations.{WellTyped}
-use Rattle.sd_core.specs.declared.CoreProc.{CoreProc}
-use Rattle.sd_core.specs.Run.{flag_run}
-use Rattle.sd_core.specs.Formed.{sorts_of}
-use Rattle.sd_core.specs.Meanings.{HaveSorts}
 use Rattle.sd_core.specs.Failure.{IsInputOf, AreEqualInputs, NewFailureOf}
-use Rattle.sd_extract.specs.Law.{Exact}
-use Rattle.sd_extract.specs.Programs.{core_program}
-use Rattle.sd_extract.specs.Laws.{number_of, RunsAreKept, ProceduresAreKept, AxiomsAreKept, ExtractedIsFormed, FailuresAreKept}
+use Rattle.sd_extract.specs.Laws.{FailuresAreKept}
 use Rattle.sd_extract.proofs.FailureMeanings.{have_sorts, has_sorts, core_meaning, decls_true, uniques_distinct}
 use Rattle.sd_extract.proofs.FormedDeclarations.{is_typed, routine_fine}
 use Rattle.sd_extract.proofs.FormedFrames.{declared_of}

@@ -1,67 +1,16 @@
 -- What typing gives: assigned variables are kept apart from everything that stays.
-use Rattle.std.proofs.Common.{◌≡◌, ℕ, suc, ◌+◌, ◌≤◌, ◌<◌, List, [], ◌∷◌, ◌++◌, Option, Some, None, refl, sym, ◌∙◌, ap, subst, length, ⊎_elim, arith}
-use Rattle.std.specs.Prelude.{Bool, true, false, ◌⊎◌, option_map, unwrap_or, if◌then◌else◌}
+use Rattle.std.proofs.Common.{◌≡◌, ℕ, suc, ◌+◌, ◌≤◌, ◌<◌, List, [], ◌∷◌, ◌++◌, Option, Some, None, sym, ◌∙◌, ap, subst, length, ⊎_elim, arith}
+use Rattle.std.specs.Prelude.{◌⊎◌, option_map, unwrap_or}
 use Rattle.std.proofs.lemmas.List.{length-map}
-use Rattle.sd_base.specs.declared.Var.{Var}
-use Rattle.sd_base.specs.Value.{Text, same_text}
-use Rattle.sd_ast.specs.Tree.{names_of}
-use Rattle.sd_core.specs.declared.Spot.{Spot}
-use Rattle.sd_core.specs.declared.Spot.TheVariants.{Slot, Global}
-use Rattle.sd_core.specs.declared.CoreStmt.{CoreStmt}
-use Rattle.sd_core.specs.Run.{slots_from}
-use Rattle.sd_extract.specs.Names.{Names, place_in, either_place, place_of}
-use Rattle.sd_extract.specs.Extract.{Source, state_of, names_at, frame_at, globals_from, index_in, spot_of}
-pub use Rattle.sd_extract.specs.Law.{Among, IsLocal, IsModified, MayAssign}
+use Rattle.sd_extract.proofs.SourceWords.{Text, names_of}
+use Rattle.sd_extract.proofs.CoreWords.{Spot, Slot, Global, CoreStmt, slots_from, Names, place_in, either_place, place_of, Source, state_of, names_at, frame_at, index_in, spot_of}
+pub use Rattle.sd_extract.specs.Laws.{Among, IsLocal, IsModified, MayAssign}
 use Rattle.sd_extract.proofs.Writes.{Apart, Misses, SetsAt}
 use Rattle.sd_extract.proofs.Agree.{Room, CanSet}
 use Rattle.sd_extract.proofs.CallsAgree.{NotIn, Outside, slots_length}
 use Rattle.sd_extract.proofs.LoopCalls.{OnlySlots, outside}
+use Rattle.sd_extract.proofs.CodeNames.{index_is, place_in-slots, place_in-globals, place_in-append}
 use Rattle.sd_extract.proofs.SlotsApart.{apart_below, apart_above, apart_globals, apart_append, apart_set_all, entry_outside, known}
-
--- ---- places by number
-
-place_in-slots : (vs : List Var) (k : ℕ) (x : Text) → place_in (names_of vs) (slots_from k vs) x ≡ option_map (λ j. Slot (k + j)) (index_in vs x)
-place_in-slots [] k x = refl
-place_in-slots (v ∷ vs) k x = go (same_text x v.name) (place_in-slots vs (suc k) x)
-  where
-    shift : (o : Option ℕ) → option_map (λ j. Slot (suc k + j)) o ≡ option_map (λ j. Slot (k + j)) (option_map (λ n. suc n) o)
-    shift None = refl
-    shift (Some j) = let e : suc k + j ≡ k + suc j = omega arith in ap (λ n. Some (Slot n)) e
-
-    go : (b : Bool) → place_in (names_of vs) (slots_from (suc k) vs) x ≡ option_map (λ j. Slot (suc k + j)) (index_in vs x) → (if b then Some (Slot k) else place_in (names_of vs) (slots_from (suc k) vs) x) ≡ option_map (λ j. Slot (k + j)) (if b then Some 0 else option_map (λ n. suc n) (index_in vs x))
-    go true e = let f : k ≡ k + 0 = omega arith in ap (λ n. Some (Slot n)) f
-    go false e = e ∙ shift (index_in vs x)
-
-place_in-globals : (vs : List Var) (k : ℕ) (x : Text) → place_in (names_of vs) (globals_from k vs) x ≡ option_map (λ j. Global (k + j)) (index_in vs x)
-place_in-globals [] k x = refl
-place_in-globals (v ∷ vs) k x = go (same_text x v.name) (place_in-globals vs (suc k) x)
-  where
-    shift : (o : Option ℕ) → option_map (λ j. Global (suc k + j)) o ≡ option_map (λ j. Global (k + j)) (option_map (λ n. suc n) o)
-    shift None = refl
-    shift (Some j) = let e : suc k + j ≡ k + suc j = omega arith in ap (λ n. Some (Global n)) e
-
-    go : (b : Bool) → place_in (names_of vs) (globals_from (suc k) vs) x ≡ option_map (λ j. Global (suc k + j)) (index_in vs x) → (if b then Some (Global k) else place_in (names_of vs) (globals_from (suc k) vs) x) ≡ option_map (λ j. Global (k + j)) (if b then Some 0 else option_map (λ n. suc n) (index_in vs x))
-    go true e = let f : k ≡ k + 0 = omega arith in ap (λ n. Some (Global n)) f
-    go false e = e ∙ shift (index_in vs x)
-
-place_in-append : (xs ys : List Text) (ps qs : List Spot) (x : Text) → length xs ≡ length ps → place_in (xs ++ ys) (ps ++ qs) x ≡ either_place (place_in xs ps x) (place_in ys qs x)
-place_in-append [] ys [] qs x e = refl
-place_in-append [] ys (p ∷ ps) qs x e = absurd (omega (arith, e))
-place_in-append (y ∷ xs) ys [] qs x e = absurd (omega (arith, e))
-place_in-append (y ∷ xs) ys (p ∷ ps) qs x e = go (same_text x y) (place_in-append xs ys ps qs x (omega (arith, e)))
-  where
-    go : (b : Bool) → place_in (xs ++ ys) (ps ++ qs) x ≡ either_place (place_in xs ps x) (place_in ys qs x) → (if b then Some p else place_in (xs ++ ys) (ps ++ qs) x) ≡ either_place (if b then Some p else place_in xs ps x) (place_in ys qs x)
-    go true e = refl
-    go false e = e
-
-index_below : (vs : List Var) (x : Text) (j : ℕ) → index_in vs x ≡ Some j → j < length vs
-index_below [] x j e = absurd (cc)
-index_below (v ∷ vs) x j e = go (same_text x v.name) (index_in vs x) (index_below vs x) e
-  where
-    go : (b : Bool) (o : Option ℕ) → ((i : ℕ) → o ≡ Some i → i < length vs) → (if b then Some 0 else option_map (λ n. suc n) o) ≡ Some j → j < suc (length vs)
-    go true o h e = let f : 0 ≡ j = cc in omega (arith, f)
-    go false None h e = absurd (cc)
-    go false (Some i) h e = let f : suc i ≡ j = cc in let g = h i refl in omega (arith, f, g)
 
 pub places_of : (S : Source) (a c : ℕ) (x : Text) → place_in (names_at S a c).local_names (names_at S a c).locals x ≡ either_place (option_map (λ j. Slot (0 + j)) (index_in S.routine.head.ins x)) (option_map (λ j. Slot (a + j)) (index_in (state_of S) x))
 places_of S a c x =
@@ -97,7 +46,7 @@ module _ (S : Source) (a c : ℕ) (leave : List CoreStmt) (R : Room) (own : List
   local_set : (x : Text) → IsLocal S x → ((j : ℕ) → j < length (state_of S) → Apart (Slot (a + j)) own) → SetsAt R.size R.width N R.fixed x (spot_of N x)
   local_set x h own_apart =
       let j = h.at in
-      let below : j < length (state_of S) = index_below (state_of S) x j h.found in
+      let below : j < length (state_of S) = (index_is (state_of S) x j h.found).2 in
       let place : place_in N.local_names N.locals x ≡ Some (Slot (a + j)) = places_of S a c x ∙ (λ i. either_place (option_map (λ j. Slot (0 + j)) (h.not_in i)) (option_map (λ j. Slot (a + j)) (h.found i))) in
       let found : place_of N x ≡ Some (Slot (a + j)) = ap (λ o. either_place o (place_in N.global_names N.globals x)) place in
       let copies = copies_apart j below in
@@ -115,7 +64,7 @@ module _ (S : Source) (a c : ℕ) (leave : List CoreStmt) (R : Room) (own : List
   global_set x h own_slots =
       let j = 0 + h.at in
       let same : h.at ≡ j = omega arith in
-      let below : h.at < length S.globals = index_below S.globals x h.at h.found in
+      let below : h.at < length S.globals = (index_is S.globals x h.at h.found).2 in
       let place : place_in N.local_names N.locals x ≡ None = places_of S a c x ∙ (λ i. either_place (option_map (λ j. Slot (0 + j)) (h.not_in i)) (option_map (λ j. Slot (a + j)) (h.not_local i))) in
       let found : place_of N x ≡ Some (Global j) = (λ i. either_place (place i) (place_in-globals S.globals 0 x i)) ∙ ap (λ o. option_map (λ j. Global (0 + j)) o) h.found in
       let modified : Among j S.modifies = subst (λ n. Among n S.modifies) same h.modified in

@@ -1,29 +1,19 @@
 -- What the rules on statements say besides types: assigned variables differ and may be assigned, and callees modify no more.
-use Rattle.std.proofs.Common.{◌≡◌, List, [], ◌∷◌, ◌++◌, Option, None, Some, Ok, Err, refl, sym, ◌∙◌, ap, subst}
+use Rattle.std.proofs.Common.{◌≡◌, List, [], ◌∷◌, ◌++◌, Option, None, Some, Ok, Err, refl, sym, ◌∙◌, ap, subst, append_assoc}
 use Rattle.std.specs.Prelude.{Bool, true, false, ◌||◌, Result, if◌then◌else◌}
 use Rattle.std.specs.List.{AllByRecursion, IsDistinct}
 use Rattle.std.specs.Cmp.Lexicographic.{bytes_decides}
-use Rattle.std.proofs.Common.{append_assoc}
 use Rattle.std.proofs.lemmas.List.{append-nil}
+use Rattle.std.proofs.lemmas.Bool.{false_from_ne_true}
 use Rattle.std.proofs.lemmas.List.Folds.{list_any-append}
+use Rattle.sd_extract.proofs.SourceWords.{Text, same_text, Expr, Left, Stmt, StmtKind, Assign, Call, If', While', Row_of-Stmt, end_of-Stmt, more_of-Stmt, kinds_of, kinds_in, TypeError, Twice, Callee, is_among, and_then, both, named}
+use Rattle.sd_extract.proofs.SourceWords.{with_name, with_names, declared_as, is_truth, assignable, modified_rule, has_body, left_names, IsTypedStmt, AreTypedStmts}
 use Rattle.sd_base.specs.declared.Place.{Place}
-use Rattle.sd_base.specs.Value.{Text, same_text}
 use Rattle.sd_base.proofs.Texts.{same_text-refl}
-use Rattle.sd_ast.specs.declared.Expr.{Expr}
-use Rattle.sd_ast.specs.declared.Left.{Left}
-use Rattle.sd_ast.specs.declared.Stmt.{Stmt}
-use Rattle.sd_ast.specs.declared.StmtKind.{StmtKind, Assign, Call, If', While', Row_of-Stmt, end_of-Stmt, more_of-Stmt}
-use Rattle.sd_meaning.specs.Run.{kinds_of, kinds_in}
-use Rattle.sd_types.specs.declared.refusal.TypeError.{TypeError}
-use Rattle.sd_types.specs.declared.refusal.TypeError.TheVariants.{Twice}
-use Rattle.sd_types.specs.declared.scope.Callee.{Callee}
-use Rattle.sd_types.specs.Names.{is_among}
-use Rattle.sd_types.specs.Answer.{and_then, both, each, all_of}
-use Rattle.sd_types.specs.Tables.{named, with_name, with_names}
-use Rattle.sd_types.specs.Scopes.{declared_as}
-use Rattle.sd_types.specs.Phrases.{agree, same_number, all_given, is_truth}
-use Rattle.sd_types.specs.Statements.{Routine, distinct, targets, assignable, modified_rule, has_body, left_sort, left_names, typed_indices, assignment, assign_rule, fits_callee, callee_rule, call_rule, true_invariant, stmt_rule, row_rule, each_stmt}
-use Rattle.sd_types.specs.TypedBodies.{IsTypedStmt, AreTypedStmts, AllTypedStmts}
+use Rattle.sd_types.specs.Answer.{each, all_of}
+use Rattle.sd_types.specs.Phrases.{agree, same_number, all_given}
+use Rattle.sd_types.specs.Statements.{Routine, distinct, targets, left_sort, typed_indices, assignment, assign_rule, fits_callee, callee_rule, call_rule, true_invariant, stmt_rule, row_rule, each_stmt}
+use Rattle.sd_types.specs.TypedBodies.{AllTypedStmts}
 use Rattle.sd_types.proofs.TypingLemmas.{parts, ok_is}
 
 -- ---- names that are declared one after another
@@ -46,11 +36,8 @@ among_more : (seen : List Text) (x y : Text) → is_among seen y ≡ true → is
 among_more seen x y h = list_any-append (same_text y) seen (x ∷ []) ∙ ap (λ (b : Bool). b || is_among (x ∷ []) y) h
 
 not_same : (seen : List Text) (x y : Text) → is_among seen x ≡ false → is_among seen y ≡ true → same_text y x ≡ false
-not_same seen x y n a = go (same_text y x) refl
-  where
-    go : (b : Bool) → same_text y x ≡ b → b ≡ false
-    go true e = let f : is_among seen x ≡ true = subst (λ (z : Text). is_among seen z ≡ true) ((bytes_decides y x).0 e) a in absurd (cc)
-    go false e = refl
+not_same seen x y n a = false_from_ne_true (same_text y x) (λ e.
+    let f : is_among seen x ≡ true = subst (λ (z : Text). is_among seen z ≡ true) ((bytes_decides y x).0 e) a in cc)
 
 pub distinct_new : (xs seen all : List Text) → with_names seen xs ≡ Ok all → IsDistinct same_text xs × ((y : Text) → is_among seen y ≡ true → AllByRecursion (λ x. same_text y x ≡ false) xs) × (seen ++ xs ≡ all)
 unfolding IsDistinct

@@ -1,45 +1,25 @@
 -- What the rules on declarations say of a program, its procedures and their bodies.
 use Rattle.std.proofs.Common.{◌≡◌, List, [], ◌∷◌, ◌++◌, Option, Some, None, Ok, Err, refl, sym, ◌∙◌, ap, subst}
-use Rattle.std.specs.Prelude.{Bool as Test, true, false, ◌&&◌, option_map, if◌then◌else◌}
+use Rattle.std.specs.Prelude.{true, false, ◌&&◌, option_map, if◌then◌else◌}
 use Rattle.std.specs.List.{AllByRecursion, IsDistinct}
 use Rattle.std.proofs.lemmas.Option.{same_Some, none-some}
 use Rattle.std.proofs.lemmas.Bool.{and_parts}
-use Rattle.sd_base.specs.declared.Sort.{Sort, Int, Bool, Named}
-use Rattle.sd_base.specs.declared.Var.{Var}
-use Rattle.sd_base.specs.Value.{Text, same_text}
-use Rattle.sd_base.specs.Sorts.{MapOf, same_sort}
-use Rattle.sd_ast.specs.Tree.{names_of}
-use Rattle.sd_ast.specs.declared.Decl.{Decl}
-use Rattle.sd_ast.specs.declared.Decl.TheVariants.{Const, Function, Globals}
-use Rattle.sd_ast.specs.declared.Proc.{Proc}
-use Rattle.sd_ast.specs.declared.Impl.{Impl}
-use Rattle.sd_ast.specs.declared.Body.{Body}
-use Rattle.sd_ast.specs.declared.Head.{Head}
-use Rattle.sd_ast.specs.declared.Expr.{Expr}
-use Rattle.sd_ast.specs.declared.Spec.{Spec}
-use Rattle.sd_ast.specs.declared.Spec.TheVariants.{Requires, Ensures}
-use Rattle.sd_ast.specs.declared.Program.{Program}
-use Rattle.sd_meaning.specs.Routine.{Routine, procedure_in, implementation_in, with_body, routine_named, requires_of, ensures_of}
-use Rattle.sd_meaning.specs.Run.{kinds_of}
+use Rattle.sd_extract.proofs.SourceWords.{Sort, Var, Text, same_text, MapOf, names_of, Decl, Const, Function, Globals, Proc, Impl, Body, Head, Expr, Spec, Requires, Ensures, Program, Routine, procedure_in, implementation_in, with_body}
+use Rattle.sd_extract.proofs.SourceWords.{routine_named, requires_of, ensures_of, kinds_of, Callee, Scope, Variable, and_then, both, named, Context, context, declared_as, known_sort, is_truth, routine, variables_as, constants_of}
+use Rattle.sd_extract.proofs.SourceWords.{parameters, modifies_of, callee_of, locals_of, own_names, known_sorts, body_variables, decl_rule, WellTyped, HasType}
+use Rattle.sd_extract.proofs.CoreWords.{sorts_of, IsIndexSort, IsSort}
+use Rattle.sd_base.specs.declared.Sort.{Int, Bool, Named}
+use Rattle.sd_base.specs.Sorts.{same_sort}
 use Rattle.sd_types.specs.declared.refusal.TypeError.TheVariants.{Kind}
-use Rattle.sd_types.specs.declared.scope.Callee.{Callee}
-use Rattle.sd_types.specs.declared.scope.Scope.{Scope}
-use Rattle.sd_types.specs.declared.scope.Variable.{Variable}
 use Rattle.sd_types.specs.declared.scope.Nature.TheVariants as nature
 use Rattle.sd_types.specs.declared.scope.Site.TheVariants as site
-use Rattle.sd_types.specs.Answer.{and_then, both, each}
-use Rattle.sd_types.specs.Tables.{named}
-use Rattle.sd_types.specs.Scopes.{Context, context, declared_as}
-use Rattle.sd_types.specs.Phrases.{known_sort, is_of, sort_of, is_truth}
-use Rattle.sd_types.specs.Phrases.{index_sort}
-use Rattle.sd_types.specs.Statements.{routine}
-use Rattle.sd_types.specs.Declarations.{variables_as, constants_of, parameters, modifies_of, callee_of, locals_of, own_names, nothing, known_sorts, known_vars, head_rule, spec_rule, body_variables, body_stmts_rule, body_rule, own_body_rule, procedure_rule, have_sorts, same_types, decl_rule, WellTyped}
-use Rattle.sd_types.specs.Typing.{HasType}
+use Rattle.sd_types.specs.Answer.{each}
+use Rattle.sd_types.specs.Phrases.{is_of, sort_of, index_sort}
+use Rattle.sd_types.specs.Declarations.{nothing, known_vars, head_rule, spec_rule, body_stmts_rule, body_rule, own_body_rule, procedure_rule, have_sorts, same_types}
 use Rattle.sd_types.specs.TypedBodies.{IsTypedBody, IsTypedOwnBody, HasTypedBody, HaveTypedBodies}
 use Rattle.sd_types.proofs.TypingLemmas.{parts, ok_is, fits-same, types_exact}
 use Rattle.sd_base.proofs.SortLemmas.{same_sort-is}
 use Rattle.sd_types.proofs.TypedBodyLemmas.{typed_scope, bodies_typed}
-use Rattle.sd_core.specs.Formed.{sorts_of, IsIndexSort, IsSort}
 use Rattle.sd_extract.proofs.FormedChecks.{is_declared, each_all, EachChecked, EachTyped, stmts_checked, all_typed}
 use Rattle.sd_extract.proofs.FormedTables.{OnceEach, entries_names, entries_once, global_entries, function_entries, procedure_entries, OwnNames, Entered, entered, own_distinct}
 use Rattle.sd_extract.proofs.FormedLookups.{procedure_named, procedure_has, implementation_has}
@@ -206,13 +186,10 @@ same_sorts (s ∷ ss) (v ∷ vs) h =
     λ i. sym e i ∷ f i
 
 types_same : (h : Head) (q : Callee) (u : Unit {0}) → same_types h q ≡ Ok u → (sorts_of h.ins ≡ q.ins) × (sorts_of h.outs ≡ q.outs)
-types_same h q u = go (have_sorts q.ins h.ins && have_sorts q.outs h.outs) refl
-  where
-    go : (b : Test) → (have_sorts q.ins h.ins && have_sorts q.outs h.outs) ≡ b → (if b then Ok tt else Err (Kind h.at)) ≡ Ok u → (sorts_of h.ins ≡ q.ins) × (sorts_of h.outs ≡ q.outs)
-    go true e k =
-        let t = and_parts (have_sorts q.ins h.ins) (have_sorts q.outs h.outs) e in
-        (same_sorts q.ins h.ins t.0, same_sorts q.outs h.outs t.1)
-    go false e k = absurd (cc)
+types_same h q u = elim (have_sorts q.ins h.ins && have_sorts q.outs h.outs) as (λ b. (have_sorts q.ins h.ins && have_sorts q.outs h.outs) ≡ b → (if b then Ok tt else Err (Kind h.at)) ≡ Ok u → (sorts_of h.ins ≡ q.ins) × (sorts_of h.outs ≡ q.outs)) [
+  | true ↦ λ e k. let t = and_parts (have_sorts q.ins h.ins) (have_sorts q.outs h.outs) e in (same_sorts q.ins h.ins t.0, same_sorts q.outs h.outs t.1)
+  | false ↦ λ e k. absurd (cc)
+] refl
 
 module _ (P : Program) (G : Scope) (typed : IsTyped P G) where
   pub proc_is_fine : (f : Text) (p : Proc) → procedure_in P.decls f ≡ Some p → ProcFine G p

@@ -1,31 +1,15 @@
 -- Expressions keep their types.
 use Rattle.std.proofs.Common.{◌≡◌, List, [], ◌∷◌, Some, refl, sym, ◌∙◌, ap, subst}
 use Rattle.std.specs.Prelude.{true, false}
-use Rattle.sd_base.specs.declared.Sort.{Sort, Bool as BoolSort}
-use Rattle.sd_base.specs.Value.{Text}
-use Rattle.sd_base.specs.Sorts.{MapOf}
-use Rattle.sd_ast.specs.declared.BinOp.{BinOp}
+use Rattle.sd_extract.proofs.SourceWords.{Sort, BoolSort, Text, MapOf, BinOp, UnOp, Expr, ExprKind, Apply', Row_of-Expr, end_of-Expr, more_of-Expr, OldOf, UnaryOf, BinaryOf, SelectOf, StoreOf, Variable, Signature, Context, HasType, AllHave}
+use Rattle.sd_extract.proofs.CoreWords.{CoreOp, CoreExpr, Apply, Op, Row_of-CoreExpr, end_of-CoreExpr, more_of-CoreExpr, items-the_row-CoreExpr, items_hidden-the_row-CoreExpr-0, hidden-the_row-CoreExpr-0, Function, Store, IsIndexSort}
+use Rattle.sd_extract.proofs.CoreWords.{IsSort, declared_as, AllHaveTypes, HasCoreType, Names, place_of, at_place, negated, both, unary_of, binary_of, core_of, cores_of, cores}
 use Rattle.sd_ast.specs.declared.BinOp.TheVariants as bin
-use Rattle.sd_ast.specs.declared.UnOp.{UnOp}
 use Rattle.sd_ast.specs.declared.UnOp.TheVariants as un
-use Rattle.sd_ast.specs.declared.Expr.{Expr}
-use Rattle.sd_ast.specs.declared.ExprKind.{ExprKind, Var, Apply', Row_of-Expr, end_of-Expr, more_of-Expr}
-use Rattle.sd_ast.specs.Tree.{OldOf, UnaryOf, BinaryOf, SelectOf, StoreOf}
-use Rattle.sd_types.specs.declared.scope.Variable.{Variable}
-use Rattle.sd_types.specs.declared.scope.Signature.{Signature}
-use Rattle.sd_types.specs.Scopes.{Context}
-use Rattle.sd_types.specs.Typing.{HasType, HaveTypes, TakesOne, TakesTwo}
-use Rattle.sd_types.specs.TypedBodies.{AllHave}
-use Rattle.sd_core.specs.declared.CoreOp.{CoreOp}
+use Rattle.sd_ast.specs.declared.ExprKind.{Var}
+use Rattle.sd_types.specs.Typing.{HaveTypes, TakesOne, TakesTwo}
 use Rattle.sd_core.specs.declared.CoreOp.TheVariants as op
-use Rattle.sd_core.specs.declared.CoreExpr.{CoreExpr, Apply, Op, Row_of-CoreExpr, end_of-CoreExpr, more_of-CoreExpr, items-the_row-CoreExpr, items_hidden-the_row-CoreExpr-0}
-use Rattle.sd_core.specs.declared.CoreExpr.TheBlock.{hidden-the_row-CoreExpr-0}
-use Rattle.sd_core.specs.declared.Function.{Function}
-use Rattle.sd_core.specs.Store.{Store}
-use Rattle.sd_core.specs.Formed.{IsIndexSort, IsSort, declared_as, Takes, AllHaveTypes}
-use Rattle.sd_core.specs.Formed.{HasType as HasCoreType, HaveTypes as HaveCoreTypes}
-use Rattle.sd_extract.specs.Names.{Names, place_of, at_place, negated, both, unary_of, binary_of, core_of, cores_of}
-use Rattle.sd_extract.specs.Extract.{cores}
+use Rattle.sd_core.specs.Formed.{Takes, HaveTypes as HaveCoreTypes}
 
 -- ---- operators of the core
 
@@ -80,17 +64,17 @@ module _ (F : List Function) (S : Store Sort) where
       both_typed op.Or (negated a) b BoolSort u s (negated_typed a (at_bool a t h takes.0)) k (two_are refl takes.1, takes.2)
   binary_typed bin.Explies a b t u s h k takes =
       both_typed op.Or a (negated b) t BoolSort s h (negated_typed b (at_bool b u k takes.1)) (two_are takes.0 refl, takes.2)
-  binary_typed bin.And a b t u s h k takes = both_typed op.And a b t u s h k (two_are takes.0 takes.1, takes.2)
-  binary_typed bin.Or a b t u s h k takes = both_typed op.Or a b t u s h k (two_are takes.0 takes.1, takes.2)
   binary_typed bin.Eq a b t u s h k takes = both_typed op.Eq a b t u s h k ((u, two_are takes.0 refl), takes.1)
   binary_typed bin.Ne a b t u s h k takes =
       negated_is (both op.Eq a b) s (both_typed op.Eq a b t u BoolSort h k ((u, two_are takes.0 refl), refl)) takes.1
   binary_typed bin.Lt a b t u s h k takes =
       negated_is (both op.Le b a) s (both_typed op.Le b a u t BoolSort k h (two_are takes.1 takes.0, refl)) takes.2
-  binary_typed bin.Le a b t u s h k takes = both_typed op.Le a b t u s h k (two_are takes.0 takes.1, takes.2)
   binary_typed bin.Gt a b t u s h k takes =
       negated_is (both op.Le a b) s (both_typed op.Le a b t u BoolSort h k (two_are takes.0 takes.1, refl)) takes.2
   binary_typed bin.Ge a b t u s h k takes = both_typed op.Le b a u t s k h (two_are takes.1 takes.0, takes.2)
+  binary_typed bin.And a b t u s h k takes = both_typed op.And a b t u s h k (two_are takes.0 takes.1, takes.2)
+  binary_typed bin.Or a b t u s h k takes = both_typed op.Or a b t u s h k (two_are takes.0 takes.1, takes.2)
+  binary_typed bin.Le a b t u s h k takes = both_typed op.Le a b t u s h k (two_are takes.0 takes.1, takes.2)
   binary_typed bin.Add a b t u s h k takes = both_typed op.Add a b t u s h k (two_are takes.0 takes.1, takes.2)
   binary_typed bin.Sub a b t u s h k takes = both_typed op.Sub a b t u s h k (two_are takes.0 takes.1, takes.2)
   binary_typed bin.Mul a b t u s h k takes = both_typed op.Mul a b t u s h k (two_are takes.0 takes.1, takes.2)
@@ -119,20 +103,9 @@ one_sort un.Not t s h = subst IsSort (sym h.1) tt
 one_sort un.Neg t s h = subst IsSort (sym h.1) tt
 
 two_sort : (o : BinOp) (t u s : Sort) → TakesTwo o t u s → IsSort s
-two_sort bin.Iff t u s h = subst IsSort (sym h.2) tt
-two_sort bin.Implies t u s h = subst IsSort (sym h.2) tt
-two_sort bin.Explies t u s h = subst IsSort (sym h.2) tt
-two_sort bin.And t u s h = subst IsSort (sym h.2) tt
-two_sort bin.Or t u s h = subst IsSort (sym h.2) tt
 two_sort bin.Eq t u s h = subst IsSort (sym h.1) tt
 two_sort bin.Ne t u s h = subst IsSort (sym h.1) tt
-two_sort bin.Lt t u s h = subst IsSort (sym h.2) tt
-two_sort bin.Le t u s h = subst IsSort (sym h.2) tt
-two_sort bin.Gt t u s h = subst IsSort (sym h.2) tt
-two_sort bin.Ge t u s h = subst IsSort (sym h.2) tt
-two_sort bin.Add t u s h = subst IsSort (sym h.2) tt
-two_sort bin.Sub t u s h = subst IsSort (sym h.2) tt
-two_sort bin.Mul t u s h = subst IsSort (sym h.2) tt
+two_sort _ t u s h = subst IsSort (sym h.2) tt
 
 module _ (F : List Function) (S : Store Sort) (C : Context) where
   pub fit_sort : (N : Names) → Sees F S C N → (e : ExprKind) (s : Sort) → HasType C e s → IsSort s

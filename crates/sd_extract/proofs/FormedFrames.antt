@@ -1,53 +1,24 @@
 -- The frames of a typed procedure, and what its calls run.
-use Rattle.std.proofs.Common.{◌≡◌, ◌≢◌, ℕ, suc, ◌+◌, ◌≤◌, List, [], ◌∷◌, ◌++◌, length, Option, Some, None, Ok, Err, refl, sym, ◌∙◌, ap, subst, ⊎_elim, arith}
-use Rattle.std.specs.Prelude.{Bool, true, false, cond, Result, slice_get, Contains, option_map, if◌then◌else◌}
+use Rattle.std.proofs.Common.{◌≡◌, ◌≢◌, ℕ, suc, ◌+◌, ◌≤◌, List, [], ◌∷◌, ◌++◌, length, Option, Some, None, Ok, Err, refl, sym, ◌∙◌, ap, subst, ⊎_elim, arith, append_assoc, length-append}
+use Rattle.std.specs.Prelude.{Bool, true, false, Result, slice_get, Contains, option_map, if◌then◌else◌}
 use Rattle.std.specs.List.{AllByRecursion, filter_map}
-use Rattle.std.proofs.Common.{append_assoc, length-append}
 use Rattle.sd_base.proofs.Lists.{slice_get-between, all-append, all-weaker}
 use Rattle.std.proofs.lemmas.List.{length-map}
 use Rattle.std.proofs.lemmas.Option.{same_Some, none-some}
-use Rattle.sd_base.specs.declared.Sort.{Sort}
-use Rattle.sd_base.specs.declared.Var.{Var}
-use Rattle.sd_base.specs.Value.{Text, same_text}
-use Rattle.sd_ast.specs.Tree.{names_of}
-use Rattle.sd_ast.specs.declared.Program.{Program}
-use Rattle.sd_ast.specs.declared.Proc.{Proc}
-use Rattle.sd_ast.specs.declared.Impl.{Impl}
-use Rattle.sd_ast.specs.declared.Spec.{Spec}
-use Rattle.sd_ast.specs.declared.Body.{Body}
-use Rattle.sd_meaning.specs.Routine.{procedure_in, implementation_in, with_body, routine_named}
-use Rattle.sd_meaning.specs.Routine.{Routine as SourceRoutine}
-use Rattle.sd_meaning.specs.Inputs.{globals_in}
-use Rattle.sd_types.specs.declared.refusal.TypeError.{TypeError}
+use Rattle.sd_extract.proofs.SourceWords.{Sort, Var, Text, names_of, Program, Proc, Impl, Spec, Body, procedure_in, implementation_in, with_body, routine_named, SourceRoutine, globals_in, TypeError, Variable, Callee, Nature}
+use Rattle.sd_extract.proofs.SourceWords.{Scope, is_among, named, or_global, routine, assigned_as, modified_rule, has_body, variables_as, parameters, modifies_of, callee_of, body_variables}
+use Rattle.sd_extract.proofs.CoreWords.{Spot, Slot, Global, CoreStmt, CoreProc, CoreProgram, Store, set_all, slots_from, sorts_of, state_sorts, sort_at, IsSort, AreApart, Within, Names, place_in, either_place, place_of, Source, state_of}
+use Rattle.sd_extract.proofs.CoreWords.{globals_from, names_at, frame_at, on_args, index_in, modified_names, source_of, number_from, core_procs, body_proc, each_loop_in, kinds, core_program}
 use Rattle.sd_types.specs.declared.refusal.TypeError.TheVariants.{NoBody, NotModified}
-use Rattle.sd_types.specs.declared.scope.Variable.{Variable}
-use Rattle.sd_types.specs.declared.scope.Callee.{Callee}
-use Rattle.sd_types.specs.declared.scope.Nature.{Nature}
 use Rattle.sd_types.specs.declared.scope.Nature.TheVariants as nature
-use Rattle.sd_types.specs.declared.scope.Scope.{Scope}
 use Rattle.sd_types.specs.declared.scope.Site.TheVariants as site
-use Rattle.sd_types.specs.Names.{is_among}
-use Rattle.sd_types.specs.Tables.{named}
-use Rattle.sd_types.specs.Scopes.{or_global}
-use Rattle.sd_types.specs.Statements.{Routine, routine, assigned_as, is_global, modified_rule, has_body}
-use Rattle.sd_types.specs.Declarations.{variables_as, parameters, modifies_of, callee_of, body_variables}
-use Rattle.sd_core.specs.declared.Spot.{Spot}
-use Rattle.sd_core.specs.declared.Spot.TheVariants.{Slot, Global}
-use Rattle.sd_core.specs.declared.CoreStmt.{CoreStmt}
-use Rattle.sd_core.specs.declared.CoreProc.{CoreProc}
-use Rattle.sd_core.specs.declared.CoreProgram.{CoreProgram}
-use Rattle.sd_core.specs.Store.{Store, set_all}
-use Rattle.sd_core.specs.Run.{slots_from}
-use Rattle.sd_core.specs.Formed.{sorts_of, state_sorts, sort_at, IsSort, AreApart, Within}
-use Rattle.sd_extract.specs.Names.{Names, place_in, either_place, place_of}
-use Rattle.sd_extract.specs.Extract.{Source, state_of, globals_from, names_at, frame_at, on_args, index_in, modified_names, source_of, number_from, core_procs, body_proc, each_loop_in, kinds}
-use Rattle.sd_extract.specs.Programs.{core_program}
+use Rattle.sd_types.specs.Statements.{Routine, is_global}
 use Rattle.sd_extract.proofs.FormedTables.{global_entries, procedure_entries, body_names}
 use Rattle.sd_extract.proofs.FormedChecks.{distinct_new}
 use Rattle.sd_extract.proofs.FormedLookups.{globals_as, global_found, no_global, constant_no_global, is_outer, procedure_found, HasBody, has_a_body}
 use Rattle.sd_extract.proofs.FormedPlaces.{Laid, laid_append, laid_vars, laid_two, laid_found, laid_none, place_has, IsSlot, Separate, place_one, global_spots, globals_apart, all_global, set_spots, IsScope, sorts_as, LocalsAt, if_named-some, sees, args_at}
 use Rattle.sd_extract.proofs.FormedDeclarations.{IsTyped, is_scope, procedures_are, procedures_once, RoutineFine, routine_fine}
-use Rattle.sd_extract.proofs.FormedModifies.{numbers_match, modifies_there, all_modified, numbers_have, global_spot}
+use Rattle.sd_extract.proofs.FormedModifies.{unnumbered, numbers_match, modifies_there, all_modified, numbers_have, global_spot}
 use Rattle.sd_extract.proofs.FormedSpots.{Holds, spots_hold, slot_below, slots_apart, slots_before, slots_targets}
 use Rattle.sd_extract.proofs.FormedNumbers.{LoopIs, each_loop_placed, StandsIn, stands_in}
 use Rattle.sd_extract.proofs.FormedStatements.{CalleeAt, Fits, EachLoopsAt}
@@ -60,11 +31,10 @@ sorts_length vs = sym (length-map vs (λ v. v.sort))
 declared_first : (o : Option Proc) (i : Option Impl) (r : SourceRoutine) → with_body o i ≡ Some r → o ≡ Some r.declared
 declared_first None i r e = absurd (none-some r e)
 declared_first (Some p) (Some i) r e = ap (λ (x : SourceRoutine). Some x.declared) (same_Some _ _ e)
-declared_first (Some p) None r e = go p.body e
-  where
-    go : (b : Option Body) → option_map (λ b. record { declared = p; head = p.head; body = b }) b ≡ Some r → Some p ≡ Some r.declared
-    go None k = absurd (none-some r k)
-    go (Some b) k = ap (λ (x : SourceRoutine). Some x.declared) (same_Some _ _ k)
+declared_first (Some p) None r e = elim p.body as (λ b. option_map (λ b. record { declared = p; head = p.head; body = b }) b ≡ Some r → Some p ≡ Some r.declared) [
+  | None ↦ λ k. absurd (none-some r k)
+  | Some b ↦ λ k. ap (λ (x : SourceRoutine). Some x.declared) (same_Some _ _ k)
+] e
 
 pub declared_of : (P : Program) (f : Text) (r : SourceRoutine) → routine_named P f ≡ Some r → procedure_in P.decls f ≡ Some r.declared
 declared_of P f r e = declared_first (procedure_in P.decls f) (implementation_in P.decls f) r e
@@ -142,16 +112,7 @@ module _ (P : Program) (G : Scope) (typed : IsTyped P G) where
 
   -- a name with a number is a global
   index_named : (vs : List Var) (x : Text) (i : ℕ) → index_in vs x ≡ Some i → named (variables_as nature.Global vs) x ≡ None → ⊥
-  index_named [] x i e h = none-some i e
-  index_named (v ∷ vs) x i e h = go (same_text x v.name) e h (index_named vs x)
-    where
-      go : (b : Bool) → (if b then Some 0 else option_map (λ n. suc n) (index_in vs x)) ≡ Some i → cond b (Some (record { sort = v.sort; nature = nature.Global })) (named (variables_as nature.Global vs) x) ≡ None → ((j : ℕ) → index_in vs x ≡ Some j → named (variables_as nature.Global vs) x ≡ None → ⊥) → ⊥
-      go true k l rec = cc
-      go false k l rec = step (index_in vs x) refl k
-        where
-          step : (o : Option ℕ) → index_in vs x ≡ o → option_map (λ n. suc n) o ≡ Some i → ⊥
-          step None f m = none-some i m
-          step (Some j) f m = rec j f l
+  index_named vs x i e h = none-some i (sym (unnumbered nature.Global vs x h) ∙ e)
 
   index_global : (x : Text) (i : ℕ) → index_in globals x ≡ Some i → is_global (named G.globals x) ≡ true
   index_global x i e = ap (λ (l : List (Text × Variable)). is_global (named l x)) (sym scope.globals) ∙ go (named (global_entries P.decls) x) refl
@@ -172,20 +133,12 @@ module _ (P : Program) (G : Scope) (typed : IsTyped P G) where
   -- a global that typing lets a routine modify is in its list
   modified_number : (locals : List (Text × Variable)) (specs : List Spec) (x : Text) (i : ℕ) → modified_rule (routine G locals (modifies_of specs)) x ≡ Ok tt → index_in globals x ≡ Some i → Contains (filter_map (index_in globals) (modified_names specs [])) i
   modified_number locals specs x i h e =
-      modifies_there globals specs x i e (go (named G.globals x) (index_global x i e) h)
-    where
-      go : (o : Option Variable) → is_global o ≡ true → (if is_global o then if_modified specs x else passed) ≡ passed → is_among (modifies_of specs) x ≡ true
-      go o g k =
-          in_modifies x (is_among (modifies_of specs) x) tt (ap (λ (b : Bool). if b then if_modified specs x else passed) (sym g) ∙ k)
+      modifies_there globals specs x i e (in_modifies x (is_among (modifies_of specs) x) tt (ap (λ (b : Bool). if b then if_modified specs x else passed) (sym (index_global x i e)) ∙ h))
 
   -- ---- calls
 
   is_with_body : (bodies : List Text) (f : Text) (u : Unit {0}) → has_body bodies f ≡ Ok u → is_among bodies f ≡ true
-  is_with_body bodies f u = go (is_among bodies f)
-    where
-      go : (b : Bool) → (if b then Ok tt else Err (NoBody f)) ≡ Ok u → b ≡ true
-      go true h = refl
-      go false h = absurd (cc)
+  is_with_body bodies f u = elim (is_among bodies f) as (λ b. (if b then Ok tt else Err (NoBody f)) ≡ Ok u → b ≡ true) [ true ↦ λ h. refl | false ↦ λ h. absurd (cc) ]
 
   pub callee_at : (p : CoreProc) (locals : List (Text × Variable)) (specs : List Spec) → p.modifies ≡ filter_map (index_in globals) (modified_names specs []) → (f : Text) (q : Callee) → named G.procedures f ≡ Some q → has_body G.bodies f ≡ Ok tt → AllByRecursion (λ x. modified_rule (routine G locals (modifies_of specs)) x ≡ Ok tt) q.modifies → CalleeAt P number K p G f q
   callee_at p locals specs same f q found body mods =

@@ -1,22 +1,17 @@
 -- The slots and the names of the core procedures.
-use Rattle.std.proofs.Common.{◌≡◌, ℕ, suc, ◌-◌, List, [], ◌∷◌, ◌++◌, map, refl, sym, ◌∙◌, ap, subst}
+use Rattle.std.proofs.Common.{◌≡◌, ℕ, suc, ◌-◌, List, [], ◌∷◌, ◌++◌, map, refl, sym, ◌∙◌, ap, subst, append_assoc}
 use Rattle.std.specs.Prelude.{Bool, true, false, cond, not, ◌&&◌, ◌==◌, codes, if◌then◌else◌}
 use Rattle.std.specs.Fmt.{decimal}
 use Rattle.std.specs.List.{AllByRecursion, IsDistinct, filter}
-use Rattle.std.proofs.Common.{append_assoc}
 use Rattle.std.proofs.lemmas.List.{append-nil, map-append}
 use Rattle.std.proofs.lemmas.List.Elements.{filter-append}
-use Rattle.sd_base.specs.declared.Sort.{Sort, Bool as BoolSort}
-use Rattle.sd_base.specs.declared.Var.{Var}
-use Rattle.sd_base.specs.Value.{Text, same_text}
+use Rattle.sd_extract.proofs.SourceWords.{Sort, BoolSort, Var, Text, same_text, Program, Expr, StmtKind, Call, If', While', Row_of-Stmt, end_of-Stmt, more_of-Stmt, Clause, procedure_in}
+use Rattle.sd_extract.proofs.CoreWords.{CoreProgram, sorts_of, state_sorts, names_of, IsSort, Counts, plus, counts, counts_all, none, has_returns, Source, state_of, copies_of, kinds, arg_vars, ins_of, args_in, all_args_in, each_args_in}
+use Rattle.sd_extract.proofs.CoreWords.{lefts_in, all_lefts_in, each_left_in, hidden, body_proc, loop_proc}
 use Rattle.sd_base.proofs.Lists.{all-append, all-filter}
-use Rattle.sd_ast.specs.declared.Program.{Program}
-use Rattle.sd_ast.specs.declared.Expr.{Expr}
-use Rattle.sd_ast.specs.declared.StmtKind.{StmtKind, Call, If', While', Row_of-Stmt, end_of-Stmt, more_of-Stmt}
-use Rattle.sd_meaning.specs.Routine.{Clause, procedure_in}
-use Rattle.sd_core.specs.declared.CoreProgram.{CoreProgram}
-use Rattle.sd_core.specs.Formed.{sorts_of, state_sorts, names_of, is_plain, IsSort}
-use Rattle.sd_extract.specs.Extract.{Counts, plus, counts, counts_all, none, has_returns, Source, state_of, copies_of, kinds, arg_vars, ins_of, args_in, all_args_in, each_args_in, lefts_in, all_lefts_in, each_left_in, hidden, body_proc, loop_proc}
+use Rattle.sd_core.specs.Formed.{is_plain}
+use Rattle.sd_extract.proofs.CodeLists.{all_map}
+use Rattle.sd_extract.proofs.Parts.{hidden_have}
 use Rattle.sd_extract.proofs.FormedSpots.{Holds, holds_within}
 use Rattle.sd_extract.proofs.FormedStatements.{left_sort_if, arg_sorts, all_arg_sorts, each_arg_sorts, left_sorts, all_left_sorts, each_left_sorts}
 
@@ -124,53 +119,19 @@ pub sorts_join : (xs ys : List Var) → AllByRecursion IsSort (sorts_of xs) → 
 sorts_join [] ys h k = k
 sorts_join (x ∷ xs) ys h k = (h.0, sorts_join xs ys h.1 k)
 
-pub left_fit : (r : Bool) → AllByRecursion IsSort (left_sort_if r)
-left_fit true = (tt, tt)
-left_fit false = tt
+args_fit : (call i : ℕ) (vs : List Var) → AllByRecursion IsSort (sorts_of vs) → AllByRecursion (λ v. IsSort v.sort) (arg_vars call i vs)
+args_fit call i [] h = tt
+args_fit call i (v ∷ vs) h = (h.0, args_fit call (suc i) vs h.1)
 
-module _ (P : Program) (known : (f : Text) → AllByRecursion IsSort (sorts_of (ins_of (procedure_in P.decls f)))) where
-  mutual
-    args_fit : (k : StmtKind) → AllByRecursion IsSort (arg_sorts P k)
-    args_fit (Call xs f es) = known f
-    args_fit (If' e shape a shape' b) =
-        all-append IsSort (all_arg_sorts P a) (all_arg_sorts P b) (all_args_fit a) (all_args_fit b)
-    args_fit _ = tt
-
-    all_args_fit : {m : _} (ks : Row_of-Stmt m) → AllByRecursion IsSort (all_arg_sorts P ks)
-    all_args_fit end_of-Stmt = tt
-    all_args_fit (more_of-Stmt p k ks) = all-append IsSort (arg_sorts P k) (all_arg_sorts P ks) (args_fit k) (all_args_fit ks)
-
-  each_args_fit : (ks : List StmtKind) → AllByRecursion IsSort (each_arg_sorts P ks)
-  each_args_fit [] = tt
-  each_args_fit (k ∷ ks) = all-append IsSort (arg_sorts P k) (each_arg_sorts P ks) (args_fit k) (each_args_fit ks)
-
-  mutual
-    lefts_fit : (k : StmtKind) → AllByRecursion IsSort (left_sorts k)
-    lefts_fit (While' e invs shape body) = left_fit (has_returns body)
-    lefts_fit (If' e shape a shape' b) = all-append IsSort (all_left_sorts a) (all_left_sorts b) (all_lefts_fit a) (all_lefts_fit b)
-    lefts_fit _ = tt
-
-    all_lefts_fit : {m : _} (ks : Row_of-Stmt m) → AllByRecursion IsSort (all_left_sorts ks)
-    all_lefts_fit end_of-Stmt = tt
-    all_lefts_fit (more_of-Stmt p k ks) = all-append IsSort (left_sorts k) (all_left_sorts ks) (lefts_fit k) (all_lefts_fit ks)
-
-  each_lefts_fit : (ks : List StmtKind) → AllByRecursion IsSort (each_left_sorts ks)
-  each_lefts_fit [] = tt
-  each_lefts_fit (k ∷ ks) = all-append IsSort (left_sorts k) (each_left_sorts ks) (lefts_fit k) (each_lefts_fit ks)
-
-  pub hidden_fit : (at : Counts) (ks : List StmtKind) → AllByRecursion IsSort (sorts_of (hidden P at ks))
-  hidden_fit at ks =
-      subst (AllByRecursion IsSort) (sym (hidden-sorts P at ks)) (all-append IsSort (each_arg_sorts P ks) (each_left_sorts ks) (each_args_fit ks) (each_lefts_fit ks))
+pub hidden_fit : (P : Program) → ((f : Text) → AllByRecursion IsSort (sorts_of (ins_of (procedure_in P.decls f)))) → (at : Counts) (ks : List StmtKind) → AllByRecursion IsSort (sorts_of (hidden P at ks))
+hidden_fit P known at ks =
+    all_map (λ v. IsSort v.sort) IsSort (λ v. v.sort) (λ v h. h) (hidden P at ks) (hidden_have P (λ v. IsSort v.sort) (λ call f. args_fit call 1 (ins_of (procedure_in P.decls f)) (known f)) (λ n. tt) at ks)
 
 -- ---- names of hidden locals
 
 not_plain : (xs ys : List ℕ) → is_plain (xs ++ (64 ∷ ys)) ≡ false
 not_plain [] ys = refl
-not_plain (c ∷ xs) ys = go (not (c == 64)) (not_plain xs ys)
-  where
-    go : (b : Bool) → is_plain (xs ++ (64 ∷ ys)) ≡ false → (b && is_plain (xs ++ (64 ∷ ys))) ≡ false
-    go true h = h
-    go false h = refl
+not_plain (c ∷ xs) ys = elim (not (c == 64)) as (λ b. (b && is_plain (xs ++ (64 ∷ ys))) ≡ false) [ true ↦ not_plain xs ys | false ↦ refl ]
 
 abbrev AreHidden : List Var → Type 0
 AreHidden = AllByRecursion (λ v. is_plain v.name ≡ false)
@@ -182,47 +143,6 @@ copies_hidden (v ∷ vs) = (not_plain v.name (codes "copy"), copies_hidden vs)
 arg_vars_hidden : (call i : ℕ) (vs : List Var) → AreHidden (arg_vars call i vs)
 arg_vars_hidden call i [] = tt
 arg_vars_hidden call i (v ∷ vs) = (not_plain (decimal call) (codes "arg@" ++ decimal i), arg_vars_hidden call (suc i) vs)
-
-abbrev join_hidden : (xs ys : List Var) → AreHidden xs → AreHidden ys → AreHidden (xs ++ ys)
-join_hidden = all-append (λ v. is_plain v.name ≡ false)
-
-mutual
-  args_hidden : (P : Program) (at : Counts) (k : StmtKind) → AreHidden (args_in P at k)
-  args_hidden P at (Call xs f es) = arg_vars_hidden (suc at.calls) 1 (ins_of (procedure_in P.decls f))
-  args_hidden P at (If' e shape a shape' b) =
-      join_hidden (all_args_in P at a) (all_args_in P (plus at (counts_all a)) b) (all_args_hidden P at a) (all_args_hidden P (plus at (counts_all a)) b)
-  args_hidden P at _ = tt
-
-  all_args_hidden : (P : Program) (at : Counts) {m : _} (ks : Row_of-Stmt m) → AreHidden (all_args_in P at ks)
-  all_args_hidden P at end_of-Stmt = tt
-  all_args_hidden P at (more_of-Stmt p k ks) =
-      join_hidden (args_in P at k) (all_args_in P (plus at (counts k)) ks) (args_hidden P at k) (all_args_hidden P (plus at (counts k)) ks)
-
-each_args_hidden : (P : Program) (at : Counts) (ks : List StmtKind) → AreHidden (each_args_in P at ks)
-each_args_hidden P at [] = tt
-each_args_hidden P at (k ∷ ks) =
-    join_hidden (args_in P at k) (each_args_in P (plus at (counts k)) ks) (args_hidden P at k) (each_args_hidden P (plus at (counts k)) ks)
-
-left_var_hidden : (r : Bool) (n : ℕ) → AreHidden (if r then record { name = decimal n ++ codes "@left"; sort = BoolSort } ∷ [] else [])
-left_var_hidden true n = (not_plain (decimal n) (codes "left"), tt)
-left_var_hidden false n = tt
-
-mutual
-  lefts_hidden : (at : Counts) (k : StmtKind) → AreHidden (lefts_in at k)
-  lefts_hidden at (While' e invs shape body) = left_var_hidden (has_returns body) (suc at.loops)
-  lefts_hidden at (If' e shape a shape' b) =
-      join_hidden (all_lefts_in at a) (all_lefts_in (plus at (counts_all a)) b) (all_lefts_hidden at a) (all_lefts_hidden (plus at (counts_all a)) b)
-  lefts_hidden at _ = tt
-
-  all_lefts_hidden : (at : Counts) {m : _} (ks : Row_of-Stmt m) → AreHidden (all_lefts_in at ks)
-  all_lefts_hidden at end_of-Stmt = tt
-  all_lefts_hidden at (more_of-Stmt p k ks) =
-      join_hidden (lefts_in at k) (all_lefts_in (plus at (counts k)) ks) (lefts_hidden at k) (all_lefts_hidden (plus at (counts k)) ks)
-
-each_lefts_hidden : (at : Counts) (ks : List StmtKind) → AreHidden (each_left_in at ks)
-each_lefts_hidden at [] = tt
-each_lefts_hidden at (k ∷ ks) =
-    join_hidden (lefts_in at k) (each_left_in (plus at (counts k)) ks) (lefts_hidden at k) (each_lefts_hidden (plus at (counts k)) ks)
 
 none_plain : (vs : List Var) → AreHidden vs → filter is_plain (names_of vs) ≡ []
 none_plain [] h = refl
@@ -246,7 +166,7 @@ root_names P S h =
     let ins = S.routine.head.ins in let outs = S.routine.head.outs in let locals = S.routine.body.locals in
     let hide = copies_of S ++ hidden P none (kinds S) in
     let own = names_of ins ++ (names_of outs ++ names_of locals) in
-    let are_hidden = join_hidden (copies_of S) (hidden P none (kinds S)) (copies_hidden S.copied) (join_hidden (each_args_in P none (kinds S)) (each_left_in none (kinds S)) (each_args_hidden P none (kinds S)) (each_lefts_hidden none (kinds S))) in
+    let are_hidden = all-append (λ v. is_plain v.name ≡ false) (copies_of S) (hidden P none (kinds S)) (copies_hidden S.copied) (hidden_have P (λ v. is_plain v.name ≡ false) (λ call f. arg_vars_hidden call 1 (ins_of (procedure_in P.decls f))) (λ n. not_plain (decimal n) (codes "left")) none (kinds S)) in
     let inner : names_of (outs ++ (locals ++ hide)) ≡ (names_of outs ++ names_of locals) ++ names_of hide = names_append outs (locals ++ hide) ∙ ap (λ (l : List Text). names_of outs ++ l) (names_append locals hide) ∙ sym (append_assoc (names_of outs) (names_of locals) (names_of hide)) in
     let all : names_of (ins ++ (outs ++ (locals ++ hide))) ≡ own ++ names_of hide = names_append ins (outs ++ (locals ++ hide)) ∙ ap (λ (l : List Text). names_of ins ++ l) inner ∙ sym (append_assoc (names_of ins) (names_of outs ++ names_of locals) (names_of hide)) in
     let kept : filter is_plain (names_of (ins ++ (outs ++ (locals ++ hide)))) ≡ filter is_plain own = ap (filter is_plain) all ∙ filter-append is_plain own (names_of hide) ∙ ap (λ (l : List Text). filter is_plain own ++ l) (none_plain hide are_hidden) ∙ append-nil (filter is_plain own) in

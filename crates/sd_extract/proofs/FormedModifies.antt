@@ -1,52 +1,26 @@
 -- The globals that a procedure modifies, by their numbers: each once, each there, and those that its callees modify.
-use Rattle.std.proofs.Common.{◌≡◌, ℕ, zero, suc, ◌+◌, ◌<◌, List, [], ◌∷◌, ◌++◌, map, length, Option, Some, None, refl, sym, ◌∙◌, ap, subst, arith, eqb→eq}
+use Rattle.std.proofs.Common.{◌≡◌, ℕ, zero, suc, ◌+◌, ◌<◌, List, [], ◌∷◌, ◌++◌, map, length, Option, Some, None, refl, sym, ◌∙◌, ap, subst, arith}
 use Rattle.std.specs.Prelude.{Bool, true, false, ◌||◌, ◌==◌, slice_get, Contains, codes, option_map, if◌then◌else◌}
 use Rattle.std.specs.List.{AllByRecursion, IsDistinct, filter_map, cons_option}
 use Rattle.std.specs.Cmp.Lexicographic.{bytes_decides}
 use Rattle.std.proofs.lemmas.Option.{same_Some, none-some}
-use Rattle.std.proofs.lemmas.Bool.{or_parts, or_left, or_right}
+use Rattle.std.proofs.lemmas.Bool.{or_parts, or_left, or_right, ne_eqb, false_from_ne_true}
 use Rattle.std.proofs.lemmas.List.Folds.{list_any-append}
-use Rattle.sd_base.specs.declared.Sort.{Sort}
-use Rattle.sd_base.specs.declared.Var.{Var}
-use Rattle.sd_base.specs.Value.{Text, same_text}
+use Rattle.sd_extract.proofs.SourceWords.{Sort, Var, Text, same_text, Spec, Modifies, is_among, Nature, named, modifies_of, variables_as, names_of}
+use Rattle.sd_extract.proofs.CoreWords.{Spot, Global, sorts_of, copies_in, place_in, globals_from, index_in, var_in, new_names, modified_names}
 use Rattle.sd_base.proofs.Lists.{all-append, all-front, all-back, all-weaker, contains-tail}
 use Rattle.sd_base.proofs.Texts.{same_text-refl, same_text-other_way}
-use Rattle.sd_ast.specs.declared.Spec.{Spec}
-use Rattle.sd_ast.specs.declared.Spec.TheVariants.{Modifies}
-use Rattle.sd_types.specs.Names.{is_among}
-use Rattle.sd_types.specs.Declarations.{modifies_of}
-use Rattle.sd_core.specs.declared.Spot.{Spot}
-use Rattle.sd_core.specs.declared.Spot.TheVariants.{Global}
-use Rattle.sd_core.specs.Formed.{sorts_of, copy_of}
-use Rattle.sd_core.specs.Formed.{copies_of as copies_in}
-use Rattle.sd_ast.specs.Tree.{names_of}
-use Rattle.sd_extract.specs.Names.{place_in}
-use Rattle.sd_extract.specs.Extract.{globals_from, index_in, var_in, new_names, modified_names}
+use Rattle.sd_core.specs.Formed.{copy_of}
 use Rattle.sd_extract.specs.Extract.{is_among as is_in}
+use Rattle.sd_extract.proofs.Searches.{none_later}
+use Rattle.sd_extract.proofs.CodeNames.{by_index, index_is, place_in-globals}
 use Rattle.sd_extract.proofs.FormedPlaces.{Matches}
 
--- ---- a variable and its place
-
-abbrev pub IndexVar : List Var → Text → Option ℕ → Option Var → Type 0
-IndexVar vs x None None = Unit {0}
-IndexVar vs x (Some i) (Some v) = (slice_get vs i ≡ Some v) × (i < length vs) × (x ≡ v.name)
-IndexVar vs x _ _ = ⊥
-
-index_next : (w : Var) (vs : List Var) (x : Text) (i : Option ℕ) (v : Option Var) → IndexVar vs x i v → IndexVar (w ∷ vs) x (option_map (λ n. suc n) i) v
-index_next w vs x None None h = tt
-index_next w vs x None (Some v) h = absurd h
-index_next w vs x (Some i) None h = absurd h
-index_next w vs x (Some i) (Some v) h = let l = h.1 in (h.0, omega (arith, l), h.2)
-
-pub index_var : (vs : List Var) (x : Text) → IndexVar vs x (index_in vs x) (var_in vs x)
-index_var [] x = tt
-index_var (w ∷ vs) x = go (same_text x w.name) refl (index_next w vs x (index_in vs x) (var_in vs x) (index_var vs x))
-  where
-    go : (b : Bool) → same_text x w.name ≡ b → IndexVar (w ∷ vs) x (option_map (λ n. suc n) (index_in vs x)) (var_in vs x) → IndexVar (w ∷ vs) x (if b then Some 0 else option_map (λ n. suc n) (index_in vs x)) (if b then Some w else var_in vs x)
-    go true e h = (refl, omega arith, (bytes_decides x w.name).0 e)
-    go false e h = h
-
 -- ---- lists of modified globals
+
+pub unnumbered : (n : Nature) (vs : List Var) (x : Text) → named (variables_as n vs) x ≡ None → index_in vs x ≡ None
+unnumbered n [] x h = refl
+unnumbered n (u ∷ us) x h = let k = none_later (same_text x u.name) _ _ h in rw k.0 (ap (option_map (λ m. suc m)) (unnumbered n us x k.1))
 
 sort_of_var : (vs : List Var) (i : ℕ) (v : Var) → slice_get vs i ≡ Some v → slice_get (sorts_of vs) i ≡ Some v.sort
 sort_of_var [] i v h = absurd (none-some v h)
@@ -55,13 +29,8 @@ sort_of_var (w ∷ vs) (suc i) v h = sort_of_var vs i v h
 
 pub numbers_match : (vs : List Var) (names : List Text) → Matches (sorts_of vs) (filter_map (index_in vs) names) (sorts_of (filter_map (var_in vs) names))
 numbers_match vs [] = tt
-numbers_match vs (x ∷ names) = go (index_in vs x) (var_in vs x) (index_var vs x) (numbers_match vs names)
-  where
-    go : (i : Option ℕ) (v : Option Var) → IndexVar vs x i v → Matches (sorts_of vs) (filter_map (index_in vs) names) (sorts_of (filter_map (var_in vs) names)) → Matches (sorts_of vs) (cons_option i (filter_map (index_in vs) names)) (sorts_of (cons_option v (filter_map (var_in vs) names)))
-    go None None h k = k
-    go None (Some v) h k = absurd h
-    go (Some i) None h k = absurd h
-    go (Some i) (Some v) h k = (sort_of_var vs i v h.0, k)
+numbers_match vs (x ∷ names) =
+    by_index vs x (λ i v. Matches (sorts_of vs) (cons_option i (filter_map (index_in vs) names)) (sorts_of (cons_option v (filter_map (var_in vs) names)))) (numbers_match vs names) (λ i v h. (sort_of_var vs i v h.0, numbers_match vs names))
 
 pub matches_length : (ss : List Sort) (ms : List ℕ) (ts : List Sort) → Matches ss ms ts → length ms ≡ length ts
 matches_length ss [] [] h = refl
@@ -71,67 +40,38 @@ matches_length ss (m ∷ ms) (t ∷ ts) h = ap (λ (n : ℕ). suc n) (matches_le
 
 pub numbers_below : (vs : List Var) (names : List Text) → AllByRecursion (λ i. i < length vs) (filter_map (index_in vs) names)
 numbers_below vs [] = tt
-numbers_below vs (x ∷ names) = go (index_in vs x) (var_in vs x) (index_var vs x) (numbers_below vs names)
-  where
-    go : (i : Option ℕ) (v : Option Var) → IndexVar vs x i v → AllByRecursion (λ i. i < length vs) (filter_map (index_in vs) names) → AllByRecursion (λ i. i < length vs) (cons_option i (filter_map (index_in vs) names))
-    go None v h k = k
-    go (Some i) None h k = absurd h
-    go (Some i) (Some v) h k = (h.1, k)
+numbers_below vs (x ∷ names) =
+    by_index vs x (λ i v. AllByRecursion (λ i. i < length vs) (cons_option i (filter_map (index_in vs) names))) (numbers_below vs names) (λ i v h. (h.1, numbers_below vs names))
 
 abbrev copy : Var → Var
 copy v = record { name = v.name ++ codes "@copy"; sort = v.sort }
 
 pub copied_numbers : (vs : List Var) (names : List Text) → copies_in vs (filter_map (index_in vs) names) ≡ map (λ v. record { name = v.name ++ codes "@copy"; sort = v.sort }) (filter_map (var_in vs) names)
 copied_numbers vs [] = refl
-copied_numbers vs (x ∷ names) = go (index_in vs x) (var_in vs x) (index_var vs x) (copied_numbers vs names)
-  where
-    go : (i : Option ℕ) (v : Option Var) → IndexVar vs x i v → copies_in vs (filter_map (index_in vs) names) ≡ map copy (filter_map (var_in vs) names) → copies_in vs (cons_option i (filter_map (index_in vs) names)) ≡ map copy (cons_option v (filter_map (var_in vs) names))
-    go None None h k = k
-    go None (Some v) h k = absurd h
-    go (Some i) None h k = absurd h
-    go (Some i) (Some v) h k = (λ j. copy_of (h.0 j) ++ k j)
+copied_numbers vs (x ∷ names) =
+    by_index vs x (λ i v. copies_in vs (cons_option i (filter_map (index_in vs) names)) ≡ map copy (cons_option v (filter_map (var_in vs) names))) (copied_numbers vs names) (λ i v h j. copy_of (h.0 j) ++ copied_numbers vs names j)
 
 -- two names with one number are one name
 index_once : (vs : List Var) (x y : Text) (i j : ℕ) → index_in vs x ≡ Some i → index_in vs y ≡ Some j → i ≡ j → x ≡ y
-index_once vs x y i j e f same = go (index_in vs x) (var_in vs x) (index_in vs y) (var_in vs y) (index_var vs x) (index_var vs y) e f
-  where
-    go : (a : Option ℕ) (b : Option Var) (c : Option ℕ) (d : Option Var) → IndexVar vs x a b → IndexVar vs y c d → a ≡ Some i → c ≡ Some j → x ≡ y
-    go None b c d h k m n = absurd (none-some i m)
-    go (Some a) None c d h k m n = absurd h
-    go (Some a) (Some b) None d h k m n = absurd (none-some j n)
-    go (Some a) (Some b) (Some c) None h k m n = absurd k
-    go (Some a) (Some b) (Some c) (Some d) h k m n =
-        let numbers : a ≡ c = same_Some a i m ∙ same ∙ sym (same_Some c j n) in
-        let found : Some b ≡ Some d = sym h.0 ∙ ap (slice_get vs) numbers ∙ k.0 in
-        h.2 ∙ ap (λ (v : Var). v.name) (same_Some b d found) ∙ sym k.2
+index_once vs x y i j e f same =
+    let a = index_is vs x i e in let b = index_is vs y j f in
+    a.3 ∙ ap (λ (v : Var). v.name) (same_Some a.0 b.0 (sym a.1 ∙ ap (slice_get vs) same ∙ b.1)) ∙ sym b.3
 
-eqb_false : (i j : ℕ) → (i ≡ j → ⊥) → (i == j) ≡ false
-eqb_false i j n = go (i == j) refl
-  where
-    go : (b : Bool) → (i == j) ≡ b → b ≡ false
-    go true e = absurd (n (eqb→eq i j (rw e tt)))
-    go false e = refl
-
-not_first : (vs : List Var) (x : Text) (i : ℕ) (names : List Text) → index_in vs x ≡ Some i → AllByRecursion (λ y. same_text x y ≡ false) names → AllByRecursion (λ j. (i == j) ≡ false) (filter_map (index_in vs) names)
-not_first vs x i [] e h = tt
-not_first vs x i (y ∷ names) e h = go (index_in vs y) refl (not_first vs x i names e h.1)
-  where
-    different : (j : ℕ) → index_in vs y ≡ Some j → i ≡ j → ⊥
-    different j f same =
-        let g : same_text x y ≡ true = (bytes_decides x y).1 (index_once vs x y i j e f same) in let k = h.0 in absurd (cc)
-
-    go : (o : Option ℕ) → index_in vs y ≡ o → AllByRecursion (λ j. (i == j) ≡ false) (filter_map (index_in vs) names) → AllByRecursion (λ j. (i == j) ≡ false) (cons_option o (filter_map (index_in vs) names))
-    go None f k = k
-    go (Some j) f k = (eqb_false i j (different j f), k)
+-- what is said of each mentioned global is said of its number
+pub numbers_have : (vs : List Var) (Q : ℕ → Type 0) (names : List Text) → AllByRecursion (λ x. (i : ℕ) → index_in vs x ≡ Some i → Q i) names → AllByRecursion Q (filter_map (index_in vs) names)
+numbers_have vs Q [] h = tt
+numbers_have vs Q (x ∷ names) h = elim (index_in vs x) as (λ o. index_in vs x ≡ o → AllByRecursion Q (cons_option o (filter_map (index_in vs) names))) [
+  | None ↦ λ e. numbers_have vs Q names h.1
+  | Some i ↦ λ e. (h.0 i e, numbers_have vs Q names h.1)
+] refl
 
 pub numbers_once : (vs : List Var) (names : List Text) → IsDistinct same_text names → IsDistinct ◌==◌ (filter_map (index_in vs) names)
 unfolding IsDistinct
 numbers_once vs [] h = tt
-numbers_once vs (x ∷ names) h = go (index_in vs x) refl (numbers_once vs names h.1)
-  where
-    go : (o : Option ℕ) → index_in vs x ≡ o → IsDistinct ◌==◌ (filter_map (index_in vs) names) → IsDistinct ◌==◌ (cons_option o (filter_map (index_in vs) names))
-    go None e k = k
-    go (Some i) e k = (not_first vs x i names e h.0, k)
+numbers_once vs (x ∷ names) h = elim (index_in vs x) as (λ o. index_in vs x ≡ o → IsDistinct ◌==◌ (cons_option o (filter_map (index_in vs) names))) [
+  | None ↦ λ e. numbers_once vs names h.1
+  | Some i ↦ λ e. (numbers_have vs (λ j. (i == j) ≡ false) names (all-weaker (λ y. same_text x y ≡ false) (λ y. (j : ℕ) → index_in vs y ≡ Some j → (i == j) ≡ false) (λ y t j f. ne_eqb i j (λ same. let g = (bytes_decides x y).1 (index_once vs x y i j e f same) in cc)) names h.0), numbers_once vs names h.1)
+] refl
 
 -- ---- names that are mentioned
 
@@ -175,14 +115,8 @@ record ModifiedNames (specs : List Spec) (seen : List Text) : Type 0 where
 
 -- a name that is mentioned, and one that isn't
 differs : (a b : Text) (xs : List Text) → is_in a xs ≡ true → is_in b xs ≡ false → same_text a b ≡ false
-differs a b xs h k = go (same_text a b) refl
-  where
-    go : (c : Bool) → same_text a b ≡ c → c ≡ false
-    go true e =
-        let same : a ≡ b = (bytes_decides a b).0 e in
-        let g : is_in b xs ≡ true = subst (λ (z : Text). is_in z xs ≡ true) same h in
-        absurd (cc)
-    go false e = refl
+differs a b xs h k = false_from_ne_true (same_text a b) (λ e.
+    let g : is_in b xs ≡ true = subst (λ (z : Text). is_in z xs ≡ true) ((bytes_decides a b).0 e) h in cc)
 
 distinct_join : (xs ys zs : List Text) → IsDistinct same_text ys → IsDistinct same_text zs → AllByRecursion (λ y. is_in y xs ≡ true) ys → AllByRecursion (λ z. is_in z xs ≡ false) zs → IsDistinct same_text (ys ++ zs)
 unfolding IsDistinct
@@ -211,11 +145,8 @@ modified_once specs = (names_modified specs []).once
 -- what is said of all that is mentioned
 all_new : (Q : Text → Type 0) (xs seen : List Text) → AllByRecursion Q xs → AllByRecursion Q (new_names xs seen)
 all_new Q [] seen h = tt
-all_new Q (x ∷ xs) seen h = go (is_in x seen) (all_new Q xs seen h.1) (all_new Q xs (seen ++ (x ∷ [])) h.1)
-  where
-    go : (b : Bool) → AllByRecursion Q (new_names xs seen) → AllByRecursion Q (new_names xs (seen ++ (x ∷ []))) → AllByRecursion Q (if b then new_names xs seen else x ∷ new_names xs (seen ++ (x ∷ [])))
-    go true k l = k
-    go false k l = (h.0, l)
+all_new Q (x ∷ xs) seen h =
+    elim (is_in x seen) as (λ b. AllByRecursion Q (if b then new_names xs seen else x ∷ new_names xs (seen ++ (x ∷ [])))) [ true ↦ all_new Q xs seen h.1 | false ↦ (h.0, all_new Q xs (seen ++ (x ∷ [])) h.1) ]
 
 pub all_modified : (Q : Text → Type 0) (specs : List Spec) (seen : List Text) → AllByRecursion Q (modifies_of specs) → AllByRecursion Q (modified_names specs seen)
 all_modified Q [] seen h = tt
@@ -267,32 +198,10 @@ pub modifies_there : (vs : List Var) (specs : List Spec) (x : Text) (i : ℕ) �
 modifies_there vs specs x i e h =
     number_there vs x i (modified_names specs []) e (modified_has x specs [] h refl)
 
--- what is said of each mentioned global is said of its number
-pub numbers_have : (vs : List Var) (Q : ℕ → Type 0) (names : List Text) → AllByRecursion (λ x. (i : ℕ) → index_in vs x ≡ Some i → Q i) names → AllByRecursion Q (filter_map (index_in vs) names)
-numbers_have vs Q [] h = tt
-numbers_have vs Q (x ∷ names) h = go (index_in vs x) refl (numbers_have vs Q names h.1)
-  where
-    go : (o : Option ℕ) → index_in vs x ≡ o → AllByRecursion Q (filter_map (index_in vs) names) → AllByRecursion Q (cons_option o (filter_map (index_in vs) names))
-    go None e k = k
-    go (Some i) e k = (h.0 i e, k)
-
 -- ---- the spot of a global
 
-global_spot_from : (vs : List Var) (k : ℕ) (x : Text) → place_in (names_of vs) (globals_from k vs) x ≡ option_map (λ j. Global (k + j)) (index_in vs x)
-global_spot_from [] k x = refl
-global_spot_from (v ∷ vs) k x = go (same_text x v.name) (global_spot_from vs (suc k) x)
-  where
-    shift : (o : Option ℕ) → option_map (λ j. Global (suc k + j)) o ≡ option_map (λ j. Global (k + j)) (option_map (λ n. suc n) o)
-    shift None = refl
-    shift (Some j) = let e : suc k + j ≡ k + suc j = omega arith in ap (λ n. Some (Global n)) e
-
-    go : (b : Bool) → place_in (names_of vs) (globals_from (suc k) vs) x ≡ option_map (λ j. Global (suc k + j)) (index_in vs x) → (if b then Some (Global k) else place_in (names_of vs) (globals_from (suc k) vs) x) ≡ option_map (λ j. Global (k + j)) (if b then Some 0 else option_map (λ n. suc n) (index_in vs x))
-    go true e = let f : k ≡ k + 0 = omega arith in ap (λ n. Some (Global n)) f
-    go false e = e ∙ shift (index_in vs x)
-
 pub global_spot : (vs : List Var) (x : Text) (q : Spot) → place_in (names_of vs) (globals_from 0 vs) x ≡ Some q → (i : ℕ) × (index_in vs x ≡ Some i) × (q ≡ Global i)
-global_spot vs x q h = go (index_in vs x) (sym (global_spot_from vs 0 x) ∙ h)
-  where
-    go : (o : Option ℕ) → option_map (λ j. Global (0 + j)) o ≡ Some q → (i : ℕ) × (o ≡ Some i) × (q ≡ Global i)
-    go None e = absurd (none-some q e)
-    go (Some i) e = let f : 0 + i ≡ i = omega arith in (i, refl, sym (same_Some (Global (0 + i)) q e) ∙ ap (λ (n : ℕ). Global n) f)
+global_spot vs x q h = elim (index_in vs x) as (λ o. option_map (λ j. Global (0 + j)) o ≡ Some q → (i : ℕ) × (o ≡ Some i) × (q ≡ Global i)) [
+  | None ↦ λ e. absurd (none-some q e)
+  | Some i ↦ λ e. let f : 0 + i ≡ i = omega arith in (i, refl, sym (same_Some (Global (0 + i)) q e) ∙ ap (λ (n : ℕ). Global n) f)
+] (sym (place_in-globals vs 0 x) ∙ h)

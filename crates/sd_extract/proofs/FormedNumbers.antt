@@ -1,24 +1,14 @@
 -- Each procedure and each loop stands at its number.
-use Rattle.std.proofs.Common.{◌≡◌, ℕ, zero, suc, ◌+◌, List, [], ◌∷◌, ◌++◌, Option, Some, None, refl, sym, ◌∙◌, ap, subst, length, arith}
+use Rattle.std.proofs.Common.{◌≡◌, ℕ, zero, suc, ◌+◌, List, [], ◌∷◌, ◌++◌, Option, Some, None, refl, sym, ◌∙◌, ap, subst, length, arith, append_assoc, length-append}
 use Rattle.std.specs.Prelude.{Bool, true, false, slice_get, if◌then◌else◌}
 use Rattle.std.specs.Cmp.Lexicographic.{bytes_decides}
-use Rattle.std.proofs.Common.{append_assoc, length-append}
 use Rattle.std.proofs.lemmas.Option.{none-some}
+use Rattle.std.proofs.lemmas.Bool.{false_from_ne_true}
 use Rattle.sd_base.proofs.Lists.{slice_get-between}
-use Rattle.sd_base.specs.Value.{Text, same_text}
+use Rattle.sd_extract.proofs.SourceWords.{Text, same_text, Decl, Procedure, Program, Proc, StmtKind, If', While', Row_of-Stmt, end_of-Stmt, more_of-Stmt, Routine, procedure_in, routine_named, clauses_of, globals_in, kinds_in, named}
+use Rattle.sd_extract.proofs.SourceWords.{callee_of}
+use Rattle.sd_extract.proofs.CoreWords.{CoreProc, Source, counts, counts_all, counts_each, has_returns, kinds, loop_proc, loops_in, all_loops_in, each_loop_in, procs_of, source_of, size_of, number_from, routine_procs, procs_from}
 use Rattle.sd_base.proofs.Texts.{same_text-refl}
-use Rattle.sd_ast.specs.declared.Decl.{Decl}
-use Rattle.sd_ast.specs.declared.Decl.TheVariants.{Procedure}
-use Rattle.sd_ast.specs.declared.Program.{Program}
-use Rattle.sd_ast.specs.declared.Proc.{Proc}
-use Rattle.sd_ast.specs.declared.StmtKind.{StmtKind, If', While', Row_of-Stmt, end_of-Stmt, more_of-Stmt}
-use Rattle.sd_meaning.specs.Routine.{Routine, procedure_in, routine_named, clauses_of}
-use Rattle.sd_meaning.specs.Inputs.{globals_in}
-use Rattle.sd_meaning.specs.Run.{kinds_in}
-use Rattle.sd_types.specs.Tables.{named}
-use Rattle.sd_types.specs.Declarations.{callee_of}
-use Rattle.sd_core.specs.declared.CoreProc.{CoreProc}
-use Rattle.sd_extract.specs.Extract.{Source, counts, counts_all, counts_each, has_returns, kinds, loop_proc, loops_in, all_loops_in, each_loop_in, procs_of, source_of, size_of, number_from, routine_procs, procs_from}
 use Rattle.sd_extract.proofs.FormedTables.{OnceEach, procedure_entries}
 use Rattle.sd_extract.proofs.FormedLookups.{procedure_named}
 use Rattle.sd_extract.proofs.FormedStatements.{LoopsAt, AllLoopsAt, EachLoopsAt}
@@ -185,14 +175,9 @@ module _ (P : Program) (Q : ℕ → CoreProc → Type 0) (each : (f : Text) (r :
           subst (λ (m : ℕ). EachFrom Q m (procs_of P (number_from P 0 P.decls) (source_of (globals_in P.decls) m r))) head_number (each p.head.name r e)
 
       other : (f : Text) (d : Proc) → procedure_in ds f ≡ Some d → same_text f p.head.name ≡ false
-      other f d e = step (same_text f p.head.name) refl
-        where
-          step : (b : Bool) → same_text f p.head.name ≡ b → b ≡ false
-          step true t =
-              let same : f ≡ p.head.name = (bytes_decides f p.head.name).0 t in
-              let here : named (procedure_entries ds) p.head.name ≡ Some (callee_of d) = subst (λ (g : Text). named (procedure_entries ds) g ≡ Some (callee_of d)) same (procedure_named ds f d e) in
-              absurd (none-some (callee_of d) (sym once.0 ∙ here))
-          step false t = refl
+      other f d e = false_from_ne_true (same_text f p.head.name) (λ t.
+          let here : named (procedure_entries ds) p.head.name ≡ Some (callee_of d) = subst (λ (g : Text). named (procedure_entries ds) g ≡ Some (callee_of d)) ((bytes_decides f p.head.name).0 t) (procedure_named ds f d e) in
+          none-some (callee_of d) (sym once.0 ∙ here))
 
       later : (f : Text) (d : Proc) → procedure_in ds f ≡ Some d → number_from P 0 P.decls f ≡ number_from P (n + size_of (routine_named P p.head.name)) ds f
       later f d e =

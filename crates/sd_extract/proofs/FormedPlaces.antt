@@ -1,37 +1,19 @@
 -- What the names of a context stand for is at the places of a frame.
 use Rattle.std.proofs.Common.{◌≡◌, ◌≢◌, ℕ, zero, suc, ◌<◌, List, [], ◌∷◌, ◌++◌, Option, Some, None, refl, sym, ◌∙◌, ap, subst, ⊎_elim, arith}
-use Rattle.std.specs.Prelude.{Bool, true, false, cond, set, slice_get, if◌then◌else◌}
+use Rattle.std.specs.Prelude.{true, set, slice_get}
 use Rattle.std.specs.List.{AllByRecursion}
 use Rattle.std.specs.Cmp.Lexicographic.{bytes_decides}
-use Rattle.std.proofs.lemmas.Option.{same_Some, none-some}
-use Rattle.sd_base.specs.declared.Sort.{Sort}
-use Rattle.sd_base.specs.declared.Var.{Var}
-use Rattle.sd_base.specs.Value.{Text, same_text}
+use Rattle.std.proofs.lemmas.Option.{same_Some, none-some, cond_some}
+use Rattle.sd_extract.proofs.SourceWords.{Sort, Var, Text, same_text, names_of, Proc, Program, Variable, Signature, Nature, Scope, named, context, may_name, if_named, or_global, variables_as, parameters}
+use Rattle.sd_extract.proofs.CoreWords.{Spot, Slot, Global, Function, Store, set_all, sorts_of, sort_at, IsSort, AreSpotsOf, AreApart, HasCoreType, Names, place_in, either_place, place_of, at_place, globals_from, on_args, functions_in}
 use Rattle.sd_base.proofs.Lists.{all-append}
-use Rattle.sd_ast.specs.Tree.{names_of}
-use Rattle.sd_ast.specs.declared.Proc.{Proc}
-use Rattle.sd_ast.specs.declared.Program.{Program}
-use Rattle.sd_types.specs.declared.scope.Variable.{Variable}
-use Rattle.sd_types.specs.declared.scope.Signature.{Signature}
-use Rattle.sd_types.specs.declared.scope.Nature.{Nature}
 use Rattle.sd_types.specs.declared.scope.Nature.TheVariants as nature
-use Rattle.sd_types.specs.declared.scope.Scope.{Scope}
 use Rattle.sd_types.specs.declared.scope.Site.{Site}
 use Rattle.sd_types.specs.declared.scope.Site.TheVariants as site
-use Rattle.sd_types.specs.Tables.{named}
-use Rattle.sd_types.specs.Scopes.{context, may_name, has_old, if_named, or_global}
-use Rattle.sd_types.specs.Declarations.{variables_as, parameters}
-use Rattle.sd_core.specs.declared.Spot.{Spot}
-use Rattle.sd_core.specs.declared.Spot.TheVariants.{Slot, Global}
-use Rattle.sd_core.specs.declared.Function.{Function}
-use Rattle.sd_core.specs.Store.{Store, set_all}
-use Rattle.sd_core.specs.Formed.{sorts_of, sort_at, IsSort, AreSpotsOf, AreApart}
-use Rattle.sd_core.specs.Formed.{HasType as HasCoreType}
-use Rattle.sd_extract.specs.Names.{Names, place_in, either_place, place_of, at_place}
-use Rattle.sd_extract.specs.Extract.{globals_from, on_args}
-use Rattle.sd_extract.specs.Programs.{functions_in}
+use Rattle.sd_types.specs.Scopes.{has_old}
+use Rattle.sd_extract.proofs.Searches.{first_or_later, none_later, same_front}
 use Rattle.sd_extract.proofs.FormedExpressions.{Reads, Sees}
-use Rattle.sd_extract.proofs.FormedTables.{OnceEach, global_entries, function_entries}
+use Rattle.sd_extract.proofs.FormedTables.{OnceEach, none_append, global_entries, function_entries}
 use Rattle.sd_extract.proofs.FormedLookups.{function_found, constant_found, globals_as, global_found, constant_no_global, is_outer}
 
 -- ---- tables of variables and lists of names with their spots
@@ -71,64 +53,41 @@ pub laid_found : (T : Store Sort) (es : List (Text × Variable)) (xs : List Text
 laid_found T [] xs ps x v h k = absurd (none-some v k)
 laid_found T (e ∷ es) [] ps x v h k = absurd h
 laid_found T (e ∷ es) (y ∷ xs) [] x v h k = absurd h
-laid_found T (e ∷ es) (y ∷ xs) (p ∷ ps) x v h k = go (same_text x e.0) refl k (laid_found T es xs ps x v h.2)
-  where
-    test : (b : Bool) → same_text x e.0 ≡ b → same_text x y ≡ b
-    test b t = ap (same_text x) (sym h.0) ∙ t
-
-    go : (b : Bool) → same_text x e.0 ≡ b → cond b (Some e.1) (named es x) ≡ Some v → (named es x ≡ Some v → PlaceFor T xs ps x v.sort) → PlaceFor T (y ∷ xs) (p ∷ ps) x v.sort
-    go true t j rec =
-        record { spot = p; found = ap (λ (b : Bool). if b then Some p else place_in xs ps x) (test true t); sort = h.1 ∙ ap (λ (w : Variable). Some w.sort) (same_Some _ _ j) }
-    go false t j rec =
-        let r = rec j in record { spot = r.spot; found = ap (λ (b : Bool). if b then Some p else place_in xs ps x) (test false t) ∙ r.found; sort = r.sort }
+laid_found T (e ∷ es) (y ∷ xs) (p ∷ ps) x v h k =
+    first_or_later (same_text x e.0) _ _ _ k
+    (λ t j. record { spot = p; found = rw (ap (same_text x) (sym h.0) ∙ t); sort = h.1 ∙ ap (λ (w : Variable). Some w.sort) j })
+    (λ t j. let r = laid_found T es xs ps x v h.2 j in record { spot = r.spot; found = rw (ap (same_text x) (sym h.0) ∙ t) r.found; sort = r.sort })
 
 pub laid_none : (T : Store Sort) (es : List (Text × Variable)) (xs : List Text) (ps : List Spot) (x : Text) → Laid T es xs ps → named es x ≡ None → place_in xs ps x ≡ None
 laid_none T [] xs ps x h k = ap (λ (l : List Text). place_in l ps x) h.0
 laid_none T (e ∷ es) [] ps x h k = absurd h
 laid_none T (e ∷ es) (y ∷ xs) [] x h k = absurd h
-laid_none T (e ∷ es) (y ∷ xs) (p ∷ ps) x h k = go (same_text x e.0) refl k (laid_none T es xs ps x h.2)
-  where
-    test : (b : Bool) → same_text x e.0 ≡ b → same_text x y ≡ b
-    test b t = ap (same_text x) (sym h.0) ∙ t
-
-    go : (b : Bool) → same_text x e.0 ≡ b → cond b (Some e.1) (named es x) ≡ None → (named es x ≡ None → place_in xs ps x ≡ None) → place_in (y ∷ xs) (p ∷ ps) x ≡ None
-    go true t j rec = absurd (cc)
-    go false t j rec = ap (λ (b : Bool). if b then Some p else place_in xs ps x) (test false t) ∙ rec j
+laid_none T (e ∷ es) (y ∷ xs) (p ∷ ps) x h k =
+    let n = none_later (same_text x e.0) _ _ k in rw (ap (same_text x) (sym h.0) ∙ n.0) (laid_none T es xs ps x h.2 n.1)
 
 -- ---- one name for a spot
 
 place_among : (p : Spot) (xs : List Text) (ps : List Spot) (y : Text) → AllByRecursion (λ r. p ≢ r) ps → place_in xs ps y ≡ Some p → ⊥
 place_among p [] ps y a h = none-some p h
 place_among p (x ∷ xs) [] y a h = none-some p h
-place_among p (x ∷ xs) (q ∷ ps) y a h = go (same_text y x) h (place_among p xs ps y a.1)
-  where
-    go : (b : Bool) → (if b then Some q else place_in xs ps y) ≡ Some p → (place_in xs ps y ≡ Some p → ⊥) → ⊥
-    go true k rec = a.0 (sym (same_Some _ _ k))
-    go false k rec = rec k
+place_among p (x ∷ xs) (q ∷ ps) y a h = first_or_later (same_text y x) _ _ _ h (λ _ k. a.0 (sym k)) (λ _. place_among p xs ps y a.1)
 
 pub place_once : (xs : List Text) (ps : List Spot) (x y : Text) (q : Spot) → AreApart ps → place_in xs ps x ≡ Some q → place_in xs ps y ≡ Some q → x ≡ y
 place_once [] ps x y q a h k = absurd (none-some q h)
 place_once (z ∷ xs) [] x y q a h k = absurd (none-some q h)
-place_once (z ∷ xs) (p ∷ ps) x y q a h k = go (same_text x z) (same_text y z) refl refl h k (place_once xs ps x y q a.1)
+place_once (z ∷ xs) (p ∷ ps) x y q a h k =
+    first_or_later (same_text x z) _ _ _ h
+    (λ e i. first_or_later (same_text y z) _ _ _ k (λ f _. (bytes_decides x z).0 e ∙ sym ((bytes_decides y z).0 f)) (λ _ j. absurd (there y i j)))
+    (λ _ i. first_or_later (same_text y z) _ _ _ k (λ _ j. absurd (there x j i)) (λ _. place_once xs ps x y q a.1 i))
   where
     there : (w : Text) → p ≡ q → place_in xs ps w ≡ Some q → ⊥
     there w e j = place_among p xs ps w a.0 (j ∙ ap Some (sym e))
-
-    go : (b c : Bool) → same_text x z ≡ b → same_text y z ≡ c → (if b then Some p else place_in xs ps x) ≡ Some q → (if c then Some p else place_in xs ps y) ≡ Some q → (place_in xs ps x ≡ Some q → place_in xs ps y ≡ Some q → x ≡ y) → x ≡ y
-    go true true e f i j rec = (bytes_decides x z).0 e ∙ sym ((bytes_decides y z).0 f)
-    go true false e f i j rec = absurd (there y (same_Some _ _ i) j)
-    go false true e f i j rec = absurd (there x (same_Some _ _ j) i)
-    go false false e f i j rec = rec i j
 
 -- what holds of all the spots holds of a place
 pub place_has : (Q : Spot → Type 0) (xs : List Text) (ps : List Spot) (x : Text) (q : Spot) → AllByRecursion Q ps → place_in xs ps x ≡ Some q → Q q
 place_has Q [] ps x q a h = absurd (none-some q h)
 place_has Q (z ∷ xs) [] x q a h = absurd (none-some q h)
-place_has Q (z ∷ xs) (p ∷ ps) x q a h = go (same_text x z) h (place_has Q xs ps x q a.1)
-  where
-    go : (b : Bool) → (if b then Some p else place_in xs ps x) ≡ Some q → (place_in xs ps x ≡ Some q → Q q) → Q q
-    go true k rec = subst Q (same_Some _ _ k) a.0
-    go false k rec = rec k
+place_has Q (z ∷ xs) (p ∷ ps) x q a h = first_or_later (same_text x z) _ _ _ h (λ _ k. subst Q k a.0) (λ _. place_has Q xs ps x q a.1)
 
 abbrev pub IsSlot : Spot → Type 0
 IsSlot (Slot i) = Unit {0}
@@ -235,11 +194,7 @@ pub record IsScope (P : Program) (G : Scope) : Type 0 where
 
 pub named_has : {X : Type 0} (Q : X → Type 0) (es : List (Text × X)) (x : Text) (v : X) → AllByRecursion (λ e. Q e.1) es → named es x ≡ Some v → Q v
 named_has Q [] x v a h = absurd (none-some v h)
-named_has Q (e ∷ es) x v a h = go (same_text x e.0) h (named_has Q es x v a.1)
-  where
-    go : (b : Bool) → cond b (Some e.1) (named es x) ≡ Some v → (named es x ≡ Some v → Q v) → Q v
-    go true k rec = subst Q (same_Some _ _ k) a.0
-    go false k rec = rec k
+named_has Q (e ∷ es) x v a h = first_or_later (same_text x e.0) _ _ _ h (λ _ k. subst Q k a.0) (λ _. named_has Q es x v a.1)
 
 pub sorts_as : (n : Nature) (vs : List Var) → AllByRecursion IsSort (sorts_of vs) → AllByRecursion (λ e. IsSort e.1.sort) (variables_as n vs)
 sorts_as n [] a = tt
@@ -253,11 +208,7 @@ pub record LocalsAt (T : Store Sort) (s : Site) (locals : List (Text × Variable
 
 pub if_named-some : (s : Site) (o : Option Variable) (v : Variable) → if_named s o ≡ Some v → (o ≡ Some v) × (may_name s v.nature ≡ true)
 if_named-some s None v h = absurd (none-some v h)
-if_named-some s (Some w) v h = go (may_name s w.nature) refl h
-  where
-    go : (b : Bool) → may_name s w.nature ≡ b → (if b then Some w else None) ≡ Some v → (Some w ≡ Some v) × (may_name s v.nature ≡ true)
-    go true e k = (k, subst (λ (u : Variable). may_name s u.nature ≡ true) (same_Some _ _ k) e)
-    go false e k = absurd (none-some v k)
+if_named-some s (Some w) v h = let k = cond_some (may_name s w.nature) w v h in (ap Some k.1, subst (λ (u : Variable). may_name s u.nature ≡ true) k.1 k.0)
 
 module _ (P : Program) (G : Scope) (scope : IsScope P G) where
   abbrev F : List Function
@@ -318,7 +269,7 @@ module _ (P : Program) (G : Scope) (scope : IsScope P G) where
       let laid = laid_vars T nature.Input d.head.ins spots h in
       record {
         found = λ x v e m. laid_found T ins (names_of d.head.ins) spots x v laid (not_out d.head.ins x v e m);
-        absent = λ x e. laid_none T ins (names_of d.head.ins) spots x laid (none_first ins outs x e);
+        absent = λ x e. laid_none T ins (names_of d.head.ins) spots x laid (none_append ins outs x e).0;
         sorts = all-append (λ e. IsSort e.1.sort) ins outs (sorts_as nature.Input d.head.ins known_ins) (sorts_as nature.Output d.head.outs known_outs);
       }
     where
@@ -328,24 +279,8 @@ module _ (P : Program) (G : Scope) (scope : IsScope P G) where
 
       out_no : (vs : List Var) (x : Text) (v : Variable) → named (variables_as nature.Output vs) x ≡ Some v → may_name site.Requires v.nature ≡ true → ⊥
       out_no [] x v e m = none-some v e
-      out_no (y ∷ vs) x v e m = step (same_text x y.name) e (λ k. out_no vs x v k m)
-        where
-          step : (b : Bool) → cond b (Some (record { sort = y.sort; nature = nature.Output })) (named (variables_as nature.Output vs) x) ≡ Some v → (named (variables_as nature.Output vs) x ≡ Some v → ⊥) → ⊥
-          step true k rec = is_output v (ap (λ (w : Variable). w.nature) (same_Some _ _ k)) m
-          step false k rec = rec k
+      out_no (y ∷ vs) x v e m = first_or_later (same_text x y.name) _ _ _ e (λ _ k. is_output v (ap (λ (w : Variable). w.nature) k) m) (λ _ k. out_no vs x v k m)
 
       not_out : (vs : List Var) (x : Text) (v : Variable) → named (variables_as nature.Input vs ++ variables_as nature.Output d.head.outs) x ≡ Some v → may_name site.Requires v.nature ≡ true → named (variables_as nature.Input vs) x ≡ Some v
       not_out [] x v e m = absurd (out_no d.head.outs x v e m)
-      not_out (y ∷ vs) x v e m = step (same_text x y.name) e (λ k. not_out vs x v k m)
-        where
-          step : (b : Bool) → cond b (Some (record { sort = y.sort; nature = nature.Input })) (named (variables_as nature.Input vs ++ variables_as nature.Output d.head.outs) x) ≡ Some v → (named (variables_as nature.Input vs ++ variables_as nature.Output d.head.outs) x ≡ Some v → named (variables_as nature.Input vs) x ≡ Some v) → cond b (Some (record { sort = y.sort; nature = nature.Input })) (named (variables_as nature.Input vs) x) ≡ Some v
-          step true k rec = k
-          step false k rec = rec k
-
-      none_first : (es fs : List (Text × Variable)) (x : Text) → named (es ++ fs) x ≡ None → named es x ≡ None
-      none_first [] fs x e = refl
-      none_first (f ∷ es) fs x e = step (same_text x f.0) e (none_first es fs x)
-        where
-          step : (b : Bool) → cond b (Some f.1) (named (es ++ fs) x) ≡ None → (named (es ++ fs) x ≡ None → named es x ≡ None) → cond b (Some f.1) (named es x) ≡ None
-          step true k rec = k
-          step false k rec = rec k
+      not_out (y ∷ vs) x v e m = same_front (same_text x y.name) _ _ _ _ e (λ k. not_out vs x v k m)

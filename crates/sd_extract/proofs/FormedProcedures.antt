@@ -1,56 +1,33 @@
 -- The procedures of a body and of its loops are well formed.
-use Rattle.std.proofs.Common.{◌≡◌, ℕ, zero, suc, ◌+◌, ◌-◌, ◌≤◌, List, [], ◌∷◌, ◌++◌, map, length, Option, Some, None, refl, sym, ◌∙◌, ap, subst, inl, inr, arith}
+use Rattle.std.proofs.Common.{◌≡◌, ℕ, zero, suc, ◌+◌, ◌-◌, ◌≤◌, List, [], ◌∷◌, ◌++◌, map, length, Some, None, refl, sym, ◌∙◌, ap, subst, inl, inr, arith, length-append}
 use Rattle.std.specs.Prelude.{Bool, true, false, ◌⊎◌, slice_get, codes, if◌then◌else◌}
 use Rattle.std.specs.List.{AllByRecursion, filter_map, cons_option}
-use Rattle.std.proofs.Common.{length-append}
 use Rattle.std.proofs.lemmas.List.{append-nil, map-append}
 use Rattle.std.proofs.lemmas.Option.{same_Some, none-some}
-use Rattle.sd_base.specs.declared.Sort.{Sort, Bool as BoolSort}
-use Rattle.sd_base.specs.declared.Var.{Var}
-use Rattle.sd_base.specs.Value.{Text}
+use Rattle.sd_extract.proofs.SourceWords.{Sort, BoolSort, Var, Text, names_of, Program, Expr, Invariant, StmtKind, If', While', Row_of-Stmt, end_of-Stmt, more_of-Stmt, SourceRoutine, procedure_in, routine_named, requires_of, ensures_of}
+use Rattle.sd_extract.proofs.SourceWords.{clauses_of, globals_in, kinds_in, Scope, Context, context, routine, variables_as, parameters, modifies_of, body_variables, HasType, IsTypedStmt, AreTypedStmts}
+use Rattle.sd_extract.proofs.CoreWords.{Global, At, Literal, CoreStmt, CoreProc, Function, CoreProgram, Store, slots_from, sorts_of, state_sorts, IsSort, AllHaveTypes, AreSpotsOf, IsFormed, AllFormed, IsProc, copies_in, core_of, counts}
+use Rattle.sd_extract.proofs.CoreWords.{counts_all, counts_each, none, has_returns, Source, state_of, copies_of, frame_at, kinds, put, check, assume, on_args, loop_call, each_extracted, contract, leave, body_frame, body_copies, body_start}
+use Rattle.sd_extract.proofs.CoreWords.{body_proc, loop_state, loop_hidden, left_of, loop_frame, loop_start, turn_of, loop_proc, loops_in, all_loops_in, each_loop_in, procs_of, hidden, ins_of, var_in, modified_names, number_from}
+use Rattle.sd_extract.proofs.CoreWords.{core_procs, core_program, functions_in}
 use Rattle.sd_base.proofs.Lists.{all-append}
-use Rattle.sd_ast.specs.Tree.{names_of}
-use Rattle.sd_ast.specs.declared.Program.{Program}
-use Rattle.sd_ast.specs.declared.Proc.{Proc}
-use Rattle.sd_ast.specs.declared.Expr.{Expr}
-use Rattle.sd_ast.specs.declared.Invariant.{Invariant}
-use Rattle.sd_ast.specs.declared.StmtKind.{StmtKind, Assert, Assume, Assign, Call, If', While', Break, Return, Row_of-Stmt, end_of-Stmt, more_of-Stmt}
-use Rattle.sd_meaning.specs.Routine.{Routine as SourceRoutine, procedure_in, routine_named, requires_of, ensures_of, clauses_of}
-use Rattle.sd_meaning.specs.Inputs.{globals_in}
-use Rattle.sd_meaning.specs.Run.{kinds_in}
 use Rattle.sd_types.specs.declared.scope.Nature.TheVariants as nature
-use Rattle.sd_types.specs.declared.scope.Scope.{Scope}
 use Rattle.sd_types.specs.declared.scope.Site.TheVariants as site
-use Rattle.sd_types.specs.Scopes.{Context, context}
-use Rattle.sd_types.specs.Statements.{Routine, routine}
-use Rattle.sd_types.specs.Declarations.{variables_as, parameters, modifies_of, body_variables}
-use Rattle.sd_types.specs.Typing.{HasType}
-use Rattle.sd_types.specs.TypedBodies.{AllTruths, IsTypedStmt, AreTypedStmts}
-use Rattle.sd_core.specs.declared.Spot.TheVariants.{Global}
-use Rattle.sd_core.specs.declared.CoreExpr.{At}
-use Rattle.sd_core.specs.declared.CoreExpr.{Truth as Literal}
-use Rattle.sd_core.specs.declared.CoreStmt.{CoreStmt}
+use Rattle.sd_types.specs.Statements.{Routine}
+use Rattle.sd_types.specs.TypedBodies.{AllTruths}
 use Rattle.sd_core.specs.declared.CoreStmt as core
-use Rattle.sd_core.specs.declared.CoreProc.{CoreProc}
-use Rattle.sd_core.specs.declared.Function.{Function}
-use Rattle.sd_core.specs.declared.CoreProgram.{CoreProgram}
-use Rattle.sd_core.specs.Store.{Store}
-use Rattle.sd_core.specs.Run.{slots_from}
-use Rattle.sd_core.specs.Formed.{sorts_of, state_sorts, IsSort, AllHaveTypes, AreSpotsOf, AllFormed, IsLoop, IsProc}
-use Rattle.sd_core.specs.Formed.{copies_of as copies_in}
-use Rattle.sd_extract.specs.Names.{core_of}
-use Rattle.sd_extract.specs.Extract.{counts, counts_all, counts_each, none, has_returns, Source, state_of, copies_of, frame_at, kinds, put, check, assume, on_args, loop_call, each_extracted, contract, leave, body_frame, body_copies, body_start, body_proc, loop_state, loop_hidden, left_of, loop_frame, loop_start, turn_of, loop_proc, loops_in, all_loops_in, each_loop_in, procs_of, hidden, ins_of, index_in, var_in, modified_names, number_from, core_procs}
-use Rattle.sd_extract.specs.Programs.{core_program, functions_in}
+use Rattle.sd_core.specs.Formed.{IsLoop}
 use Rattle.sd_extract.proofs.FormedExpressions.{Sees, core_typed}
 use Rattle.sd_extract.proofs.FormedChecks.{IsChecked, AreChecked, EachChecked, EachTyped, row_each_checked, row_each_typed}
 use Rattle.sd_extract.proofs.FormedSpots.{Holds, holds_left, holds_right, spots_hold, spots_typed, slots_targets}
 use Rattle.sd_extract.proofs.FormedPlaces.{sorts_as, laid_append, laid_vars, laid_found, laid_none, LocalsAt, Matches, sees}
 use Rattle.sd_extract.proofs.FormedDeclarations.{IsTyped, is_scope, RoutineFine, proc_is_fine, routine_fine}
-use Rattle.sd_extract.proofs.FormedModifies.{numbers_match, numbers_below, numbers_once, modified_once, copied_numbers, IndexVar, index_var}
+use Rattle.sd_extract.proofs.FormedModifies.{numbers_match, numbers_below, numbers_once, modified_once, copied_numbers}
 use Rattle.sd_extract.proofs.FormedNumbers.{EachFrom, each_append, LoopIs, loops_length, all_loops_length, each_loops_give, row_loops}
 use Rattle.sd_extract.proofs.FormedFrames.{sorts_length, source_at, body_stands, loops_stand, entry_laid, now_laid, frame_fits}
 use Rattle.sd_extract.proofs.FormedLocals.{holds_all, at_slot, body_slots, loop_ins, loop_outs, loop_slots, sorts_join, hidden_fit, root_names, copied-sorts}
-use Rattle.sd_extract.proofs.FormedStatements.{formed_append, put_formed, checks_formed, assumes_formed, if_formed, Fits, LoopHas, LoopsAt, AllLoopsAt, EachLoopsAt, left_sort_if, arg_sorts, each_arg_sorts, each_left_sorts, HiddenAt, loop_formed, with_left, args_counted, each_formed}
+use Rattle.sd_extract.proofs.FormedStatements.{put_formed, checks_formed, assumes_formed, if_formed, Fits, LoopHas, LoopsAt, AllLoopsAt, EachLoopsAt, left_sort_if, arg_sorts, each_arg_sorts, each_left_sorts, HiddenAt, loop_formed, with_left, args_counted, each_formed}
+use Rattle.sd_extract.proofs.CodeNames.{by_index}
 use Rattle.sd_extract.proofs.CodeCounts.{returns_row}
 
 truths_all : (C : Context) (invs : List Invariant) → AllTruths C invs → AllByRecursion (λ c. HasType C c.holds.kind BoolSort) (clauses_of invs)
@@ -66,17 +43,13 @@ globals_typed F T (m ∷ ms) (t ∷ ts) h = (h.0, globals_typed F T ms ts h.1)
 -- the types of the copied globals
 copied_fit : (vs : List Var) (names : List Text) → AllByRecursion IsSort (sorts_of vs) → AllByRecursion IsSort (sorts_of (filter_map (var_in vs) names))
 copied_fit vs [] h = tt
-copied_fit vs (x ∷ names) h = go (index_in vs x) (var_in vs x) (index_var vs x) (copied_fit vs names h)
+copied_fit vs (x ∷ names) h =
+    by_index vs x (λ i v. AllByRecursion IsSort (sorts_of (cons_option v (filter_map (var_in vs) names)))) (copied_fit vs names h) (λ i v e. (at vs i v h e.0, copied_fit vs names h))
   where
     at : (ws : List Var) (i : ℕ) (v : Var) → AllByRecursion IsSort (sorts_of ws) → slice_get ws i ≡ Some v → IsSort v.sort
     at [] i v a e = absurd (none-some v e)
     at (w ∷ ws) zero v a e = subst (λ (u : Var). IsSort u.sort) (same_Some w v e) a.0
     at (w ∷ ws) (suc i) v a e = at ws i v a.1 e
-
-    go : (i : Option ℕ) (v : Option Var) → IndexVar vs x i v → AllByRecursion IsSort (sorts_of (filter_map (var_in vs) names)) → AllByRecursion IsSort (sorts_of (cons_option v (filter_map (var_in vs) names)))
-    go i None e k = k
-    go None (Some v) e k = absurd e
-    go (Some i) (Some v) e k = (at vs i v h e.0, k)
 
 module _ (P : Program) (G : Scope) (typed : IsTyped P G) (global_sorts : AllByRecursion IsSort (sorts_of (globals_in P.decls))) (f : Text) (r : SourceRoutine) (is : routine_named P f ≡ Some r) where
   abbrev number : Text → ℕ
@@ -131,13 +104,7 @@ module _ (P : Program) (G : Scope) (typed : IsTyped P G) (global_sorts : AllByRe
     proc_outs = loop_outs P number S n e (clauses_of invs) (has_returns body) (kinds_in body);
     modifies = refl;
   }
-  loop_has n (If' e shape a shape' b) h = h
-  loop_has n (Assert e) h = h
-  loop_has n (Assume e) h = h
-  loop_has n (Assign ls es) h = h
-  loop_has n (Call xs g es) h = h
-  loop_has n Break h = h
-  loop_has n Return h = h
+  loop_has n _ h = absurd h
 
   abbrev placed_loops : EachLoopsAt Placed (suc S.number) (kinds S)
   placed_loops = loops_stand P f r is
@@ -213,7 +180,7 @@ module _ (P : Program) (G : Scope) (typed : IsTyped P G) (global_sorts : AllByRe
   leave_formed : AllFormed K B (leave S)
   leave_formed =
       let h = body_holds in
-      formed_append K B (map (check (contract S)) (ensures_of r.declared.specs)) (core.Return ∷ []) (checks_formed K B (context G (parameters r.declared.head) site.Ensures) (contract S) (contract_sees BT refl h.ins_held h.state_held h.copies_held) (ensures_of r.declared.specs) fine.declared.ensures) (tt, tt)
+      all-append (IsFormed K B) (map (check (contract S)) (ensures_of r.declared.specs)) (core.Return ∷ []) (checks_formed K B (context G (parameters r.declared.head) site.Ensures) (contract S) (contract_sees BT refl h.ins_held h.state_held h.copies_held) (ensures_of r.declared.specs) fine.declared.ensures) (tt, tt)
 
   body_hidden : HiddenAt BT.slots (body_copies S + length S.copied) (body_start S) (each_arg_sorts P (kinds S)) (each_left_sorts (kinds S))
   body_hidden =
@@ -237,14 +204,13 @@ module _ (P : Program) (G : Scope) (typed : IsTyped P G) (global_sorts : AllByRe
       let stmts = each_extracted P number F (body_start S) (kinds S) in
       let copying_formed = put_formed K B F.copies (map (λ i. At (Global i)) S.modifies) copied (globals_typed K.functions BT S.modifies copied (numbers_match (globals_in P.decls) (modified_names r.declared.specs []))) (slots_targets BT B.modifies (body_copies S) S.copied copied (sorts_length S.copied) h.copies_held) in
       let stmts_formed = each_formed P number K B R F first ins state copied body_fits false (body_start S) (kinds S) fine.typed fine.checked (λ e. leave_formed) body_hidden (each_loops_give Placed Has loop_has (suc S.number) (kinds S) placed_loops) in
-      formed_append K B copying (requires ++ (stmts ++ leave S)) copying_formed (formed_append K B requires (stmts ++ leave S) (requires_at B n_ins (body_copies S) first (leave S) body_fits) (formed_append K B stmts (leave S) stmts_formed leave_formed))
+      all-append (IsFormed K B) copying (requires ++ (stmts ++ leave S)) copying_formed (all-append (IsFormed K B) requires (stmts ++ leave S) (requires_at B n_ins (body_copies S) first (leave S) body_fits) (all-append (IsFormed K B) stmts (leave S) stmts_formed leave_formed))
 
   known_ins : (g : Text) → AllByRecursion IsSort (sorts_of (ins_of (procedure_in P.decls g)))
-  known_ins g = go (procedure_in P.decls g) refl
-    where
-      go : (o : Option Proc) → procedure_in P.decls g ≡ o → AllByRecursion IsSort (sorts_of (ins_of o))
-      go None e = tt
-      go (Some d) e = (proc_is_fine P G typed g d e).ins
+  known_ins g = elim (procedure_in P.decls g) as (λ o. procedure_in P.decls g ≡ o → AllByRecursion IsSort (sorts_of (ins_of o))) [
+    | None ↦ λ e. tt
+    | Some d ↦ λ e. (proc_is_fine P G typed g d e).ins
+  ] refl
 
   copies_fit : AllByRecursion IsSort (sorts_of (copies_of S))
   copies_fit =
@@ -355,7 +321,7 @@ module _ (P : Program) (G : Scope) (typed : IsTyped P G) (global_sorts : AllByRe
         let stmts = each_extracted P number F (loop_start S k returns turn) turn in
         let stmts_formed = each_formed P number K L R F at_left ins state copied loop_fits true (loop_start S k returns turn) turn (row_each_typed R true body stmt_typed.2) (row_each_checked R body stmt_checked) (λ e. leave_loop returns h.left_held (returns_row body ∙ e)) loop_hides (each_loops_give Placed Has loop_has (suc k) turn (row_loops Placed (suc k) body inner)) in
         let again = loop_formed P number K L R F at_left ins state copied loop_fits k returns (left_of S returns) (loop_has k (While' guard invs shape body) placed) (with_left P number K L R F at_left ins state copied loop_fits returns at_left (omega arith) h.left_held) in
-        formed_append K L stmts (loop_call F k (left_of S returns) ∷ []) stmts_formed (again, tt)
+        all-append (IsFormed K L) stmts (loop_call F k (left_of S returns) ∷ []) stmts_formed (again, tt)
 
     loop_body_formed : AllFormed K L L.body
     loop_body_formed =
@@ -369,7 +335,7 @@ module _ (P : Program) (G : Scope) (typed : IsTyped P G) (global_sorts : AllByRe
         let checks_are = checks_formed K L R.context F.names loop_fits.sees (clauses_of invs) (truths_all R.context invs stmt_typed.1) in
         let guarded = if_formed K L (core_of F.names guard.kind) (turn_of P number S k returns turn) [] (core_typed K.functions LT R.context F.names loop_fits.sees guard.kind BoolSort stmt_typed.0) turn_formed tt in
         let step = core.If (core_of F.names guard.kind) (turn_of P number S k returns turn) [] ∷ [] in
-        formed_append K L moving (lowering ++ (checks ++ step)) moving_formed (formed_append K L lowering (checks ++ step) (put_left returns false h.left_held) (formed_append K L checks step checks_are (guarded, tt)))
+        all-append (IsFormed K L) moving (lowering ++ (checks ++ step)) moving_formed (all-append (IsFormed K L) lowering (checks ++ step) (put_left returns false h.left_held) (all-append (IsFormed K L) checks step checks_are (guarded, tt)))
 
     left_vars : (b : Bool) → AllByRecursion IsSort (sorts_of (if b then record { name = codes "left"; sort = BoolSort } ∷ [] else []))
     left_vars true = (tt, tt)

@@ -2,59 +2,37 @@
 use Rattle.std.proofs.Common.{◌≡◌, ℕ, suc, ◌+◌, List, [], ◌∷◌, ◌++◌, map, Option, Some, None, Ok, refl, sym, ◌∙◌, ap, subst, ⊎_elim, arith}
 use Rattle.std.specs.Prelude.{Bool, true, false, cond, slice_get}
 use Rattle.std.specs.Option.{is_none}
-use Rattle.std.specs.List.{AllByRecursion, IsDistinct}
+use Rattle.std.specs.List.{AllByRecursion, IsDistinct, filter}
 use Rattle.std.specs.Cmp.Lexicographic.{bytes_decides}
 use Rattle.std.proofs.lemmas.List.{map-append}
 use Rattle.std.proofs.lemmas.Option.{none-some}
 use Rattle.std.proofs.lemmas.List.Elements.{filter-append}
-use Rattle.sd_base.specs.declared.Sort.{Sort, Bool as BoolSort}
-use Rattle.sd_base.specs.declared.Var.{Var}
-use Rattle.sd_base.specs.Value.{Text, same_text}
+use Rattle.sd_extract.proofs.SourceWords.{Sort, BoolSort, Var, Text, same_text, Decl, Const, Function, Axiom, Globals, Procedure, Program, Routine, routine_named, globals_in}
+use Rattle.sd_extract.proofs.SourceWords.{uniques_in, Variable, Signature, Nature, Scope, named, context, may_name, known_sort, variables_as, constants_of, known_sorts, decl_rule}
+use Rattle.sd_extract.proofs.CoreWords.{CoreFunction, CoreProc, CoreProgram, sorts_of, names_of, IsSort, IsProc, HasCoreType, place_of, at_place, kinds, source_of, size_of}
+use Rattle.sd_extract.proofs.CoreWords.{number_from, routine_procs, procs_from, constants_named, functions_in, axioms_in, no_names, core_axiom, core_program, ExtractedIsFormed}
 use Rattle.sd_base.proofs.Lists.{all-append, all-back}
 use Rattle.sd_base.proofs.Texts.{same_text-refl}
-use Rattle.sd_ast.specs.declared.Decl.{Decl}
-use Rattle.sd_ast.specs.declared.Decl.TheVariants.{Const, Function, Axiom, Globals, Procedure}
-use Rattle.sd_ast.specs.declared.Program.{Program}
-use Rattle.sd_ast.specs.declared.StmtKind.{StmtKind, If', While', Row_of-Stmt, end_of-Stmt, more_of-Stmt}
-use Rattle.sd_meaning.specs.Routine.{Routine, routine_named}
-use Rattle.sd_meaning.specs.Inputs.{globals_in, uniques_in, constants_of_sort}
-use Rattle.sd_types.specs.declared.scope.Variable.{Variable}
-use Rattle.sd_types.specs.declared.scope.Signature.{Signature}
-use Rattle.sd_types.specs.declared.scope.Nature.{Nature}
+use Rattle.sd_meaning.specs.Inputs.{constants_of_sort}
 use Rattle.sd_types.specs.declared.scope.Nature.TheVariants as nature
-use Rattle.sd_types.specs.declared.scope.Scope.{Scope}
 use Rattle.sd_types.specs.declared.scope.Site.TheVariants as site
-use Rattle.sd_types.specs.Tables.{named}
-use Rattle.sd_types.specs.Scopes.{context, may_name}
-use Rattle.sd_types.specs.Phrases.{known_sort}
-use Rattle.sd_types.specs.Declarations.{variables_as, constants_of, callee_of, known_sorts, decl_rule}
 use Rattle.sd_types.proofs.TypingLemmas.{parts}
-use Rattle.sd_core.specs.declared.Function.{Function as CoreFunction}
-use Rattle.sd_core.specs.declared.CoreProc.{CoreProc}
-use Rattle.sd_core.specs.declared.CoreProgram.{CoreProgram}
-use Rattle.sd_core.specs.Formed.{sorts_of, names_of, no_state, IsSort, functions_as, roots, IsConstant, IsSignature, IsProc, WellFormed}
-use Rattle.sd_core.specs.Formed.{HasType as HasCoreType}
-use Rattle.sd_extract.specs.Names.{place_of, at_place}
-use Rattle.sd_extract.specs.Extract.{Source, counts, counts_all, kinds, loops_in, all_loops_in, each_loop_in, source_of, size_of, number_from, routine_procs, procs_from}
-use Rattle.sd_extract.specs.Programs.{constants_named, functions_in, axioms_in, no_names, core_axiom, core_program}
-use Rattle.sd_extract.specs.Laws.{ExtractedIsFormed}
+use Rattle.sd_core.specs.Formed.{no_state, functions_as, roots, IsConstant, IsSignature, WellFormed}
+use Rattle.sd_extract.proofs.Searches.{none_later, same_front}
 use Rattle.sd_extract.proofs.FormedExpressions.{Sees, core_typed}
-use Rattle.sd_extract.proofs.FormedTables.{keys, OnceEach, entries_distinct, global_entries, function_entries, procedure_entries}
-use Rattle.sd_extract.proofs.FormedLookups.{function_found, constant_found, globals_as, no_global, none_prefix, once_past_constants, once_past_variables, is_outer}
+use Rattle.sd_extract.proofs.FormedTables.{none_append, once_append, keys, OnceEach, entries_distinct, global_entries, function_entries, procedure_entries}
+use Rattle.sd_extract.proofs.FormedLookups.{function_found, constant_found, globals_as, no_global, variables_prefix, is_outer}
 use Rattle.sd_extract.proofs.FormedPlaces.{IsScope, named_has, if_named-some, variable_sort, outer_named}
 use Rattle.sd_extract.proofs.FormedDeclarations.{known_fit, sorts_fit, vars_fit, IsTyped, is_typed, is_scope, procedures_once, truth_typed, routine_fine}
 use Rattle.sd_extract.proofs.FormedNumbers.{each_at, all_procs}
 use Rattle.sd_extract.proofs.FormedProcedures.{routine_procs_formed}
+use Rattle.sd_extract.proofs.Parts.{each_loop_has}
 
 -- ---- names stand once
 
 absent_keys : {X : Type 0} (es : List (Text × X)) (x : Text) → named es x ≡ None → AllByRecursion (λ y. same_text x y ≡ false) (keys es)
 absent_keys [] x h = tt
-absent_keys (e ∷ es) x h = go (same_text x e.0) refl h (absent_keys es x)
-  where
-    go : (b : Bool) → same_text x e.0 ≡ b → cond b (Some e.1) (named es x) ≡ None → (named es x ≡ None → AllByRecursion (λ y. same_text x y ≡ false) (keys es)) → AllByRecursion (λ y. same_text x y ≡ false) (keys (e ∷ es))
-    go true t k rec = absurd (cc)
-    go false t k rec = (t, rec k)
+absent_keys (e ∷ es) x h = let n = none_later (same_text x e.0) _ _ h in (n.0, absent_keys es x n.1)
 
 once_distinct : {X : Type 0} (es : List (Text × X)) → OnceEach es → IsDistinct same_text (keys es)
 unfolding IsDistinct
@@ -64,11 +42,11 @@ once_distinct (e ∷ es) h = (absent_keys es e.0 h.0, once_distinct es h.1)
 once_variables : (n : Nature) (vs ws : List Var) (es : List (Text × Variable)) → OnceEach (variables_as n vs ++ es) → ((x : Text) → named es x ≡ None → named (variables_as n ws) x ≡ None) → (OnceEach es → OnceEach (variables_as n ws)) → OnceEach (variables_as n (vs ++ ws))
 once_variables n [] ws es h absent rest = rest h
 once_variables n (y ∷ vs) ws es h absent rest =
-    (none_prefix n vs ws es y.name h.0 (absent y.name), once_variables n vs ws es h.1 absent rest)
+    (variables_prefix n vs ws es y.name None h.0 (absent y.name), once_variables n vs ws es h.1 absent rest)
 
 globals_once : (ds : List Decl) → OnceEach (global_entries ds) → OnceEach (globals_as ds)
 globals_once [] h = tt
-globals_once (Const u xs s ∷ ds) h = globals_once ds (once_past_constants s xs (global_entries ds) h)
+globals_once (Const u xs s ∷ ds) h = globals_once ds (once_append (constants_of s xs) (global_entries ds) h)
 globals_once (Globals vs ∷ ds) h = once_variables nature.Global vs (globals_in ds) (global_entries ds) h (no_global ds) (globals_once ds)
 globals_once (_ ∷ ds) h = globals_once ds h
 
@@ -103,37 +81,25 @@ constant_keys [] = refl
 constant_keys (Const u xs s ∷ ds) = constant_names s xs (functions_in ds) (constants_in ds) (constant_keys ds)
 constant_keys (_ ∷ ds) = constant_keys ds
 
-absent_constants : (s : Sort) (names : List Text) (es fs : List (Text × Variable)) (x : Text) → named (constants_of s names ++ es) x ≡ None → (named es x ≡ None → named fs x ≡ None) → named (constants_of s names ++ fs) x ≡ None
-absent_constants s [] es fs x h rest = rest h
-absent_constants s (c ∷ names) es fs x h rest = go (same_text x c) h (λ k. absent_constants s names es fs x k rest)
-  where
-    go : (b : Bool) → cond b (Some (record { sort = s; nature = nature.Constant })) (named (constants_of s names ++ es) x) ≡ None → (named (constants_of s names ++ es) x ≡ None → named (constants_of s names ++ fs) x ≡ None) → cond b (Some (record { sort = s; nature = nature.Constant })) (named (constants_of s names ++ fs) x) ≡ None
-    go true k rec = k
-    go false k rec = rec k
-
-past_variables : (n : Nature) (vs : List Var) (es : List (Text × Variable)) (x : Text) → named (variables_as n vs ++ es) x ≡ None → named es x ≡ None
-past_variables n [] es x h = h
-past_variables n (y ∷ vs) es x h = go (same_text x y.name) h (past_variables n vs es x)
-  where
-    go : (b : Bool) → cond b (Some (record { sort = y.sort; nature = n })) (named (variables_as n vs ++ es) x) ≡ None → (named (variables_as n vs ++ es) x ≡ None → named es x ≡ None) → named es x ≡ None
-    go true k rec = absurd (cc)
-    go false k rec = rec k
+same_front_table : {X : Type 0} (ds es fs : List (Text × X)) (x : Text) (o : Option X) → named (ds ++ es) x ≡ o → (named es x ≡ o → named fs x ≡ o) → named (ds ++ fs) x ≡ o
+same_front_table [] es fs x o h more = more h
+same_front_table (d ∷ ds) es fs x o h more = same_front (same_text x d.0) _ _ _ _ h (λ k. same_front_table ds es fs x o k more)
 
 no_constant : (ds : List Decl) (x : Text) → named (global_entries ds) x ≡ None → named (constants_in ds) x ≡ None
 no_constant [] x h = h
-no_constant (Const u xs s ∷ ds) x h = absent_constants s xs (global_entries ds) (constants_in ds) x h (no_constant ds x)
-no_constant (Globals vs ∷ ds) x h = no_constant ds x (past_variables nature.Global vs (global_entries ds) x h)
+no_constant (Const u xs s ∷ ds) x h = same_front_table (constants_of s xs) (global_entries ds) (constants_in ds) x None h (no_constant ds x)
+no_constant (Globals vs ∷ ds) x h = no_constant ds x (none_append (variables_as nature.Global vs) (global_entries ds) x h).1
 no_constant (_ ∷ ds) x h = no_constant ds x h
 
 once_constants : (s : Sort) (names : List Text) (es fs : List (Text × Variable)) → OnceEach (constants_of s names ++ es) → ((x : Text) → named es x ≡ None → named fs x ≡ None) → (OnceEach es → OnceEach fs) → OnceEach (constants_of s names ++ fs)
 once_constants s [] es fs h absent rest = rest h
 once_constants s (c ∷ names) es fs h absent rest =
-    (absent_constants s names es fs c h.0 (absent c), once_constants s names es fs h.1 absent rest)
+    (same_front_table (constants_of s names) es fs c None h.0 (absent c), once_constants s names es fs h.1 absent rest)
 
 constants_once : (ds : List Decl) → OnceEach (global_entries ds) → OnceEach (constants_in ds)
 constants_once [] h = tt
 constants_once (Const u xs s ∷ ds) h = once_constants s xs (global_entries ds) (constants_in ds) h (no_constant ds) (constants_once ds)
-constants_once (Globals vs ∷ ds) h = constants_once ds (once_past_variables nature.Global vs (global_entries ds) h)
+constants_once (Globals vs ∷ ds) h = constants_once ds (once_append (variables_as nature.Global vs) (global_entries ds) h)
 constants_once (_ ∷ ds) h = constants_once ds h
 
 -- ---- types
@@ -235,22 +201,9 @@ module _ (P : Program) (G : Scope) (typed : IsTyped P G) where
 
   -- ---- names of procedures
 
-  mutual
-    loops_no_roots : (S : Source) (n : ℕ) (s : StmtKind) → roots (loops_in P (number_from P 0 P.decls) S n s) ≡ []
-    loops_no_roots S n (While' e invs shape body) = all_loops_no_roots S (suc n) body
-    loops_no_roots S n (If' e shape x shape' y) =
-        filter-append (λ p. is_none p.parent) (all_loops_in P (number_from P 0 P.decls) S n x) (all_loops_in P (number_from P 0 P.decls) S (n + (counts_all x).loops) y) ∙ (λ i. all_loops_no_roots S n x i ++ all_loops_no_roots S (n + (counts_all x).loops) y i)
-    loops_no_roots S n _ = refl
-
-    all_loops_no_roots : (S : Source) (n : ℕ) {m : _} (ss : Row_of-Stmt m) → roots (all_loops_in P (number_from P 0 P.decls) S n ss) ≡ []
-    all_loops_no_roots S n end_of-Stmt = refl
-    all_loops_no_roots S n (more_of-Stmt p s ss) =
-        filter-append (λ p. is_none p.parent) (loops_in P (number_from P 0 P.decls) S n s) (all_loops_in P (number_from P 0 P.decls) S (n + (counts s).loops) ss) ∙ (λ i. loops_no_roots S n s i ++ all_loops_no_roots S (n + (counts s).loops) ss i)
-
-  each_loop_no_roots : (S : Source) (n : ℕ) (ss : List StmtKind) → roots (each_loop_in P (number_from P 0 P.decls) S n ss) ≡ []
-  each_loop_no_roots S n [] = refl
-  each_loop_no_roots S n (s ∷ ss) =
-      filter-append (λ p. is_none p.parent) (loops_in P (number_from P 0 P.decls) S n s) (each_loop_in P (number_from P 0 P.decls) S (n + (counts s).loops) ss) ∙ (λ i. loops_no_roots S n s i ++ each_loop_no_roots S (n + (counts s).loops) ss i)
+  none_kept : {A : Type 0} (test : A → Bool) (xs : List A) → AllByRecursion (λ x. test x ≡ false) xs → filter test xs ≡ []
+  none_kept test [] h = refl
+  none_kept test (x ∷ xs) h = rw h.0 (none_kept test xs h.1)
 
   abbrev name_if : Option Routine → List Text
   name_if None = []
@@ -268,7 +221,7 @@ module _ (P : Program) (G : Scope) (typed : IsTyped P G) where
   routine_roots n None = refl
   routine_roots n (Some r) =
       let S = source_of (globals_in P.decls) n r in
-      ap (λ (ps : List CoreProc). r.head.name ∷ names ps) (each_loop_no_roots S (suc S.number) (kinds S))
+      ap (λ (ps : List CoreProc). r.head.name ∷ names ps) (none_kept (λ p. is_none p.parent) _ (each_loop_has P (number_from P 0 P.decls) S (λ p. is_none p.parent ≡ false) (λ k guard invs returns turn. refl) (suc S.number) (kinds S)))
 
   all_root_names : (ds : List Decl) (n : ℕ) → names (roots (procs_from P n ds)) ≡ root_names ds
   all_root_names [] n = refl
@@ -281,16 +234,13 @@ module _ (P : Program) (G : Scope) (typed : IsTyped P G) where
 
   absent_names : (ds : List Decl) (x : Text) → named (procedure_entries ds) x ≡ None → AllByRecursion (λ y. same_text x y ≡ false) (root_names ds)
   absent_names [] x h = tt
-  absent_names (Procedure p ∷ ds) x h = go (same_text x p.head.name) refl h (absent_names ds x)
+  absent_names (Procedure p ∷ ds) x h =
+      let n = none_later (same_text x p.head.name) _ _ h in
+      all-append (λ y. same_text x y ≡ false) (name_if (routine_named P p.head.name)) (root_names ds) (mine n.0 (routine_named P p.head.name) refl) (absent_names ds x n.1)
     where
       mine : same_text x p.head.name ≡ false → (o : Option Routine) → routine_named P p.head.name ≡ o → AllByRecursion (λ y. same_text x y ≡ false) (name_if o)
       mine t None e = tt
       mine t (Some r) e = (ap (same_text x) (sym (routine_fine P G typed p.head.name r e).name) ∙ t, tt)
-
-      go : (b : Bool) → same_text x p.head.name ≡ b → cond b (Some (callee_of p)) (named (procedure_entries ds) x) ≡ None → (named (procedure_entries ds) x ≡ None → AllByRecursion (λ y. same_text x y ≡ false) (root_names ds)) → AllByRecursion (λ y. same_text x y ≡ false) (name_if (routine_named P p.head.name) ++ root_names ds)
-      go true t k rec = absurd (cc)
-      go false t k rec =
-          all-append (λ y. same_text x y ≡ false) (name_if (routine_named P p.head.name)) (root_names ds) (mine t (routine_named P p.head.name) refl) (rec k)
   absent_names (_ ∷ ds) x h = absent_names ds x h
 
   names_once : (ds : List Decl) → OnceEach (procedure_entries ds) → IsDistinct same_text (root_names ds)

@@ -2,15 +2,9 @@
 use Rattle.std.proofs.Common.{◌≡◌, ◌≢◌, ℕ, suc, ◌+◌, ◌≤◌, ◌<◌, List, [], ◌∷◌, ◌++◌, map, length, Some, refl, sym, ◌∙◌, subst, arith}
 use Rattle.std.specs.Prelude.{slice_get, Contains}
 use Rattle.std.specs.List.{AllByRecursion}
-use Rattle.sd_base.specs.declared.Sort.{Sort}
-use Rattle.sd_base.proofs.Lists.{contains-tail, slice_get-append_right}
-use Rattle.sd_core.specs.declared.Spot.{Spot}
-use Rattle.sd_core.specs.declared.Spot.TheVariants.{Slot, Global}
-use Rattle.sd_core.specs.declared.CoreExpr.{At}
-use Rattle.sd_core.specs.declared.Function.{Function}
-use Rattle.sd_core.specs.Store.{Store}
-use Rattle.sd_core.specs.Run.{slots_from}
-use Rattle.sd_core.specs.Formed.{AllHaveTypes, AreSpotsOf, AreApart, Within, AreTargets}
+use Rattle.sd_extract.proofs.SourceWords.{Sort}
+use Rattle.sd_extract.proofs.CoreWords.{Spot, Slot, Global, At, Function, Store, slots_from, AllHaveTypes, AreSpotsOf, AreApart, Within, AreTargets}
+use Rattle.sd_base.proofs.Lists.{all-push, all-weaker, contains-tail, slice_get-append_right}
 
 -- ---- slots
 
@@ -87,11 +81,7 @@ slots_before l k (x ∷ xs) h = ((λ e. let f = slot_is k l e in absurd (omega (
 
 pub apart_last : (ps : List Spot) (q : Spot) → AreApart ps → AllByRecursion (λ p. p ≢ q) ps → AreApart (ps ++ (q ∷ []))
 apart_last [] q h k = (tt, tt)
-apart_last (p ∷ ps) q h k = (last ps h.0, apart_last ps q h.1 k.1)
-  where
-    last : (qs : List Spot) → AllByRecursion (λ r. p ≢ r) qs → AllByRecursion (λ r. p ≢ r) (qs ++ (q ∷ []))
-    last [] a = (k.0, tt)
-    last (r ∷ qs) a = (a.0, last qs a.1)
+apart_last (p ∷ ps) q h k = (all-push (λ r. p ≢ r) ps q h.0 k.0, apart_last ps q h.1 k.1)
 
 -- ---- within what may be written
 
@@ -114,8 +104,4 @@ slots_targets S ms k xs ss e h =
 
 pub contains_all : {A : Type 0} (xs : List A) → AllByRecursion (Contains xs) xs
 contains_all [] = tt
-contains_all (x ∷ xs) = ((0, omega arith, refl), weaker xs xs (λ y h. contains-tail x xs y h) (contains_all xs))
-  where
-    weaker : (ys zs : List _) → ((y : _) → Contains ys y → Contains (x ∷ ys) y) → AllByRecursion (Contains ys) zs → AllByRecursion (Contains (x ∷ ys)) zs
-    weaker ys [] f h = tt
-    weaker ys (z ∷ zs) f h = (f z h.0, weaker ys zs f h.1)
+contains_all (x ∷ xs) = ((0, omega arith, refl), all-weaker (Contains xs) (Contains (x ∷ xs)) (λ y h. contains-tail x xs y h) xs (contains_all xs))

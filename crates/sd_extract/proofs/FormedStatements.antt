@@ -1,48 +1,24 @@
 -- Statements become well formed statements of the core.
-use Rattle.std.proofs.Common.{◌≡◌, ◌≢◌, ℕ, suc, ◌+◌, ◌≤◌, List, [], ◌∷◌, ◌++◌, map, length, Option, Some, Ok, refl, sym, ◌∙◌, ap, subst, arith}
+use Rattle.std.proofs.Common.{◌≡◌, ◌≢◌, ℕ, suc, ◌+◌, ◌≤◌, List, [], ◌∷◌, ◌++◌, map, length, Option, Some, Ok, refl, sym, ◌∙◌, ap, subst, arith, length-append}
 use Rattle.std.specs.Prelude.{Bool, true, false, slice_get, Contains, unwrap_or, if◌then◌else◌}
 use Rattle.std.specs.List.{AllByRecursion, IsDistinct}
 use Rattle.std.specs.Cmp.Lexicographic.{bytes_decides}
-use Rattle.std.proofs.Common.{length-append}
-use Rattle.sd_base.specs.declared.Sort.{Sort, Bool as BoolSort}
-use Rattle.sd_base.specs.Value.{Text, same_text}
-use Rattle.sd_base.specs.Sorts.{MapOf}
-use Rattle.sd_ast.specs.declared.Program.{Program}
-use Rattle.sd_ast.specs.declared.Proc.{Proc}
-use Rattle.sd_ast.specs.declared.Expr.{Expr}
-use Rattle.sd_ast.specs.declared.Left.{Left}
-use Rattle.sd_ast.specs.declared.StmtKind.{StmtKind, Assert, Assume, Assign, Call, If', While', Break, Return, Row_of-Stmt, end_of-Stmt, more_of-Stmt}
-use Rattle.sd_meaning.specs.Routine.{Clause, procedure_in, routine_named, requires_of}
-use Rattle.sd_meaning.specs.Routine.{Routine as SourceRoutine}
-use Rattle.sd_meaning.specs.Inputs.{globals_in}
-use Rattle.sd_types.specs.declared.scope.Variable.{Variable}
-use Rattle.sd_types.specs.declared.scope.Callee.{Callee}
-use Rattle.sd_types.specs.declared.scope.Scope.{Scope}
+use Rattle.sd_extract.proofs.SourceWords.{Sort, BoolSort, Text, same_text, MapOf, Program, Proc, Expr, Left, StmtKind, Assert, Assume, Assign, Call, If', While', Break, Return, Row_of-Stmt, end_of-Stmt, more_of-Stmt, Clause, procedure_in}
+use Rattle.sd_extract.proofs.SourceWords.{routine_named, requires_of, SourceRoutine, globals_in, Variable, Callee, Scope, and_then, named, Context, context, assigned_as, assignable, modified_rule, has_body, left_names, parameters, HasType}
+use Rattle.sd_extract.proofs.SourceWords.{AllHave, Calls, IsTypedStmt, AreTypedStmts}
+use Rattle.sd_extract.proofs.CoreWords.{Spot, Slot, CoreExpr, At, CoreStmt, If, Row_of-CoreStmt, end_of-CoreStmt, more_of-CoreStmt, items-the_row-CoreStmt, items_hidden-the_row-CoreStmt-0, hidden-the_row-CoreStmt-0, CoreProc, CoreProgram}
+use Rattle.sd_extract.proofs.CoreWords.{Store, slots_from, sorts_of, state_sorts, sort_at, IsSort, AllHaveTypes, AreSpotsOf, AreApart, Within, AreTargets, IsFormed, AllFormed, HasCoreType, Names, place_of, at_place, negated, both, core_of}
+use Rattle.sd_extract.proofs.CoreWords.{Counts, plus, counts, counts_all, counts_each, has_return, has_returns, Frame, put, checked, check, assume, spot_of, stored, cores, all_stored, on_args, call_of, loop_call, leave_if, extracted}
+use Rattle.sd_extract.proofs.CoreWords.{all_extracted, each_extracted, ins_of, source_of, has_return_among}
 use Rattle.sd_types.specs.declared.scope.Site.TheVariants as site
-use Rattle.sd_types.specs.Answer.{and_then}
-use Rattle.sd_types.specs.Tables.{named}
-use Rattle.sd_types.specs.Scopes.{Context, context}
 use Rattle.sd_types.specs.Scopes.{declared_as as declared_in}
-use Rattle.sd_types.specs.Statements.{Routine, assigned_as, assignable, modified_rule, has_body, left_names}
-use Rattle.sd_types.specs.Declarations.{parameters}
-use Rattle.sd_types.specs.Typing.{HasType}
-use Rattle.sd_types.specs.TypedBodies.{AllHave, IsVariableOf, AreVariablesOf, Leads, Assigns, Calls, IsTypedStmt, AreTypedStmts}
-use Rattle.sd_core.specs.declared.Spot.{Spot}
-use Rattle.sd_core.specs.declared.Spot.TheVariants.{Slot}
+use Rattle.sd_types.specs.Statements.{Routine}
+use Rattle.sd_types.specs.TypedBodies.{IsVariableOf, AreVariablesOf, Leads, Assigns}
 use Rattle.sd_core.specs.declared.CoreOp.TheVariants as op
-use Rattle.sd_core.specs.declared.CoreExpr.{CoreExpr, At}
-use Rattle.sd_core.specs.declared.CoreStmt.{CoreStmt, If, Row_of-CoreStmt, end_of-CoreStmt, more_of-CoreStmt, items-the_row-CoreStmt, items_hidden-the_row-CoreStmt-0}
 use Rattle.sd_core.specs.declared.CoreStmt as core
-use Rattle.sd_core.specs.declared.CoreStmt.TheBlock.{hidden-the_row-CoreStmt-0}
-use Rattle.sd_core.specs.declared.CoreProc.{CoreProc}
-use Rattle.sd_core.specs.declared.CoreProgram.{CoreProgram}
-use Rattle.sd_core.specs.Store.{Store}
-use Rattle.sd_core.specs.Run.{slots_from}
-use Rattle.sd_core.specs.Formed.{sorts_of, state_sorts, sort_at, IsSort, AllHaveTypes, AreSpotsOf, AreApart, Within, AreTargets, IsCall, IsFormed, AreFormed, AllFormed}
-use Rattle.sd_core.specs.Formed.{HasType as HasCoreType}
-use Rattle.sd_extract.specs.Names.{Names, place_of, at_place, negated, both, core_of}
-use Rattle.sd_extract.specs.Extract.{Counts, plus, counts, counts_all, counts_each, has_return, has_returns, Frame, put, checked, check, assume, spot_of, stored, cores, all_stored, on_args, call_of, loop_call, leave_if, extracted, all_extracted, each_extracted, ins_of, source_of}
-use Rattle.sd_extract.specs.Counted.{has_return_among}
+use Rattle.sd_core.specs.Formed.{IsCall, AreFormed}
+use Rattle.sd_base.proofs.Lists.{all-append}
+use Rattle.sd_extract.proofs.CodeLists.{all_map}
 use Rattle.sd_extract.proofs.FormedExpressions.{Sees, core_typed, list_cores_typed, negated_typed, read_typed, write_typed}
 use Rattle.sd_extract.proofs.FormedChecks.{AreAssignable, IsCallable, IsChecked, AreChecked, EachChecked, EachTyped}
 use Rattle.sd_extract.proofs.FormedSpots.{Holds, holds_left, holds_right, spots_append, spots_typed, slots_targets, apart_last, within_append, within_cons, contains_all}
@@ -66,10 +42,6 @@ module _ (K : CoreProgram) (p : CoreProc) where
   pub if_formed : (c : CoreExpr) (xs ys : List CoreStmt) → HasCoreType K.functions S c BoolSort → AllFormed K p xs → AllFormed K p ys → IsFormed K p (If c xs ys)
   if_formed c xs ys h a b = (h, list_formed xs a, list_formed ys b)
 
-  pub formed_append : (xs ys : List CoreStmt) → AllFormed K p xs → AllFormed K p ys → AllFormed K p (xs ++ ys)
-  formed_append [] ys h k = k
-  formed_append (x ∷ xs) ys h k = (h.0, formed_append xs ys h.1 k)
-
   pub put_formed : (ps : List Spot) (es : List CoreExpr) (ss : List Sort) → AllHaveTypes K.functions S es ss → AreTargets S p.modifies ps ss → AllFormed K p (put ps es)
   put_formed [] es ss h k = tt
   put_formed (q ∷ ps) es ss h k = ((ss, h, k), tt)
@@ -80,14 +52,10 @@ module _ (K : CoreProgram) (p : CoreProc) where
 
   -- clauses that are truth values where they stand
   pub checks_formed : (C : Context) (N : Names) → Sees K.functions S C N → (cs : List Clause) → AllByRecursion (λ c. HasType C c.holds.kind BoolSort) cs → AllFormed K p (map (check N) cs)
-  checks_formed C N k [] h = tt
-  checks_formed C N k (c ∷ cs) h =
-      (checked_formed c.free (core_of N c.holds.kind) (core_typed K.functions S C N k c.holds.kind BoolSort h.0), checks_formed C N k cs h.1)
+  checks_formed C N k = all_map (λ c. HasType C c.holds.kind BoolSort) (IsFormed K p) (check N) (λ c h. checked_formed c.free (core_of N c.holds.kind) (core_typed K.functions S C N k c.holds.kind BoolSort h))
 
   pub assumes_formed : (C : Context) (N : Names) → Sees K.functions S C N → (cs : List Clause) → AllByRecursion (λ c. HasType C c.holds.kind BoolSort) cs → AllFormed K p (map (assume N) cs)
-  assumes_formed C N k [] h = tt
-  assumes_formed C N k (c ∷ cs) h =
-      (core_typed K.functions S C N k c.holds.kind BoolSort h.0, assumes_formed C N k cs h.1)
+  assumes_formed C N k = all_map (λ c. HasType C c.holds.kind BoolSort) (IsFormed K p) (assume N) (λ c h. core_typed K.functions S C N k c.holds.kind BoolSort h)
 
 -- ---- what a frame has
 
@@ -351,7 +319,7 @@ module _ (P : Program) (number : Text → ℕ) (K : CoreProgram) (p : CoreProc) 
         outs = subst (AreTargets T ms (map (spot_of N) xs)) (sym k.proc_outs) (receivers xs q.outs h.2 c.receivers);
         modifies = k.modifies;
       } in
-      subst (λ (o : Option Proc). AllFormed K p (call_of N number spots xs f es o)) (sym k.is_declared) (formed_append K p (put spots (cores N es)) (map (check (on_args N d spots)) (requires_of d.specs) ++ (core.Call (map (spot_of N) xs) (number f) (map (λ q. At q) spots) ∷ [])) stored_args (formed_append K p (map (check (on_args N d spots)) (requires_of d.specs)) (core.Call (map (spot_of N) xs) (number f) (map (λ q. At q) spots) ∷ []) checks (call, tt)))
+      subst (λ (o : Option Proc). AllFormed K p (call_of N number spots xs f es o)) (sym k.is_declared) (all-append (IsFormed K p) (put spots (cores N es)) (map (check (on_args N d spots)) (requires_of d.specs) ++ (core.Call (map (spot_of N) xs) (number f) (map (λ q. At q) spots) ∷ [])) stored_args (all-append (IsFormed K p) (map (check (on_args N d spots)) (requires_of d.specs)) (core.Call (map (spot_of N) xs) (number f) (map (λ q. At q) spots) ∷ []) checks (call, tt)))
 
   -- ---- loops
 
@@ -377,13 +345,9 @@ module _ (P : Program) (number : Text → ℕ) (K : CoreProgram) (p : CoreProc) 
     within = within_append ms F.state [] fits.state_at.within tt;
   }
     where
-      all_more : (q : Spot) (ps : List Spot) → AllByRecursion (λ r. q ≢ r) ps → AllByRecursion (λ r. q ≢ r) (ps ++ [])
-      all_more q [] a = tt
-      all_more q (r ∷ ps) a = (a.0, all_more q ps a.1)
-
       no_more : (ps : List Spot) → AreApart ps → AreApart (ps ++ [])
       no_more [] a = tt
-      no_more (q ∷ ps) a = (all_more q ps a.0, no_more ps a.1)
+      no_more (q ∷ ps) a = (all-append (λ r. q ≢ r) ps [] a.0 tt, no_more ps a.1)
 
   leave_formed : (returns : Bool) (l : ℕ) → (returns ≡ true → AllFormed K p F.leave) → Holds T.slots l (left_sort_if returns) → AllFormed K p (leave_if (if returns then Slot l ∷ [] else []) F.leave)
   leave_formed true l leave slots_at = (if_formed K p (At (Slot l)) F.leave [] slots_at.0 (leave refl) tt, tt)
@@ -428,9 +392,9 @@ module _ (P : Program) (number : Text → ℕ) (K : CoreProgram) (p : CoreProc) 
     pub stmts_formed : (b : Bool) (at : Counts) {m : _} (ks : Row_of-Stmt m) → AreTypedStmts R b ks → AreChecked R ks → (has_returns ks ≡ true → AllFormed K p F.leave) → HiddenAt T.slots first at (all_arg_sorts P ks) (all_left_sorts ks) → AllLoopsAt (LoopHas K ms ins state copies) at.loops ks → AllFormed K p (all_extracted P number F at ks)
     stmts_formed b at end_of-Stmt h c leave hide loops = tt
     stmts_formed b at (more_of-Stmt q k ks) h c leave hide loops =
-        formed_append K p (extracted P number F at k) (all_extracted P number F (plus at (counts k)) ks) (stmt_formed b at k h.0 c.0 (λ r. leave (or_left (has_return k) (has_returns ks) r)) (hidden_here T.slots first at (arg_sorts P k) (all_arg_sorts P ks) (left_sorts k) (all_left_sorts ks) hide) loops.0) (stmts_formed b (plus at (counts k)) ks h.1 c.1 (λ r. leave (or_right (has_return k) (has_returns ks) r)) (hidden_next T.slots first at (counts k) (arg_sorts P k) (all_arg_sorts P ks) (left_sorts k) (all_left_sorts ks) (args_counted b k h.0 c.0) (lefts_counted k) hide) loops.1)
+        all-append (IsFormed K p) (extracted P number F at k) (all_extracted P number F (plus at (counts k)) ks) (stmt_formed b at k h.0 c.0 (λ r. leave (or_left (has_return k) (has_returns ks) r)) (hidden_here T.slots first at (arg_sorts P k) (all_arg_sorts P ks) (left_sorts k) (all_left_sorts ks) hide) loops.0) (stmts_formed b (plus at (counts k)) ks h.1 c.1 (λ r. leave (or_right (has_return k) (has_returns ks) r)) (hidden_next T.slots first at (counts k) (arg_sorts P k) (all_arg_sorts P ks) (left_sorts k) (all_left_sorts ks) (args_counted b k h.0 c.0) (lefts_counted k) hide) loops.1)
 
   pub each_formed : (b : Bool) (at : Counts) (ks : List StmtKind) → EachTyped R b ks → EachChecked R ks → (has_return_among ks ≡ true → AllFormed K p F.leave) → HiddenAt T.slots first at (each_arg_sorts P ks) (each_left_sorts ks) → EachLoopsAt (LoopHas K ms ins state copies) at.loops ks → AllFormed K p (each_extracted P number F at ks)
   each_formed b at [] h c leave hide loops = tt
   each_formed b at (k ∷ ks) h c leave hide loops =
-      formed_append K p (extracted P number F at k) (each_extracted P number F (plus at (counts k)) ks) (stmt_formed b at k h.0 c.0 (λ r. leave (or_left (has_return k) (has_return_among ks) r)) (hidden_here T.slots first at (arg_sorts P k) (each_arg_sorts P ks) (left_sorts k) (each_left_sorts ks) hide) loops.0) (each_formed b (plus at (counts k)) ks h.1 c.1 (λ r. leave (or_right (has_return k) (has_return_among ks) r)) (hidden_next T.slots first at (counts k) (arg_sorts P k) (each_arg_sorts P ks) (left_sorts k) (each_left_sorts ks) (args_counted b k h.0 c.0) (lefts_counted k) hide) loops.1)
+      all-append (IsFormed K p) (extracted P number F at k) (each_extracted P number F (plus at (counts k)) ks) (stmt_formed b at k h.0 c.0 (λ r. leave (or_left (has_return k) (has_return_among ks) r)) (hidden_here T.slots first at (arg_sorts P k) (each_arg_sorts P ks) (left_sorts k) (each_left_sorts ks) hide) loops.0) (each_formed b (plus at (counts k)) ks h.1 c.1 (λ r. leave (or_right (has_return k) (has_return_among ks) r)) (hidden_next T.slots first at (counts k) (arg_sorts P k) (each_arg_sorts P ks) (left_sorts k) (each_left_sorts ks) (args_counted b k h.0 c.0) (lefts_counted k) hide) loops.1)

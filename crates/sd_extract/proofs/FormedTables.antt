@@ -1,28 +1,17 @@
 -- What a well-typed text declares: each name once, and found by every table.
-use Rattle.std.proofs.Common.{◌≡◌, List, [], ◌∷◌, ◌++◌, map, Option, Some, None, Ok, Err, is_some, refl, sym, ◌∙◌, ap, subst}
+use Rattle.std.proofs.Common.{◌≡◌, List, [], ◌∷◌, ◌++◌, map, Option, Some, None, Ok, Err, is_some, refl, sym, ◌∙◌, ap, subst, append_assoc}
 use Rattle.std.specs.Prelude.{Bool, true, false, cond, ◌||◌, Result, if◌then◌else◌}
 use Rattle.std.specs.List.{AllByRecursion, IsDistinct}
-use Rattle.std.proofs.Common.{append_assoc}
 use Rattle.std.proofs.lemmas.List.{append-nil, map-append}
-use Rattle.sd_base.specs.declared.Var.{Var}
-use Rattle.sd_base.specs.Value.{Text, same_text}
-use Rattle.sd_ast.specs.declared.Decl.{Decl}
-use Rattle.sd_ast.specs.declared.Decl.TheVariants.{Types, Const, Function, Axiom, Globals, Procedure, Implementation}
-use Rattle.sd_ast.specs.declared.Body.{Body}
-use Rattle.sd_ast.specs.declared.Head.{Head}
-use Rattle.sd_types.specs.declared.refusal.TypeError.{TypeError}
-use Rattle.sd_types.specs.declared.refusal.TypeError.TheVariants.{Twice}
-use Rattle.sd_types.specs.declared.scope.Variable.{Variable}
-use Rattle.sd_types.specs.declared.scope.Signature.{Signature}
-use Rattle.sd_types.specs.declared.scope.Callee.{Callee}
-use Rattle.sd_types.specs.declared.scope.Scope.{Scope}
+use Rattle.sd_extract.proofs.SourceWords.{Var, Text, same_text, Decl, Const, Function, Axiom, Globals, Procedure, Implementation, Body, Head, TypeError, Twice, Variable, Signature, Callee, Scope, is_among, and_then, named, with_name}
+use Rattle.sd_extract.proofs.SourceWords.{with_names, variables_as, constants_of, callee_of, locals_of, own_names}
+use Rattle.sd_ast.specs.declared.Decl.TheVariants.{Types}
 use Rattle.sd_types.specs.declared.scope.Nature.TheVariants as nature
-use Rattle.sd_types.specs.Names.{is_among}
-use Rattle.sd_types.specs.Answer.{and_then}
-use Rattle.sd_types.specs.Tables.{named, with_name, with_names, with_entry, with_entries}
-use Rattle.sd_types.specs.Declarations.{variables_as, constants_of, callee_of, locals_of, own_names, with_body, enter_procedure, enter_implementation, enter, enter_all}
+use Rattle.sd_types.specs.Tables.{with_entry, with_entries}
+use Rattle.sd_types.specs.Declarations.{with_body, enter_procedure, enter_implementation, enter, enter_all}
 use Rattle.sd_types.proofs.TypingLemmas.{parts, ok_is}
 use Rattle.sd_extract.proofs.FormedChecks.{distinct_new}
+use Rattle.sd_extract.proofs.Searches.{none_later}
 
 -- ---- tables
 
@@ -34,13 +23,18 @@ abbrev pub OnceEach : {X : Type 0} → List (Text × X) → Type 0
 OnceEach [] = Unit {0}
 OnceEach (e ∷ es) = (named es e.0 ≡ None) × OnceEach es
 
+-- a name that is in neither of two tables
+pub none_append : {X : Type 0} (es fs : List (Text × X)) (x : Text) → named (es ++ fs) x ≡ None → (named es x ≡ None) × (named fs x ≡ None)
+none_append [] fs x h = (refl, h)
+none_append (e ∷ es) fs x h = let n = none_later (same_text x e.0) _ _ h in let r = none_append es fs x n.1 in (rw n.0 r.0, r.1)
+
+pub once_append : {X : Type 0} (es fs : List (Text × X)) → OnceEach (es ++ fs) → OnceEach fs
+once_append [] fs h = h
+once_append (e ∷ es) fs h = once_append es fs h.1
+
 named_among : {X : Type 0} (es : List (Text × X)) (x : Text) → is_some (named es x) ≡ is_among (keys es) x
 named_among [] x = refl
-named_among (e ∷ es) x = go (same_text x e.0) (named_among es x)
-  where
-    go : (b : Bool) → is_some (named es x) ≡ is_among (keys es) x → is_some (cond b (Some e.1) (named es x)) ≡ (b || is_among (keys es) x)
-    go true h = refl
-    go false h = h
+named_among (e ∷ es) x = elim (same_text x e.0) as (λ b. is_some (cond b (Some e.1) (named es x)) ≡ (b || is_among (keys es) x)) [ true ↦ refl | false ↦ named_among es x ]
 
 entry_new : {X : Type 0} (es : List (Text × X)) (x : Text) (v : X) (all : List (Text × X)) → with_entry es x v ≡ Ok all → (is_some (named es x) ≡ false) × (es ++ ((x, v) ∷ []) ≡ all)
 entry_new es x v all = go (is_some (named es x)) refl

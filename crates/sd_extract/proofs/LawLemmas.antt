@@ -1,19 +1,10 @@
 -- What extraction keeps of a well-typed program.
 use Rattle.std.proofs.Common.{◌≡◌, List, [], ◌∷◌, map, Some, option_map, refl, sym, ap, ◌∙◌}
 use Rattle.std.proofs.lemmas.List.{length-map}
-use Rattle.sd_base.specs.Value.{Text}
-use Rattle.sd_base.specs.Meaning.{interpretation, truth_of}
-use Rattle.sd_ast.specs.declared.Expr.{Expr}
-use Rattle.sd_ast.specs.declared.Program.{Program}
-use Rattle.sd_meaning.specs.Evaluate.{value}
-use Rattle.sd_meaning.specs.Routine.{Routine, routine_named}
-use Rattle.sd_meaning.specs.Inputs.{globals_in, nowhere}
-use Rattle.sd_types.specs.Declarations.{WellTyped}
-use Rattle.sd_core.specs.Run.{is_true, nowhere as no_store}
-use Rattle.sd_extract.specs.Extract.{Source, source_of, body_proc}
-use Rattle.sd_extract.specs.Programs.{core_axiom, no_names, axioms_in}
-use Rattle.sd_extract.specs.Law.{ExtractedRuns}
-use Rattle.sd_extract.specs.Laws.{number_of, RunsAreKept, ProceduresAreKept, AxiomsAreKept}
+use Rattle.sd_extract.proofs.SourceWords.{Text, interpretation, truth_of, Expr, Program, value, Routine, routine_named, globals_in, nowhere, WellTyped}
+use Rattle.sd_extract.proofs.CoreWords.{is_true, Source, source_of, body_proc, core_axiom, no_names, axioms_in, number_of, RunsAreKept, ProceduresAreKept, AxiomsAreKept}
+use Rattle.sd_core.specs.Run.{nowhere as no_store}
+use Rattle.sd_extract.specs.Laws.{ExtractedRuns}
 use Rattle.sd_extract.proofs.Expressions.{value_kept}
 use Rattle.sd_extract.proofs.Exact.{exact}
 use Rattle.sd_extract.proofs.Programs.{program_runs, body_at}

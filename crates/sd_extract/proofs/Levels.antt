@@ -1,27 +1,14 @@
 -- At every bound the core procedures do what the source procedures do.
-use Rattle.std.proofs.Common.{◌≡◌, ℕ, zero, suc, ◌+◌, List, [], ◌∷◌, ◌++◌, Option, Some, None, refl, sym, ◌∙◌, ap, subst, get_or, length, arith}
+use Rattle.std.proofs.Common.{◌≡◌, ℕ, zero, suc, ◌+◌, List, [], ◌∷◌, ◌++◌, Option, Some, None, refl, sym, ◌∙◌, ap, subst, get_or, length, arith, append_assoc, length-append}
 use Rattle.std.specs.Prelude.{Bool, true, slice_get, codes}
-use Rattle.std.proofs.Common.{append_assoc, length-append}
 use Rattle.std.proofs.Math.Seq.{get_or-append_seam}
 use Rattle.std.proofs.lemmas.List.{length-map, map-append}
-use Rattle.sd_base.specs.declared.Var.{Var}
-use Rattle.sd_base.specs.Value.{Text, Value}
-use Rattle.sd_ast.specs.declared.Program.{Program}
-use Rattle.sd_ast.specs.declared.Proc.{Proc}
-use Rattle.sd_ast.specs.declared.Expr.{Expr}
-use Rattle.sd_ast.specs.declared.Invariant.{Invariant}
-use Rattle.sd_ast.specs.declared.StmtKind.{StmtKind, While', Row_of-Stmt}
-use Rattle.sd_base.specs.Meaning.{Interpretation}
-use Rattle.sd_meaning.specs.Evaluate.{State}
-use Rattle.sd_meaning.specs.Routine.{Routine, clauses_of, requires_of, ensures_of, procedure_in, routine_named}
-use Rattle.sd_ast.specs.Tree.{names_of}
-use Rattle.sd_meaning.specs.Run.{Outcome, Verdict, verdict, named, before, if_assumed, each, kinds_in, body_run, entered, outcome_of, reach, Level, step, level_by, level, root_run}
-use Rattle.sd_core.specs.declared.CoreStmt.{CoreStmt}
-use Rattle.sd_core.specs.declared.CoreProc.{CoreProc}
-use Rattle.sd_core.specs.Store.{Store}
-use Rattle.sd_core.specs.Run.{nothing, Calls, run_all, slots_from, enter, out_spots, end_of, run_number, calls_within, flag_run}
-use Rattle.sd_extract.specs.Names.{Names}
-use Rattle.sd_extract.specs.Extract.{Counts, has_returns, Frame, Source, state_of, copies_of, frame_at, kinds, leave, body_frame, contract, hidden, none, body_copies, body_start, body_proc, loop_state, left_slot, left_of, loop_frame, loop_start, loop_proc, each_extracted}
+use Rattle.sd_extract.proofs.SourceWords.{Var, Text, Value, Program, Proc, Expr, Invariant, StmtKind, While', Row_of-Stmt, Interpretation, State, Routine, clauses_of, requires_of, ensures_of, procedure_in, routine_named, names_of, Outcome}
+use Rattle.sd_extract.proofs.SourceWords.{Verdict, verdict, before, if_assumed, each, kinds_in, entered, outcome_of, reach, Level, step, level_by}
+use Rattle.sd_extract.proofs.CoreWords.{CoreStmt, CoreProc, Store, nothing, Calls, run_all, slots_from, enter, out_spots, end_of, flag_run, Names, Counts, has_returns, Frame, Source, state_of, copies_of, frame_at, kinds, leave, body_frame}
+use Rattle.sd_extract.proofs.CoreWords.{contract, hidden, none, body_copies, body_start, body_proc, loop_state, left_slot, left_of, loop_frame, loop_start, loop_proc, each_extracted}
+use Rattle.sd_meaning.specs.Run.{named, body_run, level, root_run}
+use Rattle.sd_core.specs.Run.{run_number, calls_within}
 use Rattle.sd_extract.proofs.Expressions.{at_all}
 use Rattle.sd_extract.proofs.Writes.{IsLaidOut}
 use Rattle.sd_extract.proofs.Agree.{Room, TiedIn, Agrees, Leaves, EachReady, StmtAgrees, each_agrees}

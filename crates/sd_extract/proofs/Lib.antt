@@ -1,3 +1,7 @@
+pub mod SourceWords
+pub mod CoreWords
+pub mod Searches
+pub mod Parts
 pub mod Expressions
 pub mod Writes
 pub mod Statements
@@ -40,14 +44,10 @@ pub mod CodeNames
 pub mod CodeExpressions
 pub mod CodeLists
 pub mod CodeCounts
-pub mod CodeAssignments
 pub mod CodeStatements
 pub mod CodeHidden
 pub mod CodeSources
 pub mod CodeLoops
-pub mod CodeProcedures
-pub mod CodePlaces
 pub mod CodeNumbers
 pub mod CodeModified
 pub mod CodePrograms
-pub mod PlaceLemmas

@@ -2,24 +2,13 @@
 use Rattle.std.proofs.Common.{◌≡◌, ℕ, List, [], ◌∷◌, ◌++◌, Option, Some, refl, sym, ◌∙◌, ap, subst, get_or, length, arith}
 use Rattle.std.specs.Prelude.{Bool, true, false, map, set, if◌then◌else◌}
 use Rattle.std.proofs.lemmas.List.{map-append, get_or-set_other}
-use Rattle.sd_base.specs.Value.{Value, Truth}
-use Rattle.sd_ast.specs.declared.Expr.{Expr}
-use Rattle.sd_ast.specs.declared.StmtKind.{StmtKind}
-use Rattle.sd_base.specs.Meaning.{Interpretation}
-use Rattle.sd_meaning.specs.Evaluate.{State, value}
-use Rattle.sd_base.specs.Meaning.{truth_of}
-use Rattle.sd_meaning.specs.Routine.{Clause}
-use Rattle.sd_ast.specs.Tree.{names_of}
-use Rattle.sd_meaning.specs.Run.{Flow, Next, Breaks, Returns, Failed, Blocked, Unfinished, Verdict, Holds, Fails, Blocks as FreeFails, verdict, if_holds, each, after_turn, Level, reach, step, level_by}
-use Rattle.sd_core.specs.declared.Spot.{Spot}
-use Rattle.sd_core.specs.declared.CoreExpr.{At}
-use Rattle.sd_core.specs.declared.CoreExpr.{Truth as Literal}
+use Rattle.sd_extract.proofs.SourceWords.{Value, Truth, Expr, StmtKind, Interpretation, State, value, truth_of, Clause, names_of, Flow, Next, Breaks, Returns, Failed, Blocked, Unfinished, Verdict, Holds, Fails, FreeFails, verdict, if_holds}
+use Rattle.sd_extract.proofs.SourceWords.{each, Level, reach, step, level_by}
+use Rattle.sd_extract.proofs.CoreWords.{Spot, At, Literal, CoreProc, Store, read, write, write_all, set_all, nothing, value_in, CoreEnded, Step, Goes, Calls, then_run, run, run_all, slots_from, enter, outs_of, out_spots, end_of, core_of}
+use Rattle.sd_extract.proofs.CoreWords.{Frame, put, check, loop_call, Source, state_of, body_copies, loop_state, left_slot, left_of, loop_frame, loop_start, turn_of, each_extracted}
+use Rattle.sd_meaning.specs.Run.{after_turn}
 use Rattle.sd_core.specs.declared.CoreStmt as core
-use Rattle.sd_core.specs.declared.CoreProc.{CoreProc}
-use Rattle.sd_core.specs.Store.{Store, read, write, write_all, set_all}
-use Rattle.sd_core.specs.Run.{nothing, value_in, Ended as CoreEnded, Step, Goes, Calls, then_run, run, run_all, slots_from, enter, outs_of, out_spots, end_of}
-use Rattle.sd_extract.specs.Names.{core_of}
-use Rattle.sd_extract.specs.Extract.{Frame, put, check, loop_call, Source, state_of, body_copies, loop_state, left_slot, left_of, loop_frame, loop_start, turn_of, loop_body, each_extracted}
+use Rattle.sd_extract.specs.Extract.{loop_body}
 use Rattle.sd_extract.proofs.Expressions.{at_all, value_kept}
 use Rattle.sd_extract.proofs.Writes.{HasShape, read-write_same}
 use Rattle.sd_extract.proofs.Statements.{run-one, run-append, run-If, run-put, run-clauses, after_verdict}
@@ -77,11 +66,7 @@ module _ (S : Source) (I : Interpretation) (p : CoreProc) (returns : Bool) (size
 
   module _ (G : HasGlobals (names_of S.globals) R H.names) (far : Spaced S R H left) (outs : out_spots p ≡ H.state ++ left) (ins_long : length ins ≡ length S.routine.head.ins) (copies_long : length copies ≡ length S.copied) where
     left_long : (b : Bool) → length left ≡ length (left_values returns b)
-    left_long b = go returns
-      where
-        go : (r : Bool) → length (left_of S r) ≡ length (left_values r b)
-        go true = refl
-        go false = refl
+    left_long b = elim returns as (λ r. length (left_of S r) ≡ length (left_values r b)) [ true ↦ refl | false ↦ refl ]
 
     -- a run of the loop's procedure that is over with these
     over : (b : Bool) (s : State) (st : Store Value) → TiedIn R H s st → at_all st left ≡ left_values returns b → (state : List Value) × (later : List Value) × (CoreEnded (outs_of p st) st.globals false ≡ CoreEnded (state ++ left_values returns b) later false) × IsState S s ins state copies later × Keeps S.modifies globals later

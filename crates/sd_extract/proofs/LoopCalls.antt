@@ -2,23 +2,12 @@
 use Rattle.std.proofs.Common.{◌≡◌, ℕ, suc, List, [], ◌∷◌, ◌++◌, Option, refl, sym, ◌∙◌, ap, subst, get_or, length, arith}
 use Rattle.std.specs.Prelude.{Bool, true, false, map, set, if◌then◌else◌}
 use Rattle.std.proofs.lemmas.List.{map-append, map-set}
-use Rattle.sd_base.specs.Value.{Text, Value, Truth}
-use Rattle.sd_ast.specs.declared.Expr.{Expr}
-use Rattle.sd_ast.specs.declared.StmtKind.{StmtKind, While', Row_of-Stmt}
-use Rattle.sd_ast.specs.declared.Invariant.{Invariant}
-use Rattle.sd_base.specs.Meaning.{Interpretation}
-use Rattle.sd_meaning.specs.Evaluate.{State}
-use Rattle.sd_base.specs.Meaning.{truth_of}
-use Rattle.sd_ast.specs.Tree.{names_of}
-use Rattle.sd_meaning.specs.Run.{Flow, Next, Breaks, Returns, Failed, Blocked, Unfinished, named, Level, step}
-use Rattle.sd_core.specs.declared.Spot.{Spot}
-use Rattle.sd_core.specs.declared.Spot.TheVariants.{Slot, Global}
-use Rattle.sd_core.specs.declared.CoreExpr.{At}
-use Rattle.sd_core.specs.declared.CoreStmt.{CoreStmt}
+use Rattle.sd_extract.proofs.SourceWords.{Text, Value, Truth, Expr, StmtKind, While', Row_of-Stmt, Invariant, Interpretation, State, truth_of, names_of, Flow, Next, Breaks, Returns, Failed, Blocked, Unfinished, Level, step}
+use Rattle.sd_extract.proofs.CoreWords.{Spot, Slot, Global, At, CoreStmt, Store, read, write, write_all, set_all, nothing, value_in, End, CoreEnded, CoreUnfinished, Step, Goes, Stops, Blocks, Lacks, Calls, receive, then_run, run, run_all}
+use Rattle.sd_extract.proofs.CoreWords.{slots_from, Counts, has_returns, Frame, loop_call, leave_if, Source, state_of, frame_at, extracted}
+use Rattle.sd_meaning.specs.Run.{named}
 use Rattle.sd_core.specs.declared.CoreStmt as core
-use Rattle.sd_core.specs.Store.{Store, read, write, write_all, set_all}
-use Rattle.sd_core.specs.Run.{nothing, value_in, End, Ended as CoreEnded, Blocked as CoreBlocked, Unfinished as CoreUnfinished, Step, Goes, Stops, Blocks, Lacks, Calls, receive, then_run, run, run_all, slots_from}
-use Rattle.sd_extract.specs.Extract.{Counts, has_returns, Frame, loop_call, leave_if, Source, state_of, frame_at, extracted}
+use Rattle.sd_core.specs.Run.{Blocked as CoreBlocked}
 use Rattle.sd_extract.proofs.Expressions.{at_all}
 use Rattle.sd_extract.proofs.Writes.{Apart, Distinct, HasShape, write_shape, at_all-write}
 use Rattle.sd_extract.proofs.Statements.{run-one, run-If}

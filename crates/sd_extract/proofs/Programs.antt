@@ -1,23 +1,13 @@
 -- The core procedures of a typed program do what its procedures do.
-use Rattle.std.proofs.Common.{◌≡◌, ℕ, suc, ◌+◌, List, [], ◌∷◌, Option, Some, None, refl, sym, ◌∙◌, ap, subst, length}
+use Rattle.std.proofs.Common.{◌≡◌, ℕ, suc, ◌+◌, List, [], ◌∷◌, Some, None, refl, sym, ◌∙◌, ap, subst, length}
 use Rattle.std.specs.Prelude.{Bool, true, false, option_map, slice_get}
 use Rattle.std.proofs.lemmas.List.{length-map}
 use Rattle.std.proofs.lemmas.Option.{none-some, same_Some}
-use Rattle.sd_base.specs.Value.{Text, Value}
-use Rattle.sd_ast.specs.declared.Program.{Program}
-use Rattle.sd_ast.specs.declared.Proc.{Proc}
-use Rattle.sd_ast.specs.declared.StmtKind.{StmtKind, If', While', Row_of-Stmt, end_of-Stmt, more_of-Stmt}
-use Rattle.sd_base.specs.Meaning.{Meaning, interpretation}
-use Rattle.sd_meaning.specs.Routine.{Routine, clauses_of, procedure_in, routine_named}
-use Rattle.sd_ast.specs.Tree.{names_of}
-use Rattle.sd_meaning.specs.Inputs.{globals_in}
-use Rattle.sd_meaning.specs.Run.{named, kinds_in, run}
-use Rattle.sd_core.specs.declared.CoreProc.{CoreProc}
-use Rattle.sd_core.specs.Run.{flag_run}
-use Rattle.sd_core.specs.Formed.{sorts_of}
-use Rattle.sd_extract.specs.Extract.{counts, counts_all, Source, kinds, body_proc, has_returns, source_of, modified_names, number_from, core_procs}
-pub use Rattle.sd_extract.specs.Law.{source_named, modified_by, setting_of, ProgramFine, ExtractedRuns}
-use Rattle.sd_extract.specs.Law.{IsFine, AreFine, EachFine}
+use Rattle.sd_extract.proofs.SourceWords.{Text, Value, Program, Proc, StmtKind, If', While', Row_of-Stmt, end_of-Stmt, more_of-Stmt, Meaning, interpretation, Routine, clauses_of, procedure_in, routine_named, names_of, globals_in, kinds_in}
+use Rattle.sd_extract.proofs.SourceWords.{run}
+use Rattle.sd_extract.proofs.CoreWords.{CoreProc, flag_run, sorts_of, counts, counts_all, Source, kinds, body_proc, has_returns, source_of, modified_names, number_from, core_procs, IsFine, AreFine, EachFine}
+use Rattle.sd_meaning.specs.Run.{named}
+pub use Rattle.sd_extract.specs.Laws.{source_named, modified_by, setting_of, ProgramFine, ExtractedRuns}
 use Rattle.sd_extract.proofs.CallsAgree.{Setting, SameEnds}
 use Rattle.sd_extract.proofs.Levels.{IsWhile, Stands, LoopProcReady, loop_proc_of, turn_in, extracted_runs}
 use Rattle.sd_extract.proofs.LoopCalls.{loop_returns}
@@ -45,11 +35,10 @@ pub record IsLoopOf (P : Program) (S : Source) (k : ℕ) (loop : StmtKind) : Typ
 
 -- what holds of the source of each routine holds of a source
 pub of_source : (P : Program) (f : Text) (Q : Source → Type 0) → ((r : Routine) → routine_named P f ≡ Some r → Q (source_at P f r)) → (S : Source) → source_named P f ≡ Some S → Q S
-of_source P f Q h S e = go (routine_named P f) h e
-  where
-    go : (o : Option Routine) → ((r : Routine) → o ≡ Some r → Q (source_at P f r)) → option_map (source_of (globals_in P.decls) (number P f)) o ≡ Some S → Q S
-    go None k e = absurd (none-some S e)
-    go (Some r) k e = subst Q (same_Some _ _ e) (k r refl)
+of_source P f Q h S e = elim (routine_named P f) as (λ o. ((r : Routine) → o ≡ Some r → Q (source_at P f r)) → option_map (source_of (globals_in P.decls) (number P f)) o ≡ Some S → Q S) [
+  | None ↦ λ k e. absurd (none-some S e)
+  | Some r ↦ λ k e. subst Q (same_Some _ _ e) (k r refl)
+] h e
 
 module _ (P : Program) (fine : ProgramFine P) where
   abbrev T : Setting

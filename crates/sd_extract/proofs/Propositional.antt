@@ -1,29 +1,18 @@
 -- The core program of a program over truth values, without calls and loops, is one too.
-use Rattle.std.proofs.Common.{◌≡◌, ℕ, ◌+◌, Bool, true, false, List, [], ◌∷◌, ◌++◌, map, Option, Some, None, refl}
+use Rattle.std.proofs.Common.{◌≡◌, ℕ, suc, ◌+◌, Bool, true, false, List, [], ◌∷◌, ◌++◌, map, Option, Some, None, refl}
 use Rattle.std.specs.Prelude.{option_map, if◌then◌else◌}
 use Rattle.std.specs.List.{AllByRecursion, filter_map, cons_option}
-use Rattle.sd_base.specs.declared.sort.Sort.{Bool as BoolSort}
-use Rattle.sd_base.specs.declared.sort.Var.{Var}
-use Rattle.sd_base.specs.Value.{Text, same_text}
+use Rattle.sd_extract.proofs.SourceWords.{BoolSort, Var, Text, same_text, Body, Proc, Impl, Spec, Requires, Ensures, Decl, Globals, Procedure, Implementation, Program, Routine, requires_of, ensures_of, procedure_in, implementation_in}
+use Rattle.sd_extract.proofs.SourceWords.{with_body, routine_named, globals_in, uniques_in}
+use Rattle.sd_extract.proofs.CoreWords.{arg_vars, ins_of, Global, At, Source, source_of, var_in, copies_of, kinds, none, put, check, assume, on_args, contract, leave, body_frame, body_start, body_proc, hidden, each_extracted, procs_of, size_of, number_from}
+use Rattle.sd_extract.proofs.CoreWords.{routine_procs, procs_from, functions_in, axioms_in, core_axiom, AreTruths, IsPropositional}
 use Rattle.sd_base.proofs.Lists.{all-append}
-use Rattle.sd_ast.specs.declared.tree.Body.{Body}
-use Rattle.sd_ast.specs.declared.tree.Proc.{Proc}
-use Rattle.sd_ast.specs.declared.tree.Impl.{Impl}
-use Rattle.sd_ast.specs.declared.tree.Spec.{Spec}
-use Rattle.sd_ast.specs.declared.tree.Spec.TheVariants.{Requires, Ensures}
-use Rattle.sd_ast.specs.declared.tree.Decl.{Decl}
-use Rattle.sd_ast.specs.declared.tree.Decl.TheVariants.{Globals, Procedure, Implementation}
-use Rattle.sd_ast.specs.declared.tree.Program.{Program}
-use Rattle.sd_core.specs.declared.tree.Spot.TheVariants.{Global}
-use Rattle.sd_core.specs.declared.tree.CoreExpr.{At}
 use Rattle.sd_core.specs.Propositional as propositional
-use Rattle.sd_meaning.specs.Routine.{Routine, requires_of, ensures_of, procedure_in, implementation_in, with_body, routine_named}
-use Rattle.sd_meaning.specs.Inputs.{globals_in, uniques_in}
-use Rattle.sd_extract.specs.Extract.{Source, source_of, var_in, copies_of, kinds, none, put, check, assume, on_args, contract, leave, body_frame, body_start, body_proc, hidden, each_extracted, procs_of, size_of, number_from, routine_procs, procs_from}
-use Rattle.sd_extract.specs.Programs.{functions_in, axioms_in, core_axiom}
-use Rattle.sd_extract.specs.Propositional.{AreTruths, IsPropositional, IsPropositionalSpec, IsPropositionalHead, IsPropositionalBody, MaybePropositionalBody, IsPropositionalDecl}
+use Rattle.sd_extract.specs.Propositional.{IsPropositionalSpec, IsPropositionalHead, IsPropositionalBody, MaybePropositionalBody, IsPropositionalDecl}
 use Rattle.sd_extract.specs.Laws.{PropositionalIsKept}
-use Rattle.sd_extract.proofs.PropositionalLemmas.{all_map, map_all, AllPropositional, IsNumberless, checks-propositional, assumes-propositional, put-propositional, each_extracted-propositional, hidden-truths, each_loops-none}
+use Rattle.sd_extract.proofs.PropositionalLemmas.{AllPropositional, IsNumberless, checks-propositional, assumes-propositional, put-propositional, each_extracted-propositional, each_loops-none}
+use Rattle.sd_extract.proofs.CodeLists.{all_map, map_all}
+use Rattle.sd_extract.proofs.Parts.{hidden_have}
 
 abbrev pub IsTruth : Var → Type 0
 IsTruth x = x.sort ≡ BoolSort
@@ -119,7 +108,15 @@ copied-truths vs (x ∷ names) h = cons-truths (var_in vs x) (filter_map (var_in
 
 -- ---- procedures
 
-module _ (P : Program) (number : Text → ℕ) (S : Source) (fine : IsPropositionalRoutine S.routine) (copied : AreTruths S.copied) where
+args-truths : (call i : ℕ) (vs : List Var) → AreTruths vs → AreTruths (arg_vars call i vs)
+args-truths call i [] h = tt
+args-truths call i (v ∷ vs) h = (h.0, args-truths call (suc i) vs h.1)
+
+ins-truths : (o : Option Proc) → MaybeProc o → AreTruths (ins_of o)
+ins-truths None h = tt
+ins-truths (Some p) h = h.0.0
+
+module _ (P : Program) (decls : AllDecls P.decls) (number : Text → ℕ) (S : Source) (fine : IsPropositionalRoutine S.routine) (copied : AreTruths S.copied) where
   kinds-propositional : AllByRecursion IsPropositional (kinds S)
   kinds-propositional = all_map (λ s. IsPropositional s.kind) IsPropositional (λ s. s.kind) (λ s h. h) S.routine.body.stmts fine.body.1
 
@@ -132,7 +129,7 @@ module _ (P : Program) (number : Text → ℕ) (S : Source) (fine : IsPropositio
   locals-truths : AreTruths (S.routine.body.locals ++ (copies_of S ++ hidden P none (kinds S)))
   locals-truths =
       all-append IsTruth S.routine.body.locals (copies_of S ++ hidden P none (kinds S)) fine.body.0
-      (all-append IsTruth (copies_of S) (hidden P none (kinds S)) copies-truths (hidden-truths P none (kinds S) kinds-propositional))
+      (all-append IsTruth (copies_of S) (hidden P none (kinds S)) copies-truths (hidden_have P IsTruth (λ call f. args-truths call 1 _ (ins-truths (procedure_in P.decls f) (found-proc P.decls f decls))) (λ n. refl) none (kinds S)))
 
   body-propositional : AllPropositional (body_proc P number S).body
   body-propositional =
@@ -155,7 +152,7 @@ module _ (P : Program) (number : Text → ℕ) (S : Source) (fine : IsPropositio
 maybe-procs : (P : Program) → AllDecls P.decls → (n : ℕ) (r : Option Routine) → MaybeRoutine r → AllByRecursion propositional.IsPropositionalProc (routine_procs P n r)
 maybe-procs P h n None k = tt
 maybe-procs P h n (Some r) k =
-    procs_of-propositional P (number_from P 0 P.decls) (source_of (globals_in P.decls) n r) k (copied-truths (globals_in P.decls) _ (globals-truths P.decls h))
+    procs_of-propositional P h (number_from P 0 P.decls) (source_of (globals_in P.decls) n r) k (copied-truths (globals_in P.decls) _ (globals-truths P.decls h))
 
 procs-propositional : (P : Program) → AllDecls P.decls → (n : ℕ) (ds : List Decl) → AllByRecursion propositional.IsPropositionalProc (procs_from P n ds)
 procs-propositional P h n [] = tt

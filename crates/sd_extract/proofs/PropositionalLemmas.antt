@@ -1,41 +1,20 @@
 -- Expressions and statements without numbers, calls and loops become such ones of the core.
 use Rattle.std.proofs.Common.{◌≡◌, ℕ, ◌+◌, Bool, true, false, List, [], ◌∷◌, map, Option, Some, None, refl, sym, ap, ◌∙◌, subst}
 use Rattle.std.specs.List.{AllByRecursion}
-use Rattle.sd_base.specs.Value.{Text}
+use Rattle.sd_extract.proofs.SourceWords.{Text, BinOp, UnOp, Expr, Left, ExprKind, Apply', Row_of-Expr, end_of-Expr, more_of-Expr, StmtKind, Assert, Assume, Assign, Call, If', While', Break, Return, Row_of-Stmt, end_of-Stmt, more_of-Stmt}
+use Rattle.sd_extract.proofs.SourceWords.{Program, OldOf, UnaryOf, BinaryOf, SelectOf, StoreOf, Clause}
+use Rattle.sd_extract.proofs.CoreWords.{Spot, CoreOp, CoreExpr, Apply, Op, Row_of-CoreExpr, end_of-CoreExpr, more_of-CoreExpr, items-the_row-CoreExpr, items_hidden-the_row-CoreExpr-0, hidden-the_row-CoreExpr-0, CoreStmt, If}
+use Rattle.sd_extract.proofs.CoreWords.{Row_of-CoreStmt, end_of-CoreStmt, more_of-CoreStmt, items-the_row-CoreStmt, items_hidden-the_row-CoreStmt-0, hidden-the_row-CoreStmt-0, CoreProc, Names, at_place, place_of, unary_of, binary_of}
+use Rattle.sd_extract.proofs.CoreWords.{negated, both, core_of, cores_of, Counts, Frame, Source, plus, counts, counts_all, put, checked, check, assume, stored, all_stored, cores, extracted, all_extracted, each_extracted}
+use Rattle.sd_extract.proofs.CoreWords.{loops_in, all_loops_in, each_loop_in, IsPropositional}
 use Rattle.sd_base.proofs.Lists.{all-append}
-use Rattle.sd_ast.specs.declared.tree.BinOp.{BinOp}
 use Rattle.sd_ast.specs.declared.tree.BinOp.TheVariants as bin
-use Rattle.sd_ast.specs.declared.tree.UnOp.{UnOp}
 use Rattle.sd_ast.specs.declared.tree.UnOp.TheVariants as un
-use Rattle.sd_ast.specs.declared.tree.Expr.{Expr}
-use Rattle.sd_ast.specs.declared.tree.Left.{Left}
-use Rattle.sd_ast.specs.declared.tree.ExprKind.{ExprKind, Num, Truth, Var, Apply', Row_of-Expr, end_of-Expr, more_of-Expr}
-use Rattle.sd_ast.specs.declared.tree.StmtKind.{StmtKind, Assert, Assume, Assign, Call, If', While', Break, Return, Row_of-Stmt, end_of-Stmt, more_of-Stmt}
-use Rattle.sd_ast.specs.declared.tree.Program.{Program}
-use Rattle.sd_ast.specs.Tree.{OldOf, UnaryOf, BinaryOf, SelectOf, StoreOf}
-use Rattle.sd_core.specs.declared.tree.Spot.{Spot}
-use Rattle.sd_core.specs.declared.tree.CoreOp.{CoreOp}
+use Rattle.sd_ast.specs.declared.tree.ExprKind.{Num, Truth, Var}
 use Rattle.sd_core.specs.declared.tree.CoreOp.TheVariants as op
-use Rattle.sd_core.specs.declared.tree.CoreExpr.{CoreExpr, Apply, Op, Row_of-CoreExpr, end_of-CoreExpr, more_of-CoreExpr, items-the_row-CoreExpr, items_hidden-the_row-CoreExpr-0}
-use Rattle.sd_core.specs.declared.tree.CoreExpr.TheBlock.{hidden-the_row-CoreExpr-0}
-use Rattle.sd_core.specs.declared.tree.CoreStmt.{CoreStmt, If, Row_of-CoreStmt, end_of-CoreStmt, more_of-CoreStmt, items-the_row-CoreStmt, items_hidden-the_row-CoreStmt-0}
-use Rattle.sd_core.specs.declared.tree.CoreStmt.TheBlock.{hidden-the_row-CoreStmt-0}
-use Rattle.sd_core.specs.declared.tree.CoreProc.{CoreProc}
 use Rattle.sd_core.specs.Propositional as propositional
-use Rattle.sd_meaning.specs.Routine.{Clause}
-use Rattle.sd_extract.specs.Names.{Names, at_place, place_of, unary_of, binary_of, negated, both, core_of, cores_of}
-use Rattle.sd_extract.specs.Extract.{Counts, Frame, Source, plus, counts, counts_all, put, checked, check, assume, stored, all_stored, cores, extracted, all_extracted, each_extracted, args_in, all_args_in, each_args_in, lefts_in, all_lefts_in, each_left_in, hidden, loops_in, all_loops_in, each_loop_in}
-use Rattle.sd_extract.specs.Propositional.{AreTruths, HasNoNumber, HaveNoNumber, NoneHasNumber, IsPropositional, ArePropositional}
-
--- ---- lists
-
-pub all_map : {A B : Type 0} (P : A → Type 0) (Q : B → Type 0) (f : A → B) → ((a : A) → P a → Q (f a)) → (xs : List A) → AllByRecursion P xs → AllByRecursion Q (map f xs)
-all_map P Q f h [] a = tt
-all_map P Q f h (x ∷ xs) a = (h x a.0, all_map P Q f h xs a.1)
-
-pub map_all : {A B : Type 0} (Q : B → Type 0) (f : A → B) → ((a : A) → Q (f a)) → (xs : List A) → AllByRecursion Q (map f xs)
-map_all Q f h [] = tt
-map_all Q f h (x ∷ xs) = (h x, map_all Q f h xs)
+use Rattle.sd_extract.specs.Propositional.{HasNoNumber, HaveNoNumber, NoneHasNumber, ArePropositional}
+use Rattle.sd_extract.proofs.CodeLists.{all_map}
 
 -- ---- rows of the core as lists
 
@@ -83,24 +62,17 @@ at_place-numberless None x = tt
 at_place-numberless (Some p) x = tt
 
 unary-numberless : (o : UnOp) (a : CoreExpr) → propositional.HasNoNumber a → propositional.HasNoNumber (unary_of o a)
-unary-numberless un.Not a h = negated-numberless a h
+unary-numberless un.Not a h = one op.Not a h
 unary-numberless un.Neg a h = one op.Neg a h
 
 binary-numberless : (o : BinOp) (a b : CoreExpr) → propositional.HasNoNumber a → propositional.HasNoNumber b → propositional.HasNoNumber (binary_of o a b)
-binary-numberless bin.Iff a b h k = two op.Eq a b h k
 binary-numberless bin.Implies a b h k = two op.Or (negated a) b (negated-numberless a h) k
 binary-numberless bin.Explies a b h k = two op.Or a (negated b) h (negated-numberless b k)
-binary-numberless bin.And a b h k = two op.And a b h k
-binary-numberless bin.Or a b h k = two op.Or a b h k
-binary-numberless bin.Eq a b h k = two op.Eq a b h k
 binary-numberless bin.Ne a b h k = negated-numberless (both op.Eq a b) (two op.Eq a b h k)
 binary-numberless bin.Lt a b h k = negated-numberless (both op.Le b a) (two op.Le b a k h)
-binary-numberless bin.Le a b h k = two op.Le a b h k
 binary-numberless bin.Gt a b h k = negated-numberless (both op.Le a b) (two op.Le a b h k)
 binary-numberless bin.Ge a b h k = two op.Le b a k h
-binary-numberless bin.Add a b h k = two op.Add a b h k
-binary-numberless bin.Sub a b h k = two op.Sub a b h k
-binary-numberless bin.Mul a b h k = two op.Mul a b h k
+binary-numberless _ a b h k = two op.And a b h k
 
 mutual
   pub core-numberless : (N : Names) (e : ExprKind) → HasNoNumber e → propositional.HasNoNumber (core_of N e)
@@ -179,47 +151,7 @@ module _ (P : Program) (number : Text → ℕ) (F : Frame) (leave : AllPropositi
   each_extracted-propositional at (k ∷ ks) h =
       all-append propositional.IsPropositional (extracted P number F at k) (each_extracted P number F (plus at (counts k)) ks) (extracted-propositional at k h.0) (each_extracted-propositional (plus at (counts k)) ks h.1)
 
--- ---- hidden locals and loops: there are none
-
-module _ (P : Program) where
-  mutual
-    args-none : (at : Counts) (k : StmtKind) → IsPropositional k → AreTruths (args_in P at k)
-    args-none at (Call xs f es) h = absurd h
-    args-none at (If' e shape a shape' b) h =
-        all-append _ (all_args_in P at a) (all_args_in P (plus at (counts_all a)) b) (row_args-none at a h.1) (row_args-none (plus at (counts_all a)) b h.2)
-    args-none at (While' e invs shape body) h = absurd h
-    args-none at _ h = tt
-
-    row_args-none : (at : Counts) {m : _} (r : Row_of-Stmt m) → ArePropositional r → AreTruths (all_args_in P at r)
-    row_args-none at end_of-Stmt h = tt
-    row_args-none at (more_of-Stmt p k ks) h =
-        all-append _ (args_in P at k) (all_args_in P (plus at (counts k)) ks) (args-none at k h.0) (row_args-none (plus at (counts k)) ks h.1)
-
-  each_args-none : (at : Counts) (ks : List StmtKind) → AllByRecursion IsPropositional ks → AreTruths (each_args_in P at ks)
-  each_args-none at [] h = tt
-  each_args-none at (k ∷ ks) h =
-      all-append _ (args_in P at k) (each_args_in P (plus at (counts k)) ks) (args-none at k h.0) (each_args-none (plus at (counts k)) ks h.1)
-
-  mutual
-    lefts-none : (at : Counts) (k : StmtKind) → IsPropositional k → AreTruths (lefts_in at k)
-    lefts-none at (Call xs f es) h = absurd h
-    lefts-none at (If' e shape a shape' b) h =
-        all-append _ (all_lefts_in at a) (all_lefts_in (plus at (counts_all a)) b) (row_lefts-none at a h.1) (row_lefts-none (plus at (counts_all a)) b h.2)
-    lefts-none at (While' e invs shape body) h = absurd h
-    lefts-none at _ h = tt
-
-    row_lefts-none : (at : Counts) {m : _} (r : Row_of-Stmt m) → ArePropositional r → AreTruths (all_lefts_in at r)
-    row_lefts-none at end_of-Stmt h = tt
-    row_lefts-none at (more_of-Stmt p k ks) h =
-        all-append _ (lefts_in at k) (all_lefts_in (plus at (counts k)) ks) (lefts-none at k h.0) (row_lefts-none (plus at (counts k)) ks h.1)
-
-  each_lefts-none : (at : Counts) (ks : List StmtKind) → AllByRecursion IsPropositional ks → AreTruths (each_left_in at ks)
-  each_lefts-none at [] h = tt
-  each_lefts-none at (k ∷ ks) h =
-      all-append _ (lefts_in at k) (each_left_in (plus at (counts k)) ks) (lefts-none at k h.0) (each_lefts-none (plus at (counts k)) ks h.1)
-
-  pub hidden-truths : (at : Counts) (ks : List StmtKind) → AllByRecursion IsPropositional ks → AreTruths (hidden P at ks)
-  hidden-truths at ks h = all-append _ (each_args_in P at ks) (each_left_in at ks) (each_args-none at ks h) (each_lefts-none at ks h)
+-- ---- loops: there are none
 
 module _ (P : Program) (number : Text → ℕ) (S : Source) (Q : CoreProc → Type 0) where
   mutual

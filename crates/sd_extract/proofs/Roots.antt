@@ -1,62 +1,19 @@
 -- The core procedures that belong to no loop are those of the text.
-use Rattle.std.proofs.Common.{◌≡◌, Bool, true, false, ℕ, zero, suc, ◌+◌, List, [], ◌∷◌, ◌++◌, Option, Some, None, is_some, refl, sym, ◌∙◌, ap, length, ◌⊎◌, ⊎_elim, inl, inr, arith}
+use Rattle.std.proofs.Common.{◌≡◌, Bool, true, ℕ, zero, suc, ◌+◌, List, [], ◌∷◌, ◌++◌, Option, Some, None, is_some, refl, sym, ◌∙◌, ap, length, ◌⊎◌, ⊎_elim, inl, inr, arith}
 use Rattle.std.specs.Prelude.{slice_get, if◌then◌else◌}
 use Rattle.std.specs.Cmp.Lexicographic.{bytes_decides}
 use Rattle.std.proofs.lemmas.Option.{none-some, same_Some}
-use Rattle.sd_base.specs.Value.{Text, same_text}
-use Rattle.sd_ast.specs.declared.Decl.{Decl}
-use Rattle.sd_ast.specs.declared.Decl.TheVariants.{Procedure}
-use Rattle.sd_ast.specs.declared.Program.{Program}
-use Rattle.sd_ast.specs.declared.Proc.{Proc}
-use Rattle.sd_ast.specs.declared.StmtKind.{StmtKind, If', While', Row_of-Stmt, end_of-Stmt, more_of-Stmt}
-use Rattle.sd_meaning.specs.Routine.{Routine, procedure_in, routine_named}
-use Rattle.sd_meaning.specs.Inputs.{globals_in}
-use Rattle.sd_types.specs.Tables.{named}
-use Rattle.sd_types.specs.Declarations.{callee_of, WellTyped}
-use Rattle.sd_core.specs.declared.CoreProc.{CoreProc}
-use Rattle.sd_extract.specs.Extract.{counts, counts_all, Source, kinds, loops_in, all_loops_in, each_loop_in, source_of, size_of, number_from, routine_procs, procs_from}
-use Rattle.sd_extract.specs.Laws.{number_of, RootsAreProcedures}
+use Rattle.std.proofs.lemmas.Bool.{false_from_ne_true}
+use Rattle.sd_extract.proofs.SourceWords.{Text, same_text, Decl, Procedure, Program, Proc, Routine, procedure_in, routine_named, globals_in, named, callee_of, WellTyped}
+use Rattle.sd_extract.proofs.CoreWords.{CoreProc, kinds, each_loop_in, source_of, size_of, number_from, routine_procs, procs_from, number_of}
+use Rattle.sd_extract.specs.Laws.{RootsAreProcedures}
 use Rattle.sd_extract.proofs.FormedTables.{OnceEach, procedure_entries}
 use Rattle.sd_extract.proofs.FormedLookups.{procedure_named}
 use Rattle.sd_extract.proofs.FormedDeclarations.{is_typed, procedures_once}
 use Rattle.sd_extract.proofs.LawLemmas.{name_kept}
 use Rattle.sd_extract.proofs.FormedNumbers.{routine_length}
-
--- ---- loops have a parent
-
-abbrev AreLoops : List CoreProc → Type 0
-AreLoops [] = Unit {0}
-AreLoops (p ∷ ps) = (is_some p.parent ≡ true) × AreLoops ps
-
-loops_append : (ps qs : List CoreProc) → AreLoops ps → AreLoops qs → AreLoops (ps ++ qs)
-loops_append [] qs a b = b
-loops_append (p ∷ ps) qs a b = (a.0, loops_append ps qs a.1 b)
-
-loop_at : (ps : List CoreProc) (i : ℕ) (p : CoreProc) → AreLoops ps → slice_get ps i ≡ Some p → is_some p.parent ≡ true
-loop_at [] i p a e = absurd (cc)
-loop_at (q ∷ ps) zero p a e = ap (λ (x : CoreProc). is_some x.parent) (sym (same_Some _ _ e)) ∙ a.0
-loop_at (q ∷ ps) (suc i) p a e = loop_at ps i p a.1 e
-
-module _ (P : Program) (number : Text → ℕ) (S : Source) where
-  mutual
-    are_loops : (n : ℕ) (s : StmtKind) → AreLoops (loops_in P number S n s)
-    are_loops n (While' e invs shape body) = (refl, all_are_loops (suc n) body)
-    are_loops n (If' e shape x shape' y) =
-        let m = n + (counts_all x).loops in
-        loops_append (all_loops_in P number S n x) (all_loops_in P number S m y) (all_are_loops n x) (all_are_loops m y)
-    are_loops n _ = tt
-
-    all_are_loops : (n : ℕ) {m : _} (ss : Row_of-Stmt m) → AreLoops (all_loops_in P number S n ss)
-    all_are_loops n end_of-Stmt = tt
-    all_are_loops n (more_of-Stmt p s ss) =
-        let m = n + (counts s).loops in
-        loops_append (loops_in P number S n s) (all_loops_in P number S m ss) (are_loops n s) (all_are_loops m ss)
-
-  each_is_loop : (n : ℕ) (ss : List StmtKind) → AreLoops (each_loop_in P number S n ss)
-  each_is_loop n [] = tt
-  each_is_loop n (s ∷ ss) =
-      let m = n + (counts s).loops in
-      loops_append (loops_in P number S n s) (each_loop_in P number S m ss) (are_loops n s) (each_is_loop m ss)
+use Rattle.sd_base.proofs.Lists.{all-at}
+use Rattle.sd_extract.proofs.Parts.{each_loop_has}
 
 -- ---- where a procedure without a parent stands
 
@@ -77,11 +34,10 @@ IsRootOf P n ds i p =
 
 -- a name that stands once isn't found again
 not_again : (ds : List Decl) (f : Text) → named (procedure_entries ds) f ≡ None → procedure_in ds f ≡ None
-not_again ds f h = go (procedure_in ds f) refl
-  where
-    go : (o : Option Proc) → procedure_in ds f ≡ o → procedure_in ds f ≡ None
-    go None e = e
-    go (Some p) e = absurd (none-some (callee_of p) (sym h ∙ procedure_named ds f p e))
+not_again ds f h = elim (procedure_in ds f) as (λ o. procedure_in ds f ≡ o → o ≡ None) [
+  | None ↦ λ e. refl
+  | Some p ↦ λ e. absurd (none-some (callee_of p) (sym h ∙ procedure_named ds f p e))
+] refl
 
 module _ (P : Program) (w : WellTyped P) where
   -- among the core procedures of one procedure
@@ -91,7 +47,7 @@ module _ (P : Program) (w : WellTyped P) where
   first_is n f (Some r) (suc i) p e g root =
       let S = source_of (globals_in P.decls) n r in
       let number = number_from P 0 P.decls in
-      let loop = loop_at (each_loop_in P number S (suc n) (kinds S)) i p (each_is_loop P number S (suc n) (kinds S)) g in
+      let loop = all-at (λ (q : CoreProc). is_some q.parent ≡ true) (each_loop_in P number S (suc n) (kinds S)) i p (each_loop_has P number S (λ q. is_some q.parent ≡ true) (λ k guard invs returns turn. refl) (suc n) (kinds S)) g in
       let none = ap is_some root in
       absurd (cc)
 
@@ -100,27 +56,18 @@ module _ (P : Program) (w : WellTyped P) where
     next = n + size_of (routine_named P q.head.name)
 
     is_first : (p.name ≡ q.head.name) × (i ≡ 0) × ((r : Routine) × (routine_named P q.head.name ≡ Some r)) → IsRootOf P n (Procedure q ∷ ds) i p
-    is_first h = go (same_text p.name q.head.name) refl
-      where
-        go : (b : Bool) → same_text p.name q.head.name ≡ b → IsRootOf P n (Procedure q ∷ ds) i p
-        go true t =
-            let z = h.1 in
-            let here : n + i ≡ n = omega (arith, z) in
-            (q, ap (λ (c : Bool). if c then Some q else procedure_in ds p.name) t, (h.2.0, ap (routine_named P) h.0 ∙ h.2.1), here ∙ sym (ap (λ (c : Bool). if c then n else number_from P next ds p.name) t))
-        go false t = absurd (let s = (bytes_decides p.name q.head.name).1 h.0 in cc)
+    is_first h =
+        let t : same_text p.name q.head.name ≡ true = (bytes_decides p.name q.head.name).1 h.0 in
+        let z = h.1 in
+        let here : n + i ≡ n = omega (arith, z) in
+        (q, ap (λ (c : Bool). if c then Some q else procedure_in ds p.name) t, (h.2.0, ap (routine_named P) h.0 ∙ h.2.1), here ∙ sym (ap (λ (c : Bool). if c then n else number_from P next ds p.name) t))
 
     is_later : procedure_in ds q.head.name ≡ None → (k : ℕ) → i ≡ length (routine_procs P n (routine_named P q.head.name)) + k → IsRootOf P next ds k p → IsRootOf P n (Procedure q ∷ ds) i p
-    is_later once k long h = go (same_text p.name q.head.name) refl
-      where
-        go : (b : Bool) → same_text p.name q.head.name ≡ b → IsRootOf P n (Procedure q ∷ ds) i p
-        go true t =
-            let again = ap (procedure_in ds) ((bytes_decides p.name q.head.name).0 t) in
-            let declared = h.1 in
-            absurd (cc)
-        go false t =
-            let size = routine_length P n (routine_named P q.head.name) in
-            let before : n + i ≡ next + k = omega (arith, long, size) in
-            (h.0, ap (λ (c : Bool). if c then Some q else procedure_in ds p.name) t ∙ h.1, h.2, before ∙ h.3 ∙ sym (ap (λ (c : Bool). if c then n else number_from P next ds p.name) t))
+    is_later once k long h =
+        let t = false_from_ne_true (same_text p.name q.head.name) (λ t. let again = ap (procedure_in ds) ((bytes_decides p.name q.head.name).0 t) in let declared = h.1 in cc) in
+        let size = routine_length P n (routine_named P q.head.name) in
+        let before : n + i ≡ next + k = omega (arith, long, size) in
+        (h.0, ap (λ (c : Bool). if c then Some q else procedure_in ds p.name) t ∙ h.1, h.2, before ∙ h.3 ∙ sym (ap (λ (c : Bool). if c then n else number_from P next ds p.name) t))
 
   roots : (ds : List Decl) (n i : ℕ) (p : CoreProc) → OnceEach (procedure_entries ds) → slice_get (procs_from P n ds) i ≡ Some p → p.parent ≡ None → IsRootOf P n ds i p
   roots [] n i p once g root = absurd (none-some p g)

@@ -1,23 +1,11 @@
 -- The slots of a body and of a loop's procedure are apart.
-use Rattle.std.proofs.Common.{◌≡◌, ◌≢◌, ℕ, zero, suc, ◌+◌, ◌≤◌, ◌<◌, List, [], ◌∷◌, ◌++◌, refl, sym, ◌∙◌, ap, subst, get_or, length, arith}
+use Rattle.std.proofs.Common.{◌≡◌, ◌≢◌, ℕ, zero, suc, ◌+◌, ◌≤◌, ◌<◌, List, [], ◌∷◌, ◌++◌, refl, sym, ◌∙◌, ap, subst, get_or, length, arith, append_assoc, length-append}
 use Rattle.std.specs.Prelude.{Bool, true, false, set, codes, if◌then◌else◌}
-use Rattle.std.proofs.Common.{append_assoc, length-append}
 use Rattle.std.proofs.Math.Seq.{get_or-append_seam}
 use Rattle.std.proofs.lemmas.List.{length-map}
-use Rattle.sd_base.specs.declared.Var.{Var}
+use Rattle.sd_extract.proofs.SourceWords.{Var, Text, Value, Expr, Program, StmtKind, Clause, names_of}
+use Rattle.sd_extract.proofs.CoreWords.{Spot, Slot, Global, CoreStmt, set_all, nothing, slots_from, out_spots, Frame, Source, state_of, copies_of, names_at, frame_at, globals_from, loop_state, left_of, loop_frame, loop_proc}
 use Rattle.sd_base.specs.declared.Sort as sort
-use Rattle.sd_base.specs.Value.{Text, Value}
-use Rattle.sd_ast.specs.declared.Expr.{Expr}
-use Rattle.sd_ast.specs.declared.Program.{Program}
-use Rattle.sd_ast.specs.declared.StmtKind.{StmtKind}
-use Rattle.sd_meaning.specs.Routine.{Clause}
-use Rattle.sd_ast.specs.Tree.{names_of}
-use Rattle.sd_core.specs.declared.Spot.{Spot}
-use Rattle.sd_core.specs.declared.Spot.TheVariants.{Slot, Global}
-use Rattle.sd_core.specs.declared.CoreStmt.{CoreStmt}
-use Rattle.sd_core.specs.Store.{set_all}
-use Rattle.sd_core.specs.Run.{nothing, slots_from, out_spots}
-use Rattle.sd_extract.specs.Extract.{Frame, Source, state_of, copies_of, names_at, frame_at, globals_from, loop_state, left_of, loop_frame, loop_proc}
 use Rattle.sd_extract.proofs.Expressions.{at_all}
 use Rattle.sd_extract.proofs.Writes.{Apart, Distinct, IsLaidOut}
 use Rattle.sd_extract.proofs.Agree.{Room}

@@ -1,24 +1,13 @@
 -- The core run of extracted statements is their run.
 use Rattle.std.proofs.Common.{◌≡◌, List, [], ◌∷◌, ◌++◌, refl, sym, ◌∙◌, ap}
 use Rattle.std.specs.Prelude.{Bool, true, false, not, map, if◌then◌else◌}
-use Rattle.sd_base.specs.Value.{Value, write as write_map}
-use Rattle.sd_ast.specs.declared.Expr.{Expr}
-use Rattle.sd_ast.specs.declared.Left.{Left}
-use Rattle.sd_base.specs.Meaning.{Interpretation}
-use Rattle.sd_meaning.specs.Evaluate.{State, value}
-use Rattle.sd_base.specs.Meaning.{truth_of, index_of}
-use Rattle.sd_meaning.specs.Routine.{Clause}
-use Rattle.sd_meaning.specs.Run.{Verdict, Holds, Fails, Blocks as FreeFails, verdict, written, values_of, new_values}
-use Rattle.sd_core.specs.declared.Spot.{Spot}
+use Rattle.sd_extract.proofs.SourceWords.{Value, write_map, Expr, Left, Interpretation, State, value, truth_of, index_of, Clause, Verdict, Holds, Fails, FreeFails, verdict, values_of, new_values}
+use Rattle.sd_extract.proofs.CoreWords.{Spot, CoreExpr, CoreStmt, If, Row_of-CoreStmt, end_of-CoreStmt, more_of-CoreStmt, items-the_row-CoreStmt, items_hidden-the_row-CoreStmt-0, hidden-the_row-CoreStmt-0, Store, write_all, value_in, Step}
+use Rattle.sd_extract.proofs.CoreWords.{Goes, Stops, Blocks, Lacks, Calls, then_run, run, run_all, Names, place_of, at_place, negated, both, core_of, put, checked, check, stored, cores, all_stored}
+use Rattle.sd_meaning.specs.Run.{written}
 use Rattle.sd_core.specs.declared.CoreOp.TheVariants as op
-use Rattle.sd_core.specs.declared.CoreExpr.{CoreExpr}
-use Rattle.sd_core.specs.declared.CoreStmt.{CoreStmt, If, Row_of-CoreStmt, end_of-CoreStmt, more_of-CoreStmt, items-the_row-CoreStmt, items_hidden-the_row-CoreStmt-0}
 use Rattle.sd_core.specs.declared.CoreStmt as core
-use Rattle.sd_core.specs.declared.CoreStmt.TheBlock.{hidden-the_row-CoreStmt-0}
-use Rattle.sd_core.specs.Store.{Store, write_all}
-use Rattle.sd_core.specs.Run.{value_in, Step, Goes, Stops, Blocks, Lacks, Calls, then_run, run, run_row, run_all}
-use Rattle.sd_extract.specs.Names.{Names, place_of, at_place, negated, both, core_of}
-use Rattle.sd_extract.specs.Extract.{put, checked, check, stored, cores, all_stored}
+use Rattle.sd_core.specs.Run.{run_row}
 use Rattle.sd_extract.proofs.Expressions.{Kept, variable_kept, value-Op, value-negated, value_kept}
 
 -- ---- core runs
@@ -61,17 +50,10 @@ module _ (I : Interpretation) (calls : Calls) where
 
   -- a check, and what comes after it
   pub run-checked : (free : Bool) (c : CoreExpr) (rest : List CoreStmt) (st : Store Value) → run_all I calls (checked free c ∷ rest) st ≡ (if truth_of (value_in I st c) then run_all I calls rest st else (if free then Blocks else Stops st true))
-  run-checked true c rest st = go (truth_of (value_in I st c))
-    where
-      go : (b : Bool) → then_run (if b then Goes st else Blocks) (run_all I calls rest) ≡ (if b then run_all I calls rest st else Blocks)
-      go true = refl
-      go false = refl
+  run-checked true c rest st = elim (truth_of (value_in I st c)) as (λ b. then_run (if b then Goes st else Blocks) (run_all I calls rest) ≡ (if b then run_all I calls rest st else Blocks)) [ true ↦ refl | false ↦ refl ]
   run-checked false c rest st =
-      ap (λ a. then_run a (run_all I calls rest)) (run-If (negated c) (core.Fail ∷ []) [] st ∙ ap (λ v. if truth_of v then Stops st true else Goes st) (value-negated I st c)) ∙ go (truth_of (value_in I st c))
-    where
-      go : (b : Bool) → then_run (if not b then Stops st true else Goes st) (run_all I calls rest) ≡ (if b then run_all I calls rest st else Stops st true)
-      go true = refl
-      go false = refl
+      ap (λ a. then_run a (run_all I calls rest)) (run-If (negated c) (core.Fail ∷ []) [] st ∙ ap (λ v. if truth_of v then Stops st true else Goes st) (value-negated I st c))
+      ∙ elim (truth_of (value_in I st c)) as (λ b. then_run (if not b then Stops st true else Goes st) (run_all I calls rest) ≡ (if b then run_all I calls rest st else Stops st true)) [ true ↦ refl | false ↦ refl ]
 
 -- after the clauses of a contract or a loop
 abbrev pub after_verdict : Verdict → Store Value → Step → Step

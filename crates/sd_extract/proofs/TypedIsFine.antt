@@ -3,20 +3,11 @@ use Rattle.std.proofs.Common.{◌≡◌, Bool, true, false, List, [], ◌∷◌,
 use Rattle.std.specs.List.{IsDistinct}
 use Rattle.std.proofs.lemmas.List.{length-map, map-append}
 use Rattle.std.proofs.lemmas.Option.{same_Some}
-use Rattle.sd_base.specs.Value.{Text, same_text}
-use Rattle.sd_ast.specs.declared.Program.{Program}
-use Rattle.sd_ast.specs.declared.Expr.{Expr}
-use Rattle.sd_ast.specs.declared.StmtKind.{StmtKind, Assign, Call, If', While', Break, Row_of-Stmt, end_of-Stmt, more_of-Stmt}
-use Rattle.sd_ast.specs.Tree.{names_of}
-use Rattle.sd_meaning.specs.Routine.{Routine, routine_named}
-use Rattle.sd_meaning.specs.Inputs.{globals_in}
-use Rattle.sd_types.specs.declared.scope.Callee.{Callee}
-use Rattle.sd_types.specs.declared.scope.Scope.{Scope}
-use Rattle.sd_types.specs.Statements.{Routine as Rules, routine, left_names}
-use Rattle.sd_types.specs.Declarations.{modifies_of, body_variables, WellTyped}
-use Rattle.sd_types.specs.TypedBodies.{Calls, IsTypedStmt, AreTypedStmts}
-use Rattle.sd_extract.specs.Extract.{Source, source_of, number_from, body_proc}
-use Rattle.sd_extract.specs.Law.{Setting, Among, CallFine, IsFine, AreFine, EachFine, SourceFine, modified_by, setting_of, ProgramFine}
+use Rattle.sd_extract.proofs.SourceWords.{Text, same_text, Program, Expr, StmtKind, Assign, Call, If', While', Break, Row_of-Stmt, end_of-Stmt, more_of-Stmt, names_of, Routine, routine_named, globals_in, Callee, Scope, routine, left_names}
+use Rattle.sd_extract.proofs.SourceWords.{modifies_of, body_variables, WellTyped, Calls, IsTypedStmt, AreTypedStmts}
+use Rattle.sd_extract.proofs.CoreWords.{Source, source_of, number_from, body_proc, Among, IsFine, AreFine, EachFine}
+use Rattle.sd_types.specs.Statements.{Routine as Rules}
+use Rattle.sd_extract.specs.Laws.{Setting, CallFine, SourceFine, modified_by, setting_of, ProgramFine}
 use Rattle.sd_extract.proofs.Assigned.{among_all, all_may_assign}
 use Rattle.sd_extract.proofs.FormedChecks.{IsCallable, IsChecked, AreChecked, EachChecked, EachTyped}
 use Rattle.sd_extract.proofs.FormedDeclarations.{IsTyped, is_typed, is_scope, RoutineFine, routine_fine}

@@ -1,15 +1,12 @@
 pub mod Names
 pub mod Extract
 pub mod Programs
-pub mod Law
 pub mod Laws
 pub mod Propositional
-pub mod Positions
 pub mod Scopes
 pub mod Counted
 pub mod Numbered
 pub mod Sources
-pub mod Implementations
 pub mod Found
 pub mod Modified
 pub mod Places

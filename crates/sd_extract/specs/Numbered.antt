@@ -6,7 +6,7 @@ use Rattle.sd_extract.specs.declared.callees.Callees.{Callees}
 use Rattle.sd_extract.specs.Extract.{number_from}
 
 abbrev pub program_of : Callees → Program
-program_of c = record { decls = c.routines.procedures.decls.now }
+program_of c = record { decls = c.routines.decls.now }
 
 abbrev pub number_of : Callees → Text → ℕ
-number_of c = number_from (program_of c) 0 c.routines.procedures.decls.now
+number_of c = number_from (program_of c) 0 c.routines.decls.now

@@ -5,7 +5,8 @@ use Rattle.sd_base.specs.declared.Sort.{Bool as BoolSort}
 use Rattle.sd_base.specs.declared.Var.{Var}
 use Rattle.sd_ast.specs.declared.Expr.{Expr}
 use Rattle.sd_ast.specs.declared.ExprKind.{ExprKind, Num, Apply', Row_of-Expr, end_of-Expr, more_of-Expr}
-use Rattle.sd_ast.specs.declared.StmtKind.{StmtKind, Assert, Assume, Assign, If', Break, Return, Row_of-Stmt, end_of-Stmt, more_of-Stmt}
+use Rattle.sd_ast.specs.declared.StmtKind.{StmtKind, Assert, Assume, Assign, If', Break, Return, Row_of-Stmt}
+use Rattle.sd_ast.specs.declared.StmtKind.{end_of-Stmt, more_of-Stmt}
 use Rattle.sd_ast.specs.declared.Spec.{Spec}
 use Rattle.sd_ast.specs.declared.Spec.TheVariants.{Modifies, Requires, Ensures}
 use Rattle.sd_ast.specs.declared.Head.{Head}

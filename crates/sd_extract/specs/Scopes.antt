@@ -1,5 +1,6 @@
 -- The names of a body as code keeps them.
-use Rattle.std.specs.Prelude.{ℕ, zero, suc, Bool, true, ◌||◌, if◌then◌else◌, List, [], ◌∷◌, ◌++◌, map, Option, Some, None, codes}
+use Rattle.std.specs.Prelude.{ℕ, zero, suc, Bool, true, ◌||◌, if◌then◌else◌, List, [], ◌∷◌, ◌++◌, map, Option, Some}
+use Rattle.std.specs.Prelude.{None, codes}
 use Rattle.std.specs.Fmt.{decimal}
 use Rattle.sd_base.specs.declared.Sort as sort
 use Rattle.sd_base.specs.declared.Var.{Var}

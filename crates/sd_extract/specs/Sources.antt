@@ -21,7 +21,8 @@ use Rattle.sd_extract.specs.declared.source.Slots.{Slots}
 use Rattle.sd_extract.specs.declared.source.Layout.{Layout}
 use Rattle.sd_extract.specs.declared.source.Globals.{Globals}
 use Rattle.sd_extract.specs.Names.{core_of}
-use Rattle.sd_extract.specs.Extract.{Counts, Frame, Source, put, check, assume, on_args, loop_call, each_extracted, state_of, globals_from, names_at, contract, body_copies, loop_state}
+use Rattle.sd_extract.specs.Extract.{Counts, Frame, Source, put, check, assume, on_args, loop_call, each_extracted}
+use Rattle.sd_extract.specs.Extract.{state_of, globals_from, names_at, contract, body_copies, loop_state}
 
 abbrev pub source_in : Kept → Source
 source_in s = record {

@@ -58,30 +58,47 @@ fn receivers(alloc: Global, scope: &Scope, names: &[Name]) -> Result<Items<Spot>
     Ok(spots)
 }
 
-/// A call of a procedure with this number, whose arguments go to slots from the first one on.
+/// A call of a text.
+#[derive(Clone, Copy, Drop)]
+pub(crate) struct CallParts<'a> {
+    pub(crate) names: &'a [Name],
+    pub(crate) callee: &'a Name,
+    pub(crate) args: &'a [Expr],
+}
+
+/// A procedure that is called, with its number and the first slot of the arguments.
+#[derive(Clone, Copy, Drop)]
+struct Called<'a> {
+    procedure: &'a Proc,
+    number: u32,
+    first: u32,
+}
+
+/// A call of a procedure, whose arguments go to slots from the first one on.
 fn push_call(
     alloc: Global,
     scope: &Scope,
-    callee: &Proc,
-    number: u32,
-    first: u32,
-    names: &[Name],
-    args: &[Expr],
+    called: &Called,
+    parts: &CallParts,
     out: &mut Items<CoreStmt>,
 ) -> Result<(), NoMemory>
     ensures { OnOk result
-        (out.new ≡ out.old ++ call_with (names_in scope.now) number (slots_from first args.now) names.now
-        args.now callee.now) }
+        (out.new ≡ out.old ++ call_with (names_in scope.now) called.now.number
+        (slots_from called.now.first parts.now.args.now) parts.now.names.now parts.now.args.now
+        called.now.procedure.now) }
 {
+    let callee = called.procedure;
+    let first = called.first;
+    let args = parts.args;
     let mut spots = Items::new(alloc);
     push_slots(first, args.len(), &mut spots)?;
     let copied = Items::from_slice(alloc, spots.as_slice())?;
     put(copied, expressions(alloc, scope, args)?, out)?;
     push_requires_on(alloc, scope, callee, spots.as_slice(), false, out)?;
-    let outs = receivers(alloc, scope, names)?;
+    let outs = receivers(alloc, scope, parts.names)?;
     let mut ins = Items::new(alloc);
     push_reads(spots.as_slice(), &mut ins)?;
-    out.push(CoreStmt::Call(outs, number, ins))?;
+    out.push(CoreStmt::Call(outs, called.number, ins))?;
     Ok(())
 }
 
@@ -91,28 +108,22 @@ pub(crate) fn call(
     callees: &Callees,
     scope: &Scope,
     at: Counts,
-    names: &[Name],
-    callee: &Name,
-    args: &[Expr],
+    parts: &CallParts,
     out: &mut Items<CoreStmt>,
 ) -> Result<Counts, NoMemory>
     ensures out { OnOk result (out.new ≡ out.old ++ spec.call_of (names_in scope.now) (number_of callees.now)
-        (slots_from at.args args.now) names.now callee.now args.now
-        (procedure_in (program_of callees.now).decls callee.now)) }
+        (slots_from at.args parts.now.args.now) parts.now.names.now parts.now.callee.now parts.now.args.now
+        (procedure_in (program_of callees.now).decls parts.now.callee.now)) }
     ensures next { IfOk result (λ next. counts_in next ≡ spec.plus (counts_in at)
-        (record { calls = 1; args = length args.now; lefts = 0; loops = 0 })) }
+        (record { calls = 1; args = length parts.now.args.now; lefts = 0; loops = 0 })) }
 {
-    if let Some(procedure) = callees.named(callee) {
-        push_call(
-            alloc,
-            scope,
+    if let Some(procedure) = callees.named(parts.callee) {
+        let called = Called {
             procedure,
-            callees.number(callee),
-            at.args,
-            names,
-            args,
-            out,
-        )?;
+            number: callees.number(parts.callee),
+            first: at.args,
+        };
+        push_call(alloc, scope, &called, parts, out)?;
     }
-    plus(at, count_call(length_of(args)?))
+    plus(at, count_call(length_of(parts.args)?))
 }

@@ -20,17 +20,17 @@ pub(crate) struct Callees<'a> {
     numbers: HashMap<Name, u32>,
     total: u32,
     ghost found: { (f : Text) → unwrap_or (get same_text numbers f) total
-        ≡ number_from (record { decls = routines.procedures.decls.now }) 0 routines.procedures.decls.now f },
+        ≡ number_from (record { decls = routines.decls.now }) 0 routines.decls.now f },
 }
 
 impl<'a> Callees<'a> {
     /// Numbers the procedures of a program.
     pub(crate) fn new(alloc: Global, routines: Routines<'a>) -> Result<Callees<'a>, NoMemory>
-        ensures { IfOk result (λ callees. callees.routines.procedures.decls.now ≡ routines.entry.procedures.decls.now) }
+        ensures { IfOk result (λ callees. callees.routines.decls.now ≡ routines.entry.decls.now) }
     {
         let mut numbers = HashMap::new(alloc);
         let mut next = 0;
-        for decl in routines.procedures.decls {
+        for decl in routines.decls {
             next = enter_number(alloc, &routines, decl, next, &mut numbers)?;
         }
         Ok(Callees {
@@ -42,15 +42,15 @@ impl<'a> Callees<'a> {
 
     /// The procedure of this name.
     pub(crate) fn named(&self, name: &Name) -> Option<&'a Proc>
-        ensures { option_copied result ≡ procedure_in self.now.routines.procedures.decls.now name.now }
+        ensures { option_copied result ≡ procedure_in self.now.routines.decls.now name.now }
     {
-        self.routines.procedures.named(name)
+        self.routines.procedure(name)
     }
 
     /// The number of the procedure of this name.
     pub(crate) fn number(&self, name: &Name) -> u32
-        ensures { result ≡ number_from (record { decls = self.now.routines.procedures.decls.now }) 0
-            self.now.routines.procedures.decls.now name.now }
+        ensures { result ≡ number_from (record { decls = self.now.routines.decls.now }) 0
+            self.now.routines.decls.now name.now }
     {
         self.numbers.get(name).copied().unwrap_or(self.total)
     }

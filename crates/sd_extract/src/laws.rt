@@ -1,5 +1,6 @@
 //! What extraction keeps.
-ghost use Rattle.sd_extract.specs.Laws.{RunsAreKept, ProceduresAreKept, AxiomsAreKept, ExtractedIsFormed, FailuresAreKept, PropositionalIsKept, RootsAreProcedures};
+ghost use Rattle.sd_extract.specs.Laws.{RunsAreKept, ProceduresAreKept, AxiomsAreKept, ExtractedIsFormed};
+ghost use Rattle.sd_extract.specs.Laws.{FailuresAreKept, PropositionalIsKept, RootsAreProcedures};
 
 /// With every number of steps, a run of a procedure and the flagged run of its core procedure have the same end: they
 /// fail, are blocked and lack steps together, and give the same values.

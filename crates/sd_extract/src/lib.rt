@@ -9,7 +9,6 @@ mod callees;
 mod clause;
 mod counts;
 mod declarations;
-mod decls;
 mod expression;
 mod extraction;
 mod frame;

@@ -9,7 +9,8 @@ ghost use Rattle.sd_extract.specs.Extract.{counts_each, copies_of, state_of, loo
 ghost use Rattle.sd_extract.specs.Scopes.{frame_in, spots_of};
 ghost use Rattle.sd_extract.specs.Counted.{counts_in, has_return_among};
 ghost use Rattle.sd_extract.specs.Numbered.{program_of, number_of};
-ghost use Rattle.sd_extract.specs.Sources.{source_in, start_at, turn_with, loop_with, left_out, copies_among, AreGlobals, IsLayout};
+ghost use Rattle.sd_extract.specs.Sources.{source_in, start_at, turn_with, loop_with, left_out, copies_among};
+ghost use Rattle.sd_extract.specs.Sources.{AreGlobals, IsLayout};
 
 use crate::callees::Callees;
 use crate::clause::push_invariants;
@@ -40,22 +41,43 @@ pub(crate) fn start(first: u32, inside: Counts, loops: u32) -> Result<Counts, No
     })
 }
 
+/// A procedure with a body, and where its variables are kept.
+#[derive(Clone, Copy, Drop)]
+pub(crate) struct Placed<'a> {
+    pub(crate) source: &'a Source<'a>,
+    pub(crate) layout: &'a Layout,
+}
+
+/// A loop of a text.
+#[derive(Clone, Copy, Drop)]
+struct WhileLoop<'a> {
+    guard: &'a Expr,
+    invariants: &'a [Invariant],
+    body: &'a [Stmt],
+}
+
+/// A loop with its number, where it says whether it left the procedure, and where the counts of its turn begin.
+#[derive(Clone, Copy, Drop)]
+struct Loop<'a> {
+    number: u32,
+    left: Option<Spot>,
+    at: Counts,
+    parts: WhileLoop<'a>,
+}
+
 /// A turn of a loop, and the loop again.
 fn turn(
     alloc: Global,
     callees: &Callees,
     frame: &Frame,
-    at: Counts,
-    number: u32,
-    left: Option<Spot>,
-    body: &[Stmt],
+    inner: &Loop,
 ) -> Result<Items<CoreStmt>, NoMemory>
     ensures { IfOk result (λ ss. ss ≡ turn_with (program_of callees.now) (number_of callees.now) (frame_in frame.now)
-        (counts_in at) number (spots_of left) (kinds_of body.now)) }
+        (counts_in inner.now.at) inner.now.number (spots_of inner.now.left) (kinds_of inner.now.parts.body.now)) }
 {
     let mut out = Items::new(alloc);
-    push_stmts(alloc, callees, frame, at, body, &mut out)?;
-    out.push(loop_call(alloc, frame, number, left)?)?;
+    push_stmts(alloc, callees, frame, inner.at, inner.parts.body, &mut out)?;
+    out.push(loop_call(alloc, frame, inner.number, inner.left)?)?;
     Ok(out)
 }
 
@@ -83,25 +105,20 @@ fn loop_stmts(
     callees: &Callees,
     frame: &Frame,
     received: &[Spot],
-    at: Counts,
-    number: u32,
-    left: Option<Spot>,
-    guard: &Expr,
-    invariants: &[Invariant],
-    body: &[Stmt],
+    inner: &Loop,
 ) -> Result<Items<CoreStmt>, NoMemory>
     ensures { IfOk result (λ ss. ss ≡ loop_with (program_of callees.now) (number_of callees.now) (frame_in frame.now)
-        received.now (counts_in at) number guard.now (clauses_of invariants.now) (spots_of left)
-        (kinds_of body.now)) }
+        received.now (counts_in inner.now.at) inner.now.number inner.now.parts.guard.now
+        (clauses_of inner.now.parts.invariants.now) (spots_of inner.now.left) (kinds_of inner.now.parts.body.now)) }
 {
     let mut out = Items::new(alloc);
     let mut es = Items::new(alloc);
     push_reads(received, &mut es)?;
     put(Items::from_slice(alloc, frame.state)?, es, &mut out)?;
-    push_not_left(alloc, left, &mut out)?;
-    push_invariants(alloc, &frame.scope, invariants, &mut out)?;
-    let holds = expression(alloc, &frame.scope, &guard.kind)?;
-    let again = turn(alloc, callees, frame, at, number, left, body)?;
+    push_not_left(alloc, inner.left, &mut out)?;
+    push_invariants(alloc, &frame.scope, inner.parts.invariants, &mut out)?;
+    let holds = expression(alloc, &frame.scope, &inner.parts.guard.kind)?;
+    let again = turn(alloc, callees, frame, inner)?;
     out.push(CoreStmt::If(holds, again, Items::new(alloc)))?;
     Ok(out)
 }
@@ -200,40 +217,36 @@ fn hidden_locals(
 fn loop_proc(
     alloc: Global,
     callees: &Callees,
-    source: &Source,
-    layout: &Layout,
+    placed: &Placed,
     number: u32,
-    guard: &Expr,
-    invariants: &[Invariant],
-    body: &[Stmt],
+    parts: &WhileLoop,
 ) -> Result<CoreProc, NoMemory>
-    requires globals { AreGlobals source.now.globals.now }
-    requires layout { IsLayout (source_in source.now) layout.now }
+    requires globals { AreGlobals placed.now.source.now.globals.now }
+    requires layout { IsLayout (source_in placed.now.source.now) placed.now.layout.now }
     ensures { IfOk result
-        (λ p. p ≡ spec.loop_proc (program_of callees.now) (number_of callees.now) (source_in source.now)
-        number guard.now (clauses_of invariants.now) (has_return_among (kinds_of body.now)) (kinds_of body.now)) }
+        (λ p. p ≡ spec.loop_proc (program_of callees.now) (number_of callees.now) (source_in placed.now.source.now)
+        number parts.now.guard.now (clauses_of parts.now.invariants.now)
+        (has_return_among (kinds_of parts.now.body.now)) (kinds_of parts.now.body.now)) }
 {
-    let inside = count_stmts(body)?;
+    let source = placed.source;
+    let layout = placed.layout;
+    let inside = count_stmts(parts.body)?;
     let frame = turn_frame(source, layout);
     let at = start(
         first_hidden(layout, inside.returns)?,
         inside.counts,
         add(1, number)?,
     )?;
-    let stmts = loop_stmts(
-        alloc,
-        callees,
-        &frame,
-        layout.slots.state.as_slice(),
-        at,
+    let inner = Loop {
         number,
-        left_spot(layout, inside.returns),
-        guard,
-        invariants,
-        body,
-    )?;
+        left: left_spot(layout, inside.returns),
+        at,
+        parts: *parts,
+    };
+    let received = layout.slots.state.as_slice();
+    let stmts = loop_stmts(alloc, callees, &frame, received, &inner)?;
     let place = number.saturating_sub(source.number);
-    let locals = hidden_locals(alloc, callees, place, body)?;
+    let locals = hidden_locals(alloc, callees, place, parts.body)?;
     Ok(CoreProc {
         name: loop_name(alloc, &source.head.name, place)?,
         parent: Some((source.number, place)),
@@ -251,37 +264,32 @@ fn loop_proc(
 fn push_loops_of(
     alloc: Global,
     callees: &Callees,
-    source: &Source,
-    layout: &Layout,
+    placed: &Placed,
     number: u32,
     kind: &StmtKind,
     out: &mut Items<CoreProc>,
 ) -> Result<u32, NoMemory>
-    requires globals { AreGlobals source.now.globals.now }
-    requires layout { IsLayout (source_in source.now) layout.now }
+    requires globals { AreGlobals placed.now.source.now.globals.now }
+    requires layout { IsLayout (source_in placed.now.source.now) placed.now.layout.now }
     ensures out { OnOk result (out.new ≡ out.old ++ loops_in (program_of callees.now) (number_of callees.now)
-        (source_in source.now) number kind.now) }
+        (source_in placed.now.source.now) number kind.now) }
     ensures next { IfOk result (λ next. next ≡ number + (spec.counts kind.now).loops) }
 {
     match kind {
         StmtKind::If(_, yes, no) => {
-            let next = push_loops(alloc, callees, source, layout, number, yes.as_slice(), out)?;
-            let last = push_loops(alloc, callees, source, layout, next, no.as_slice(), out)?;
+            let next = push_loops(alloc, callees, placed, number, yes.as_slice(), out)?;
+            let last = push_loops(alloc, callees, placed, next, no.as_slice(), out)?;
             Ok(last)
         }
         StmtKind::While(guard, invariants, body) => {
-            out.push(loop_proc(
-                alloc,
-                callees,
-                source,
-                layout,
-                number,
+            let parts = WhileLoop {
                 guard,
-                invariants.as_slice(),
-                body.as_slice(),
-            )?)?;
+                invariants: invariants.as_slice(),
+                body: body.as_slice(),
+            };
+            out.push(loop_proc(alloc, callees, placed, number, &parts)?)?;
             let next = add(1, number)?;
-            let last = push_loops(alloc, callees, source, layout, next, body.as_slice(), out)?;
+            let last = push_loops(alloc, callees, placed, next, body.as_slice(), out)?;
             Ok(last)
         }
         _ => Ok(number),
@@ -293,21 +301,20 @@ fn push_loops_of(
 pub(crate) fn push_loops(
     alloc: Global,
     callees: &Callees,
-    source: &Source,
-    layout: &Layout,
+    placed: &Placed,
     number: u32,
     stmts: &[Stmt],
     out: &mut Items<CoreProc>,
 ) -> Result<u32, NoMemory>
-    requires globals { AreGlobals source.now.globals.now }
-    requires layout { IsLayout (source_in source.now) layout.now }
+    requires globals { AreGlobals placed.now.source.now.globals.now }
+    requires layout { IsLayout (source_in placed.now.source.now) placed.now.layout.now }
     ensures out { OnOk result (out.new ≡ out.old ++ each_loop_in (program_of callees.now) (number_of callees.now)
-        (source_in source.now) number (kinds_of stmts.now)) }
+        (source_in placed.now.source.now) number (kinds_of stmts.now)) }
     ensures next { IfOk result (λ next. next ≡ number + (counts_each (kinds_of stmts.now)).loops) }
 {
     let mut next = number;
     for stmt in stmts {
-        next = push_loops_of(alloc, callees, source, layout, next, &stmt.kind, out)?;
+        next = push_loops_of(alloc, callees, placed, next, &stmt.kind, out)?;
     }
     Ok(next)
 }

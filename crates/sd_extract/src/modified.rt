@@ -2,8 +2,7 @@
 ghost use Rattle.std.specs.Prelude.{◌≡◌, ◌∷◌, ◌++◌, [], IfOk, OnOk};
 ghost use Rattle.std.specs.Option.{option_copied};
 ghost use Rattle.std.specs.List.{filter_map};
-ghost use Rattle.std.specs.HashMap.{get};
-ghost use Rattle.sd_base.specs.Value.{same_text};
+ghost use Rattle.sd_base.specs.FirstPlaces.{place_of};
 ghost use Rattle.sd_extract.specs.Extract as spec;
 ghost use Rattle.sd_extract.specs.Extract.{index_in, var_in};
 ghost use Rattle.sd_extract.specs.Modified.{HasSeen, with_new, all_new, specs_new};
@@ -11,26 +10,25 @@ ghost use Rattle.sd_extract.specs.Sources.{AreGlobals};
 
 use crate::source::Globals;
 use sd_ast::Spec;
-use sd_base::{CloneOf, Name, NoMemory, Var};
+use sd_base::{CloneOf, FirstPlaces, Name, NoMemory, Var};
 use sqlite_items::{Items, at};
 use std::alloc::Global;
-use std::collections::HashMap;
 
 /// Adds a name that isn't there.
 fn push_new(
     alloc: Global,
     names: &mut Items<Name>,
-    seen: &mut HashMap<Name, u32>,
+    seen: &mut FirstPlaces,
     name: &Name,
 ) -> Result<(), NoMemory>
-    requires { HasSeen (get same_text seen.old) names.old }
+    requires { HasSeen (place_of seen.old) names.old }
     ensures names { OnOk result (names.new ≡ with_new names.old name.now) }
-    ensures seen { OnOk result (HasSeen (get same_text seen.new) names.new) }
+    ensures seen { OnOk result (HasSeen (place_of seen.new) names.new) }
 {
-    match seen.get(name).copied() {
+    match seen.find(name) {
         Some(_) => Ok(()),
         None => {
-            seen.insert(name.clone_of(alloc)?, 0)?;
+            seen.enter(alloc, name, names.len())?;
             names.push(name.clone_of(alloc)?)?;
             Ok(())
         }
@@ -41,12 +39,12 @@ fn push_new(
 fn push_all_new(
     alloc: Global,
     names: &mut Items<Name>,
-    seen: &mut HashMap<Name, u32>,
+    seen: &mut FirstPlaces,
     more: &[Name],
 ) -> Result<(), NoMemory>
-    requires { HasSeen (get same_text seen.old) names.old }
+    requires { HasSeen (place_of seen.old) names.old }
     ensures names { OnOk result (names.new ≡ all_new names.old more.now) }
-    ensures seen { OnOk result (HasSeen (get same_text seen.new) names.new) }
+    ensures seen { OnOk result (HasSeen (place_of seen.new) names.new) }
 {
     for name in more {
         push_new(alloc, names, seen, name)?;
@@ -58,12 +56,12 @@ fn push_all_new(
 fn push_clause(
     alloc: Global,
     names: &mut Items<Name>,
-    seen: &mut HashMap<Name, u32>,
+    seen: &mut FirstPlaces,
     clause: &Spec,
 ) -> Result<(), NoMemory>
-    requires { HasSeen (get same_text seen.old) names.old }
+    requires { HasSeen (place_of seen.old) names.old }
     ensures names { OnOk result (names.new ≡ specs_new names.old (clause.now ∷ [])) }
-    ensures seen { OnOk result (HasSeen (get same_text seen.new) names.new) }
+    ensures seen { OnOk result (HasSeen (place_of seen.new) names.new) }
 {
     match clause {
         Spec::Modifies(more) => push_all_new(alloc, names, seen, more.as_slice()),
@@ -76,7 +74,7 @@ pub(crate) fn modified_names(alloc: Global, clauses: &[Spec]) -> Result<Items<Na
     ensures { IfOk result (λ names. names ≡ spec.modified_names clauses.now []) }
 {
     let mut names = Items::new(alloc);
-    let mut seen = HashMap::new(alloc);
+    let mut seen = FirstPlaces::new(alloc);
     for clause in clauses {
         push_clause(alloc, &mut names, &mut seen, clause)?;
     }

@@ -43,9 +43,9 @@ pub(crate) fn enter_number(
 ) -> Result<u32, NoMemory>
     ensures { IfOk result (λ after. (f : Text) (ds : List Declaration)
         → unwrap_or (get same_text numbers.new f)
-        (number_from (record { decls = routines.now.procedures.decls.now }) after ds f)
+        (number_from (record { decls = routines.now.decls.now }) after ds f)
         ≡ unwrap_or (get same_text numbers.old f)
-        (number_from (record { decls = routines.now.procedures.decls.now }) next (decl.now ∷ ds) f)) }
+        (number_from (record { decls = routines.now.decls.now }) next (decl.now ∷ ds) f)) }
 {
     match decl {
         Decl::Procedure(proc) => {

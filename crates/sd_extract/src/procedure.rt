@@ -16,10 +16,9 @@ use crate::counts::{Counts, add, count_stmts, none};
 use crate::frame::{Frame, push_leave, put};
 use crate::frames::body_frame;
 use crate::hidden::push_hidden;
-use crate::loops::{push_copies, push_loops, start};
+use crate::loops::{Placed, push_copies, push_loops, start};
 use crate::source::{Layout, Source, layout_of};
 use crate::statement::push_stmts;
-use sd_ast::{Proc, Stmt};
 use sd_base::{CloneOf, NoMemory, Var, clone_items};
 use sd_core::{CoreExpr, CoreProc, CoreStmt, Spot};
 use sqlite_items::Items;
@@ -41,19 +40,35 @@ fn body_stmts(
     alloc: Global,
     callees: &Callees,
     frame: &Frame,
-    modifies: &[u32],
-    declared: &Proc,
+    source: &Source,
     at: Counts,
-    stmts: &[Stmt],
 ) -> Result<Items<CoreStmt>, NoMemory>
     ensures { IfOk result (λ ss. ss ≡ body_with (program_of callees.now) (number_of callees.now) (frame_in frame.now)
-        modifies.now declared.now (counts_in at) (kinds_of stmts.now)) }
+        source.now.modifies source.now.declared.now (counts_in at) (kinds_of source.now.body.now.stmts)) }
 {
     let mut out = Items::new(alloc);
     let copies = Items::from_slice(alloc, frame.copies)?;
-    put(copies, global_reads(alloc, modifies)?, &mut out)?;
-    push_requires_on(alloc, &frame.scope, declared, frame.ins, true, &mut out)?;
-    push_stmts(alloc, callees, frame, at, stmts, &mut out)?;
+    put(
+        copies,
+        global_reads(alloc, source.modifies.as_slice())?,
+        &mut out,
+    )?;
+    push_requires_on(
+        alloc,
+        &frame.scope,
+        source.declared,
+        frame.ins,
+        true,
+        &mut out,
+    )?;
+    push_stmts(
+        alloc,
+        callees,
+        frame,
+        at,
+        source.body.stmts.as_slice(),
+        &mut out,
+    )?;
     push_leave(alloc, &frame.leave, &mut out)?;
     Ok(out)
 }
@@ -91,15 +106,7 @@ fn body_proc(
     let inside = count_stmts(source.body.stmts.as_slice())?;
     let frame = body_frame(source, layout);
     let at = start(layout.slots.hidden, inside.counts, add(1, source.number)?)?;
-    let body = body_stmts(
-        alloc,
-        callees,
-        &frame,
-        source.modifies.as_slice(),
-        source.declared,
-        at,
-        source.body.stmts.as_slice(),
-    )?;
+    let body = body_stmts(alloc, callees, &frame, source, at)?;
     Ok(CoreProc {
         name: source.head.name.clone_of(alloc)?,
         parent: None,
@@ -127,11 +134,14 @@ pub(crate) fn push_procs(
     let layout = layout_of(alloc, source)?;
     out.push(body_proc(alloc, callees, source, &layout)?)?;
     let first = add(1, source.number)?;
+    let placed = Placed {
+        source,
+        layout: &layout,
+    };
     let next = push_loops(
         alloc,
         callees,
-        source,
-        &layout,
+        &placed,
         first,
         source.body.stmts.as_slice(),
         out,

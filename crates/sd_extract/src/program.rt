@@ -86,7 +86,7 @@ pub(crate) fn procs_in(
 {
     let mut out = Items::new(alloc);
     let mut next = 0;
-    for decl in callees.routines.procedures.decls {
+    for decl in callees.routines.decls {
         next = push_decl(alloc, callees, globals, decl, next, &mut out)?;
     }
     Ok(out)

@@ -34,9 +34,9 @@ fn own_body<'a>(declared: &'a Proc) -> Option<Routine<'a>>
 /// The procedure of this name, if it has a body.
 pub(crate) fn find_routine<'a>(routines: &Routines<'a>, name: &Name) -> Option<Routine<'a>>
     ensures { option_map routine_in result
-        ≡ routine_named (record { decls = routines.now.procedures.decls.now }) name.now }
+        ≡ routine_named (record { decls = routines.now.decls.now }) name.now }
 {
-    let Some(declared) = routines.procedures.named(name) else {
+    let Some(declared) = routines.procedure(name) else {
         return None;
     };
     match routines.implementation(name) {
@@ -52,7 +52,7 @@ pub(crate) fn find_routine<'a>(routines: &Routines<'a>, name: &Name) -> Option<R
 /// How many core procedures a procedure becomes.
 pub(crate) fn core_size(routines: &Routines, name: &Name) -> Result<u32, NoMemory>
     ensures { IfOk result
-        (λ n. n ≡ size_of (routine_named (record { decls = routines.now.procedures.decls.now }) name.now)) }
+        (λ n. n ≡ size_of (routine_named (record { decls = routines.now.decls.now }) name.now)) }
 {
     match find_routine(routines, name) {
         None => Ok(0),

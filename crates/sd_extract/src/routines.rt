@@ -1,90 +1,119 @@
 //! The procedures of a program with their bodies, which are found by their names through tables.
-ghost use Rattle.std.specs.Prelude.{◌≡◌, IfOk, OnOk, Some, option_map, if◌then◌else◌};
+ghost use Rattle.std.specs.Prelude.{◌≡◌, IfOk, OnOk, Some, if◌then◌else◌};
+ghost use Rattle.std.specs.List.{position_from};
 ghost use Rattle.std.specs.Option.{option_copied};
-ghost use Rattle.std.specs.HashMap.{get};
-ghost use Rattle.sd_base.specs.Value.{Text, same_text};
-ghost use Rattle.sd_meaning.specs.Routine.{implementation_in};
-ghost use Rattle.sd_extract.specs.Implementations.{implementation_of, is_implementation_named, place_from};
+ghost use Rattle.sd_base.specs.FirstPlaces.{place_of};
+ghost use Rattle.sd_base.specs.Value.{Text};
+ghost use Rattle.sd_meaning.specs.Routine.{procedure_in, implementation_in};
+ghost use Rattle.sd_extract.specs.Places.{item_at, procedure_of, implementation_of, is_procedure_named};
+ghost use Rattle.sd_extract.specs.Places.{is_implementation_named};
 
-use crate::decls::Procedures;
-use sd_ast::{Decl, Impl, Program};
-use sd_base::{CloneOf, Name, NoMemory};
+use sd_ast::{Decl, Impl, Proc, Program};
+use sd_base::{FirstPlaces, Name, NoMemory};
+use sqlite_items::at;
 use std::alloc::Global;
-use std::collections::HashMap;
 
 /// The procedures and implementations of a program.
 #[derive(Drop)]
 pub(crate) struct Routines<'a> {
-    pub(crate) procedures: Procedures<'a>,
-    implementations: HashMap<Name, usize>,
-    ghost found: { (f : Text) → get same_text implementations f ≡ place_from 0 procedures.decls.now f },
+    pub(crate) decls: &'a [Decl],
+    procedures: FirstPlaces,
+    implementations: FirstPlaces,
+    ghost procedures_found: { (f : Text)
+        → place_of procedures f ≡ position_from (is_procedure_named f) 0 decls.now },
+    ghost implementations_found: { (f : Text)
+        → place_of implementations f ≡ position_from (is_implementation_named f) 0 decls.now },
 }
 
-/// The implementation that a declaration is, if it is one.
-fn implementation_of(decl: &Decl) -> Option<&Impl>
-    ensures { option_copied result ≡ implementation_of decl.now }
-{
-    match decl {
-        Decl::Implementation(implementation) => Some(implementation),
-        _ => None,
-    }
-}
-
-/// Enters a declaration's place under its name, if it is an implementation.
+/// Enters a declaration's place under its name, if it is a procedure or an implementation.
 fn enter(
     alloc: Global,
-    places: &mut HashMap<Name, usize>,
+    procedures: &mut FirstPlaces,
+    implementations: &mut FirstPlaces,
     decl: &Decl,
     place: usize,
 ) -> Result<(), NoMemory>
-    ensures { OnOk result ((f : Text) → get same_text places.new f
-        ≡ (if is_implementation_named f decl.now then Some place else get same_text places.old f)) }
+    ensures procedures { OnOk result ((f : Text) → place_of procedures.new f
+        ≡ (if is_procedure_named f decl.now then Some place else place_of procedures.old f)) }
+    ensures implementations { OnOk result ((f : Text) → place_of implementations.new f
+        ≡ (if is_implementation_named f decl.now then Some place else place_of implementations.old f)) }
 {
     match decl {
+        Decl::Procedure(proc) => procedures.enter(alloc, &proc.head.name, place),
         Decl::Implementation(implementation) => {
-            places.insert(implementation.head.name.clone_of(alloc)?, place)?;
-            Ok(())
+            implementations.enter(alloc, &implementation.head.name, place)
         }
         _ => Ok(()),
     }
 }
 
-/// The places of the implementations, of which the first one of a name counts.
-fn implementation_places(alloc: Global, decls: &[Decl]) -> Result<HashMap<Name, usize>, NoMemory>
-    ensures { IfOk result (λ places. (f : Text) → get same_text places f ≡ place_from 0 decls.now f) }
+/// The declaration whose place a table has under this name.
+fn decl_at<'a>(decls: &'a [Decl], places: &FirstPlaces, name: &Name) -> Option<&'a Decl>
+    ensures { option_copied result ≡ item_at decls.now (place_of places.now name.now) }
 {
-    let mut places = HashMap::new(alloc);
-    let mut place = decls.len();
-    'decls: while place > 0 {
-        place -= 1;
-        enter(alloc, &mut places, &decls[place], place)?;
+    match places.find(name) {
+        None => None,
+        Some(place) => at(decls, place),
     }
-    Ok(places)
+}
+
+/// The procedure that a declaration is, if it is one.
+fn procedure_of(decl: Option<&Decl>) -> Option<&Proc>
+    ensures { option_copied result ≡ procedure_of (option_copied decl.entry) }
+{
+    match decl {
+        Some(Decl::Procedure(proc)) => Some(proc),
+        _ => None,
+    }
+}
+
+/// The implementation that a declaration is, if it is one.
+fn implementation_of(decl: Option<&Decl>) -> Option<&Impl>
+    ensures { option_copied result ≡ implementation_of (option_copied decl.entry) }
+{
+    match decl {
+        Some(Decl::Implementation(implementation)) => Some(implementation),
+        _ => None,
+    }
 }
 
 impl<'a> Routines<'a> {
-    /// The tables of a program's procedures and implementations.
+    /// The tables of a program's procedures and implementations, of which the first one of a name counts.
     pub(crate) fn new(alloc: Global, program: &'a Program) -> Result<Routines<'a>, NoMemory>
-        ensures { IfOk result (λ routines. routines.procedures.decls.now ≡ program.now.decls) }
+        ensures { IfOk result (λ routines. routines.decls.now ≡ program.now.decls) }
     {
-        let procedures = Procedures::new(alloc, program)?;
-        let implementations = implementation_places(alloc, procedures.decls)?;
+        let decls = program.decls.as_slice();
+        let mut procedures = FirstPlaces::new(alloc);
+        let mut implementations = FirstPlaces::new(alloc);
+        let mut place = decls.len();
+        'decls: while place > 0 {
+            place -= 1;
+            enter(
+                alloc,
+                &mut procedures,
+                &mut implementations,
+                &decls[place],
+                place,
+            )?;
+        }
         Ok(Routines {
+            decls,
             procedures,
             implementations,
         })
     }
 
+    /// The procedure of this name.
+    pub(crate) fn procedure(&self, name: &Name) -> Option<&'a Proc>
+        ensures { option_copied result ≡ procedure_in self.now.decls.now name.now }
+    {
+        procedure_of(decl_at(self.decls, &self.procedures, name))
+    }
+
     /// The implementation of this name.
     pub(crate) fn implementation(&self, name: &Name) -> Option<&'a Impl>
-        ensures { option_copied result ≡ implementation_in self.now.procedures.decls.now name.now }
+        ensures { option_copied result ≡ implementation_in self.now.decls.now name.now }
     {
-        match self.implementations.get(name).copied() {
-            None => None,
-            Some(place) => match self.procedures.decls.get(place) {
-                None => None,
-                Some(decl) => implementation_of(decl),
-            },
-        }
+        implementation_of(decl_at(self.decls, &self.implementations, name))
     }
 }

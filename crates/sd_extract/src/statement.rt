@@ -8,7 +8,7 @@ ghost use Rattle.sd_extract.specs.Counted.{counts_in, has_return_among};
 ghost use Rattle.sd_extract.specs.Numbered.{program_of, number_of};
 
 use crate::assignment::assignment;
-use crate::call::call;
+use crate::call::{CallParts, call};
 use crate::callees::Callees;
 use crate::clause::push_check;
 use crate::counts::{Counts, count_loop, count_stmts, plus};
@@ -71,16 +71,14 @@ pub(crate) fn push_stmt(
             out.push(assignment(alloc, &frame.scope, lefts.as_slice(), rights.as_slice())?)?;
             Ok(at)
         }
-        StmtKind::Call(names, callee, args) => call(
-            alloc,
-            callees,
-            &frame.scope,
-            at,
-            names.as_slice(),
-            callee,
-            args.as_slice(),
-            out,
-        ),
+        StmtKind::Call(names, callee, args) => {
+            let parts = CallParts {
+                names: names.as_slice(),
+                callee,
+                args: args.as_slice(),
+            };
+            call(alloc, callees, &frame.scope, at, &parts, out)
+        }
         StmtKind::If(e, yes, no) => {
             let holds = expression(alloc, &frame.scope, &e.kind)?;
             let mut then = Items::new(alloc);

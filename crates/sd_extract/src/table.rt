@@ -1,24 +1,23 @@
 //! Lists of names that are looked up through a table.
 ghost use Rattle.std.specs.Prelude.{◌≡◌, ◌++◌, IfOk, OnOk};
-ghost use Rattle.std.specs.HashMap.{get};
-ghost use Rattle.sd_base.specs.Value.{Text, same_text};
+ghost use Rattle.sd_base.specs.FirstPlaces.{place_of};
+ghost use Rattle.sd_base.specs.Names.{place_from};
+ghost use Rattle.sd_base.specs.Value.{Text};
 ghost use Rattle.sd_ast.specs.Tree.{names_of};
 ghost use Rattle.sd_extract.specs.Names.{place_in};
-ghost use Rattle.sd_extract.specs.Positions.{position_from};
 
-use sd_base::{CloneOf, Name, NoMemory, Var};
+use sd_base::{CloneOf, FirstPlaces, Name, NoMemory, Var};
 use sd_core::Spot;
 use sqlite_items::{Items, at};
 use std::alloc::Global;
-use std::collections::HashMap;
 use std::marker::Model;
 
 /// A list of names. The first of equal ones is found.
 #[derive(Drop)]
 pub(crate) struct NameTable {
     names: Items<Name>,
-    places: HashMap<Name, usize>,
-    ghost found: { (x : Text) → get same_text places x ≡ position_from 0 names x },
+    places: FirstPlaces,
+    ghost found: { (x : Text) → place_of places x ≡ place_from 0 names x },
 }
 
 impl Model for NameTable {
@@ -34,15 +33,15 @@ impl NameTable {
     pub(crate) fn new(alloc: Global, names: Items<Name>) -> Result<NameTable, NoMemory>
         ensures { IfOk result (λ table. table ≡ names) }
     {
-        let places = positions(alloc, names.as_slice())?;
+        let places = FirstPlaces::of_names(alloc, names.as_slice())?;
         Ok(NameTable { names, places })
     }
 
     /// The place of a name in the list.
     pub(crate) fn position(&self, name: &Name) -> Option<usize>
-        ensures { result ≡ position_from 0 self.now name.now }
+        ensures { result ≡ place_from 0 self.now name.now }
     {
-        self.places.get(name).copied()
+        self.places.find(name)
     }
 
     /// The spot of a name, where these are the spots of the names.
@@ -54,19 +53,6 @@ impl NameTable {
             Some(place) => at(spots, place).copied(),
         }
     }
-}
-
-/// The places of names in a list, where the first of equal ones counts.
-fn positions(alloc: Global, names: &[Name]) -> Result<HashMap<Name, usize>, NoMemory>
-    ensures { IfOk result (λ places. (x : Text) → get same_text places x ≡ position_from 0 names.now x) }
-{
-    let mut places = HashMap::new(alloc);
-    let mut place = names.len();
-    'names: while place > 0 {
-        place -= 1;
-        places.insert(names[place].clone_of(alloc)?, place)?;
-    }
-    Ok(places)
 }
 
 /// Puts the names of variables at the end of a list.

@@ -1,5 +1,5 @@
 use Rattle.sd_extract.specs.Scopes.{names_in}
-use Rattle.sd_extract.proofs.CodeAssignments.{lefts_done, rights_done}
+use Rattle.sd_extract.proofs.CodeExpressions.{lefts_done, rights_done}
 use Rattle.sd_extract.proofs.assignment.all_stored_at.Goals as goal
 use Rattle.sd_extract.proofs.assignment.all_stored_at.Goals.{then-sides-test+else-place-rights, else-sides-test}
 

@@ -2,7 +2,7 @@ use Rattle.std.proofs.Common.{◌≡◌, ◌∙◌, sym, ap, ◌+◌, ◌-◌, �
 use Rattle.sd_extract.specs.Scopes.{names_in, reads}
 use Rattle.sd_extract.specs.Names.{at_place, place_of, core_of}
 use Rattle.sd_extract.specs.Extract.{cores}
-use Rattle.sd_extract.proofs.CodeAssignments.{stored_more}
+use Rattle.sd_extract.proofs.CodeExpressions.{stored_more}
 use Rattle.sd_extract.proofs.assignment.stored_at.Goals as goal
 
 pub indices-preserved : goal.indices-preserved

@@ -7,6 +7,6 @@ use Rattle.sd_extract.proofs.loops.+loops.Given as goal
 
 abbrev pub invariant-push_loops-loop-stmt : goal.invariant-push_loops-loop-stmt
 invariant-push_loops-loop-stmt l = record {
-  out : l.out ++ each_loop_in (program_of l.callees) (number_of l.callees) (source_in l.source) l.next (kinds_of (drop l.stmt-index l.stmts)) ≡ l.initial.out ++ each_loop_in (program_of l.callees) (number_of l.callees) (source_in l.source) l.fn.number (kinds_of l.stmts);
+  out : l.out ++ each_loop_in (program_of l.callees) (number_of l.callees) (source_in l.placed.source.now) l.next (kinds_of (drop l.stmt-index l.stmts)) ≡ l.initial.out ++ each_loop_in (program_of l.callees) (number_of l.callees) (source_in l.placed.source.now) l.fn.number (kinds_of l.stmts);
   next : l.next + (counts_each (kinds_of (drop l.stmt-index l.stmts))).loops ≡ l.fn.number + (counts_each (kinds_of l.stmts)).loops;
 }

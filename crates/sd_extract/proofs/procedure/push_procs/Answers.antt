@@ -1,6 +1,6 @@
 use Rattle.sd_extract.specs.Numbered.{program_of, number_of}
 use Rattle.sd_extract.specs.Sources.{source_in}
-use Rattle.sd_extract.proofs.CodeProcedures.{procs_made}
+use Rattle.sd_extract.proofs.CodeLoops.{procs_made}
 use Rattle.sd_extract.proofs.procedure.push_procs.Goals as goal
 
 pub returns-clause-out : goal.returns-clause-out

@@ -7,4 +7,4 @@ use Rattle.sd_extract.proofs.callees.Callees.new.Given as goal
 
 abbrev pub invariant-loop-decl : goal.invariant-loop-decl
 invariant-loop-decl l =
-    (f : Text) → unwrap_or (get same_text l.numbers f) (number_from (record { decls = l.routines.procedures.decls.now }) l.next (drop l.decl-index l.routines.procedures.decls.now) f) ≡ number_from (record { decls = l.routines.procedures.decls.now }) 0 l.routines.procedures.decls.now f
+    (f : Text) → unwrap_or (get same_text l.numbers f) (number_from (record { decls = l.routines.decls.now }) l.next (drop l.decl-index l.routines.decls.now) f) ≡ number_from (record { decls = l.routines.decls.now }) 0 l.routines.decls.now f
