@@ -15,11 +15,12 @@ Without names all rows are run. A row is a folder whose name says what it shows.
     stdout           exactly what the program must write; without it, nothing
     status           the exit status; without it, 0
     certificate_out  exactly what the file `certificate` must hold after the run
+    branches         how many branches a proof in the file `certificate` closes at most after the run; it has one proof at least
     then_words, then_stdout, then_status
                      a second run in the same folder
 
 Each row runs in a folder of its own that holds copies of its texts and of its certificate. Afterwards these must be as they were, but for
-the certificate of a row with `certificate_out` or a second run, and no other file may be there.
+the certificate of a row with `certificate_out`, `branches` or a second run, and no other file may be there.
 A line is printed for each row that falls short. The last line is `N passed, M failed`.
 """
 
@@ -31,7 +32,7 @@ import tempfile
 
 ROWS = os.path.join(os.path.dirname(os.path.abspath(__file__)), "rows")
 TEXTS = ("old", "new")
-KNOWN = {"about", "words", "certificate", "stdout", "status", "certificate_out", "then_words", "then_stdout", "then_status"}
+KNOWN = {"about", "words", "certificate", "stdout", "status", "certificate_out", "branches", "then_words", "then_stdout", "then_status"}
 KNOWN |= {name + ending for name in TEXTS for ending in (".bpl", ".repeat")}
 SECONDS = 120
 
@@ -87,6 +88,28 @@ def fault_of_run(program, folder, row, prefix):
     return None
 
 
+def closed_branches(certificate):
+    """How many branches each proof of a certificate closes."""
+    counts = []
+    for line in certificate.decode().splitlines():
+        word = line.split(" ", 1)[0]
+        if word == "candidate":
+            counts.append(0)
+        elif word in ("close", "rows"):
+            counts[-1] += 1
+    return counts
+
+
+def fault_of_branches(certificate, most):
+    """Why the proofs of a certificate are too long, or None."""
+    counts = closed_branches(certificate or b"")
+    if not counts:
+        return "the certificate has no proof"
+    if max(counts) > most:
+        return "a proof closes %d branches, and not at most %d" % (max(counts), most)
+    return None
+
+
 def fault_of(program, row):
     """Why a row falls short, or None."""
     others = sorted(set(os.listdir(row)) - KNOWN)
@@ -105,6 +128,12 @@ def fault_of(program, row):
                 return ("second run: " if prefix else "") + fault
         after = {name: read(os.path.join(folder, name)) for name in os.listdir(folder)}
     expected = dict(before)
+    most = read(os.path.join(row, "branches"))
+    if most is not None:
+        fault = fault_of_branches(after.get("certificate"), int(most))
+        if fault:
+            return fault
+        expected["certificate"] = after["certificate"]
     if written is not None:
         expected["certificate"] = written
     elif has_second and "certificate" in after:

@@ -48,7 +48,8 @@ fn guessed(alloc: Global, query: &Query, leaves: u32) -> Result<Finding, Stop> {
         let steps = state.steps_of(refutation, leaves)?;
         return Ok(Finding::Steps(steps));
     }
-    match state.settled {
+    let settled = state.settled;
+    match settled {
         Some(values) => Ok(Finding::Values(values)),
         None => Ok(Finding::Nothing),
     }

@@ -1,5 +1,5 @@
 -- the terms of a search: well sorted, needed and with their parts, and how they grow
-use Rattle.std.proofs.Common.{◌≡◌, List, [], ◌∷◌, ◌++◌, length, refl, subst, Bool, true, false, not, inl, inr, slice_get}
+use Rattle.std.proofs.Common.{◌≡◌, List, [], ◌∷◌, ◌++◌, length, refl, ap, ◌∙◌, subst, Bool, true, false, not, inl, inr, slice_get}
 use Rattle.sd_term.specs.declared.node.TermNode.{TermNode}
 use Rattle.sd_term.specs.Tree.{Tree, tree}
 use Rattle.sd_term.specs.Bank.{tree_of, grown, PartsBelow}
@@ -72,6 +72,21 @@ new-term terms trail line t w c e =
       sorted = fits-well line one.0 two.0 (sorted-in terms one.0 w p) (sorted-in terms two.0 w q) three.0;
       closed = IsClosed-more terms u c (p, (q, tt));
     })
+
+-- whether a term is numbered next doesn't depend on the facts
+pub term-outcome : (terms : List Tree) (b c : Trail) (line : NodeLine) (t : Tree) → outcome terms b (Term line) ≡ leaves (terms ++ t ∷ []) (b ∷ []) → outcome terms c (Term line) ≡ leaves (terms ++ t ∷ []) (c ∷ [])
+term-outcome terms b c line t e =
+    let next : Trail → Tree → Tree → Outcome = λ x a d. needs (fits line (sort_of a) (sort_of d)) Shape (numbers_next terms x (tree (line_head line) (a ∷ d ∷ []))) in
+    let one = named-leaves (slice_get terms (first_part line)) (λ a. named (slice_get terms (second_part line)) (next b a)) (terms ++ t ∷ []) (b ∷ []) e in
+    let two = named-leaves (slice_get terms (second_part line)) (next b one.0) (terms ++ t ∷ []) (b ∷ []) one.2 in
+    let u : Tree = tree (line_head line) (one.0 ∷ two.0 ∷ []) in
+    let three = needs-leaves (fits line (sort_of one.0) (sort_of two.0)) Shape (numbers_next terms b u) (terms ++ t ∷ []) (b ∷ []) two.2 in
+    let four = needs-leaves (not (has terms u)) Known (leaves (terms ++ u ∷ []) (b ∷ [])) (terms ++ t ∷ []) (b ∷ []) three.1 in
+    ap (λ o. named o (λ a. named (slice_get terms (second_part line)) (next c a))) one.1
+    ∙ ap (λ o. named o (next c one.0)) two.1
+    ∙ ap (λ q. needs q Shape (numbers_next terms c u)) three.0
+    ∙ ap (λ q. needs q Known (leaves (terms ++ u ∷ []) (c ∷ []))) four.0
+    ∙ ap (λ v. leaves (terms ++ v ∷ []) (c ∷ [])) (last-same terms u t (b ∷ []) (b ∷ []) four.1)
 
 -- what is asked for is needed
 pub required-needed : (facts terms : List Tree) (b : Trail) (t : Tree) → AreTerms facts terms → IsRequired terms b t → IsNeeded facts t

@@ -12,3 +12,4 @@ pub mod ChoiceLemmas
 pub mod Steps
 pub mod GrownTerms
 pub mod Runs
+pub mod Assignments

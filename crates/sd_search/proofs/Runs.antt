@@ -38,7 +38,7 @@ use Rattle.sd_search.proofs.OpenCubes.{open-cube}
 use Rattle.sd_search.proofs.AtomFacts.{atom-truth}
 use Rattle.sd_search.proofs.Behind.{past-self, past-fronts, past-turn, behind-past, behind-more, waiting-true, waiting-false, waiting-seconds}
 use Rattle.sd_search.proofs.Due.{Among, due-more, due-last, due-front, due-turn, all-apart, value_on, all-outside}
-use Rattle.sd_search.proofs.GrownTerms.{IsNew, new-term, required-needed, grown-terms, extra-last, first-terms}
+use Rattle.sd_search.proofs.GrownTerms.{IsNew, new-term, term-outcome, required-needed, grown-terms, extra-last, first-terms}
 use Rattle.sd_search.proofs.ChoiceLemmas.{required-atom}
 use Rattle.sd_search.proofs.Steps.{next-first, front-first, others-first, reads-none}
 
@@ -153,27 +153,27 @@ module _ (facts : List Tree) (s : State) (ids : List ℕ) (path : List Literal) 
 
   -- ---- a new term
 
-  module _ (line : NodeLine) (t : Tree) (required : IsRequired s.0 (front s) t) (made : outcome s.0 (front s) (Term line) ≡ leaves (s.0 ++ t ∷ []) (front s ∷ [])) where
+  module _ (line : NodeLine) (t : Tree) (b : Trail) (required : IsRequired s.0 b t) (made : outcome s.0 b (Term line) ≡ leaves (s.0 ++ t ∷ []) (b ∷ [])) where
     abbrev more : List Tree
     more = s.0 ++ t ∷ []
 
     term-next : next s (Term line) ≡ continues (more, branch ∷ rest)
     term-next =
         next-first s branch rest (Term line) r.branches
-        ∙ ap (after rest) (subst (λ b. outcome s.0 b (Term line) ≡ leaves more (b ∷ [])) front-is made)
+        ∙ ap (after rest) (term-outcome s.0 b branch line t made)
 
     pub term-continues : Continues s (Term line)
     term-continues = ((more, branch ∷ rest), term-next)
 
     pub term-new : IsNew s.0 t
-    term-new = new-term s.0 (front s) line t r.terms.sorted r.terms.closed made
+    term-new = new-term s.0 b line t r.terms.sorted r.terms.closed made
 
     pub term-terms : (s' : State) → next s (Term line) ≡ continues s' → s'.0 ≡ more
     term-terms s' e = ap (λ (w : State). w.0) (sym (continues-state (more, branch ∷ rest) s' (sym term-next ∙ e)))
 
     pub term-running : (s' : State) (node : TermNode) → next s (Term line) ≡ continues s' → PartsBelow (length s.0) node → tree_of s.0 node ≡ t → IsRunning facts s' ids path (extra ++ node ∷ []) cubes
     term-running s' node e below is =
-        let need : IsNeeded facts t = required-needed facts s.0 (front s) t r.terms required in
+        let need : IsNeeded facts t = required-needed facts s.0 b t r.terms required in
         let same : literals_of more path ≡ lits = literals-more s.0 (t ∷ []) path r.path_below in
         let up : (k : ℕ) → k < length s.0 → k < length more = λ k lt. omega (arith, lt, length-append s.0 (t ∷ [])) in
         let here : tree_of (grown (numbered facts) extra) node ≡ t = ap (λ ts. tree_of ts node) (sym r.grown_by) ∙ is in
@@ -188,7 +188,7 @@ module _ (facts : List Tree) (s : State) (ids : List ℕ) (path : List Literal) 
           facts_are = facts-more s.0 (t ∷ []) ids r.below ∙ r.facts_are;
           below = λ k d lt. up (get_or ids k d) (r.below k d lt);
           path_below = λ k d lt. up (get_or path k d).term (r.path_below k d lt);
-          due = subst (AreDue facts more []) (sym same) (due-more facts s.0 t r.terms term-new.lacks (required-atom s.0 (front s) t required) [] lits tt (among-literals s.0 path r.path_below) r.due);
+          due = subst (AreDue facts more []) (sym same) (due-more facts s.0 t r.terms term-new.lacks (required-atom s.0 b t required) [] lits tt (among-literals s.0 path r.path_below) r.due);
           closed = r.closed;
           apart = r.apart;
           behind = subst (λ fs. AllByRecursion (λ c. IsBehind fs (cube_literals facts c)) cubes) (sym same) r.behind;
@@ -293,7 +293,7 @@ module _ (facts : List Tree) (s : State) (ids : List ℕ) (path : List Literal) 
 
   -- ---- an open cube
 
-  truths-of : (ls : List Tree) → AllTruthValued ls → AllTruths (start ls)
+  pub truths-of : (ls : List Tree) → AllTruthValued ls → AllTruths (start ls)
   truths-of [] h = tt
   truths-of (u ∷ ls) h = (h.0, truths-of ls h.1)
 
@@ -305,9 +305,12 @@ module _ (facts : List Tree) (s : State) (ids : List ℕ) (path : List Literal) 
   truths-append [] b p q = q
   truths-append (f ∷ a) b p q = (p.0, truths-append a b p.1 q)
 
+  pub running-terms : (cube : Cube) → cube.extra ≡ extra → s.0 ≡ cube_terms facts cube
+  running-terms cube extra_is = r.grown_by ∙ ap (grown (numbered facts)) (sym extra_is)
+
   pub running-cube : (cube : Cube) (values : List (Option Bool)) → IsSettled facts s.0 (front s) → AreValuesUnder (front s) s.0 values → cube.extra ≡ extra → cube.literals ≡ atom_literals 0 s.0 values → IsOpenCube facts cube
   running-cube cube values settled is extra_is lits_are =
-      let same : s.0 ≡ cube_terms facts cube = r.grown_by ∙ ap (grown (numbered facts)) (sym extra_is) in
+      let same = running-terms cube extra_is in
       let truths : AllTruths (front s) = subst AllTruths (sym front-is) (truths-append (start facts) lits (truths-of facts r.truths) (due-truths [] lits r.due)) in
       open-cube facts (front s) cube values (subst (AreExtra facts (numbered facts)) (sym extra_is) r.are_extra)
       (subst AllWellSorted same r.terms.sorted) (subst IsClosed same r.terms.closed) truths (subst (λ ts. AllIn ts facts) same r.terms.there)

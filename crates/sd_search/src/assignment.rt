@@ -11,7 +11,7 @@ ghost use Rattle.sd_search.specs.Terms.{AllTruthValued};
 
 use crate::atoms::{atom_literals, is_atom};
 use crate::choice::{Choice, branch_choice};
-use crate::leaf::cube_of;
+use crate::leaf::{cube_of, do_step};
 use crate::progress::node_at;
 use sd_base::NoMemory;
 use sd_euf::{Closed, close};
@@ -126,8 +126,11 @@ impl Assignment {
         ensures { OnOk result (IsAssignment query.now self.new) }
     {
         let number = self.walk.terms().len();
-        let bad = self.walk.term(line)?;
-        prove!(bad.is_none());
+        do_step(
+            &mut self.walk,
+            &mut Items::new(query.allocator()),
+            Step::Term(line),
+        )?;
         let node = node_at(query.allocator(), self.walk.terms(), number)?;
         self.extra.push(node)?;
         Ok(())

@@ -1,0 +1,44 @@
+procedure f(b1: bool, b2: bool, b3: bool, b4: bool, b5: bool, b6: bool, b7: bool, b8: bool, b9: bool, b10: bool, b11: bool, b12: bool, b13: bool, b14: bool, b15: bool, b16: bool, b17: bool, b18: bool, b19: bool, b20: bool, b21: bool, b22: bool, b23: bool, b24: bool, b25: bool, b26: bool, b27: bool, b28: bool, b29: bool, b30: bool, b31: bool, b32: bool, b33: bool, b34: bool, b35: bool, b36: bool, b37: bool, b38: bool, b39: bool, b40: bool, r: int) returns (s: int) {
+  s := r;
+  if (b1) { s := s + 1; }
+  if (b2) { s := s + 2; }
+  if (b3) { s := s + 3; }
+  if (b4) { s := s + 4; }
+  if (b5) { s := s + 5; }
+  if (b6) { s := s + 6; }
+  if (b7) { s := s + 7; }
+  if (b8) { s := s + 8; }
+  if (b9) { s := s + 9; }
+  if (b10) { s := s + 10; }
+  if (b11) { s := s + 11; }
+  if (b12) { s := s + 12; }
+  if (b13) { s := s + 13; }
+  if (b14) { s := s + 14; }
+  if (b15) { s := s + 15; }
+  if (b16) { s := s + 16; }
+  if (b17) { s := s + 17; }
+  if (b18) { s := s + 18; }
+  if (b19) { s := s + 19; }
+  if (b20) { s := s + 20; }
+  if (b21) { s := s + 21; }
+  if (b22) { s := s + 22; }
+  if (b23) { s := s + 23; }
+  if (b24) { s := s + 24; }
+  if (b25) { s := s + 25; }
+  if (b26) { s := s + 26; }
+  if (b27) { s := s + 27; }
+  if (b28) { s := s + 28; }
+  if (b29) { s := s + 29; }
+  if (b30) { s := s + 30; }
+  if (b31) { s := s + 31; }
+  if (b32) { s := s + 32; }
+  if (b33) { s := s + 33; }
+  if (b34) { s := s + 34; }
+  if (b35) { s := s + 35; }
+  if (b36) { s := s + 36; }
+  if (b37) { s := s + 37; }
+  if (b38) { s := s + 38; }
+  if (b39) { s := s + 39; }
+  if (b40) { s := s + 40; }
+  assert !(s > 1000);
+}
