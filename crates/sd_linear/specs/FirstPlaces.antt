@@ -4,7 +4,6 @@ use Rattle.std.specs.List.{position}
 use Rattle.std.specs.Ordering.{int_eq}
 use Rattle.std.specs.Cmp.Lexicographic.{pointwise}
 use Rattle.std.specs.HashMap.{HashMap, get_by}
-
 use Rattle.sd_rows.specs.Rows.{Part, Parts}
 use Rattle.sd_linear.specs.declared.list.DerivedRow.{DerivedRow}
 use Rattle.sd_linear.specs.Elimination.{same_parts}

@@ -92,11 +92,7 @@ fn values_of(alloc: Global, rows: &[Row]) -> Result<Items<i128>, Stop>
 }
 
 /// The input rows as a list.
-fn take_inputs(
-    alloc: Global,
-    inputs: &[Row],
-    steps: &mut Items<RowStep>,
-) -> Result<RowList, Stop>
+fn take_inputs(alloc: Global, inputs: &[Row], steps: &mut Items<RowStep>) -> Result<RowList, Stop>
     requires computable { AllComputable inputs.now }
     requires none { steps.old ≡ [] }
     ensures continues { IfOk result (λ list. all_come_in 0 inputs.now [] ≡ continues (rows_of list)) }

@@ -1,11 +1,10 @@
-ghost use Rattle.std.specs.Prelude.{◌≡◌, ◌+◌, ◌<◌, ◌++◌, true, false, IfOk, OnOk, length, position, int_lt, slice_index_or, List};
+ghost use Rattle.std.specs.Prelude.{◌≡◌, ◌+◌, ◌<◌, ◌++◌, true, false, IfOk, OnOk, length, position, int_lt, slice_index_or, slice_set, List, [], ◌∷◌};
 ghost use Rattle.sd_rows.specs.declared.row.Row.{Row};
 ghost use Rattle.sd_rows.specs.Rows.{IsProper, is_within};
 ghost use Rattle.sd_rows.specs.Divisors.{greatest_divisor};
 ghost use Rattle.sd_rows.specs.RowOps.{reduced, sizes};
 ghost use Rattle.sd_linear.specs.Elimination.{joined, same_parts};
 ghost use Rattle.sd_linear.specs.DerivedRows.{rows_of, default_row, IsDerivedRow, AreDerivedRows, with_cut};
-ghost use Rattle.std.specs.Prelude.{[], ◌∷◌, slice_set};
 
 use crate::step::RowStep;
 use sd_base::NoMemory;
@@ -118,11 +117,7 @@ fn is_less(list: &[DerivedRow], place: usize, bound: i128) -> bool
 }
 
 /// The lesser bound takes the place of the row with the same left side, or the row continues last.
-pub(crate) fn join(
-    alloc: Global,
-    list: &mut RowList,
-    derived: DerivedRow,
-) -> Result<(), NoMemory>
+pub(crate) fn join(alloc: Global, list: &mut RowList, derived: DerivedRow) -> Result<(), NoMemory>
     ensures rows { OnOk result (rows_of list.new ≡ joined derived.row (rows_of list.old)) }
     ensures derived { OnOk result ((made : List Row) → IsDerivedRow made derived → AreDerivedRows made list.old
         → AreDerivedRows made list.new) }
