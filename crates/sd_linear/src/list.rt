@@ -85,7 +85,7 @@ impl RowList {
         self.places.get(parts).copied()
     }
 
-    /// Puts a row last.
+    /// Puts a row last. Its room is made first, so that no place is entered for a row that does not come.
     pub(crate) fn push(&mut self, alloc: Global, derived: DerivedRow) -> Result<(), NoMemory>
         ensures { OnOk result (self.new ≡ self.old ++ derived ∷ []) }
     {
