@@ -2,6 +2,7 @@ pub mod Refuting
 pub mod Naming
 pub mod Marking
 pub mod Lists
+pub mod FirstPlaces
 pub mod Copying
 pub mod Deriving
 pub mod Coming

@@ -5,3 +5,4 @@ pub mod Answers
 pub mod Values
 pub mod Pruning
 pub mod Laws
+pub mod FirstPlaces

@@ -8,7 +8,7 @@ ghost use Rattle.sd_linear.specs.Answers.{Stops};
 ghost use Rattle.sd_rows.specs.Rows.{AllComputable};
 
 use crate::elimination::{Eliminated, Stop};
-use crate::list::{DerivedRow, cut, derive, join};
+use crate::list::{DerivedRow, RowList, cut, derive, join};
 use crate::refutation::needed;
 use crate::step::RowStep;
 use sd_base::NoMemory;
@@ -45,7 +45,7 @@ pub(crate) fn comes_in(
     column: u32,
     row: Row,
     how: RowStep,
-    list: &mut Items<DerivedRow>,
+    list: &mut RowList,
     steps: &mut Items<RowStep>,
 ) -> Result<(), Stop>
     requires proper { IsProper row.parts }
@@ -72,7 +72,7 @@ pub(crate) fn comes_in(
         return Ok(());
     }
     let step = derive(steps, how, is_cut)?;
-    join(list, DerivedRow { row, step })?;
+    join(alloc, list, DerivedRow { row, step })?;
     if list.len() > MAX_ROWS {
         return Err(Stop::Ends(Eliminated::Many));
     }
@@ -86,7 +86,7 @@ fn combine(
     column: u32,
     r: &DerivedRow,
     s: &DerivedRow,
-    list: &mut Items<DerivedRow>,
+    list: &mut RowList,
     steps: &mut Items<RowStep>,
 ) -> Result<(), Stop>
     requires negative { is_negative column r.now.row ≡ true }
@@ -134,7 +134,7 @@ fn combine_all(
     column: u32,
     r: &DerivedRow,
     rows: &[DerivedRow],
-    list: &mut Items<DerivedRow>,
+    list: &mut RowList,
     steps: &mut Items<RowStep>,
 ) -> Result<(), Stop>
     requires negative { is_negative column r.now.row ≡ true }
@@ -162,7 +162,7 @@ fn partition(
     alloc: Global,
     column: u32,
     rows: &[DerivedRow],
-) -> Result<(Items<DerivedRow>, Items<DerivedRow>), NoMemory>
+) -> Result<(Items<DerivedRow>, RowList), NoMemory>
     requires { AllComputable (rows_of rows.now) }
     ensures with { IfOk result (λ lists. rows_of lists.0 ≡ filter (has_column column) (rows_of rows.now)) }
     ensures free { IfOk result (λ lists. rows_of lists.1 ≡ filter (is_free column) (rows_of rows.now)) }
@@ -170,11 +170,11 @@ fn partition(
         → AreDerivedRows made lists.0 × AreDerivedRows made lists.1) }
 {
     let mut with = Items::new(alloc);
-    let mut free = Items::new(alloc);
+    let mut free = RowList::new(alloc);
     for r in rows {
         let copy = r.copy(alloc)?;
         if factor_of(&r.row, column) == 0 {
-            free.push(copy)?;
+            free.push(alloc, copy)?;
         } else {
             with.push(copy)?;
         }
@@ -188,7 +188,7 @@ fn combine_rows(
     inputs: &[Row],
     column: u32,
     rows: &[DerivedRow],
-    list: &mut Items<DerivedRow>,
+    list: &mut RowList,
     steps: &mut Items<RowStep>,
 ) -> Result<(), Stop>
     requires rows { AreDerivedRows (rows_made inputs.now steps.old) rows.now }
@@ -216,7 +216,7 @@ pub(crate) fn eliminate_column(
     column: u32,
     rows: &[DerivedRow],
     steps: &mut Items<RowStep>,
-) -> Result<(Items<DerivedRow>, Items<DerivedRow>), Stop>
+) -> Result<(Items<DerivedRow>, RowList), Stop>
     requires derived { IsDerivation inputs.now steps.old rows.now }
 
     ensures with { IfOk result (λ lists. rows_of lists.0 ≡ filter (has_column column) (rows_of rows.now)) }

@@ -7,7 +7,7 @@ ghost use Rattle.sd_linear.specs.Answers.{Stops, Fails, answer_of, Justified};
 
 use crate::columns::columns_of;
 use crate::combine::{comes_in, eliminate_column};
-use crate::list::DerivedRow;
+use crate::list::{DerivedRow, RowList};
 use crate::step::RowStep;
 use crate::value::choose;
 use sd_base::NoMemory;
@@ -92,18 +92,14 @@ fn values_of(alloc: Global, rows: &[Row]) -> Result<Items<i128>, Stop>
 }
 
 /// The input rows as a list.
-fn take_inputs(
-    alloc: Global,
-    inputs: &[Row],
-    steps: &mut Items<RowStep>,
-) -> Result<Items<DerivedRow>, Stop>
+fn take_inputs(alloc: Global, inputs: &[Row], steps: &mut Items<RowStep>) -> Result<RowList, Stop>
     requires computable { AllComputable inputs.now }
     requires none { steps.old ≡ [] }
     ensures continues { IfOk result (λ list. all_come_in 0 inputs.now [] ≡ continues (rows_of list)) }
     ensures derived { IfOk result (λ list. IsDerivation inputs.now steps.new list) }
     ensures stops { IfErr result (λ stop. Stops inputs.now stop (all_come_in 0 inputs.now [])) }
 {
-    let mut list = Items::new(alloc);
+    let mut list = RowList::new(alloc);
     for (i, row) in inputs.iter().enumerate() {
         if i > u32::MAX as usize {
             return Err(Stop::Memory);
@@ -143,7 +139,7 @@ fn eliminate_columns(
     alloc: Global,
     inputs: &[Row],
     columns: &[u32],
-    first: Items<DerivedRow>,
+    first: RowList,
     steps: &mut Items<RowStep>,
 ) -> Result<Items<Items<DerivedRow>>, Stop>
     requires derived { IsDerivation inputs.now steps.old first }

@@ -1,4 +1,4 @@
-ghost use Rattle.std.specs.Prelude.{◌≡◌, ◌+◌, ◌<◌, ◌++◌, true, false, IfOk, OnOk, length, position, int_lt, slice_index_or, List};
+ghost use Rattle.std.specs.Prelude.{◌≡◌, ◌+◌, ◌<◌, ◌++◌, true, false, IfOk, OnOk, length, position, int_lt, slice_index_or, slice_set, List, [], ◌∷◌};
 ghost use Rattle.sd_rows.specs.declared.row.Row.{Row};
 ghost use Rattle.sd_rows.specs.Rows.{IsProper, is_within};
 ghost use Rattle.sd_rows.specs.Divisors.{greatest_divisor};
@@ -11,6 +11,8 @@ use sd_base::NoMemory;
 use sd_rows::{Row, divisor_of};
 use sqlite_items::Items;
 use std::alloc::Global;
+use std::collections::HashMap;
+use std::marker::Model;
 
 /// A row of a list, with the number of the step that derives it.
 #[derive(Drop)]
@@ -35,19 +37,75 @@ impl DerivedRow {
     }
 }
 
-/// Whether two left sides are equal.
-fn same_left(a: &[(u32, i128)], b: &[(u32, i128)]) -> bool
-    ensures { result ≡ same_parts a.now b.now }
-{
-    a == b
+/// Rows in order, with a table of the first places of their left sides.
+#[derive(Drop)]
+pub struct RowList {
+    rows: Vec<DerivedRow>,
+    places: HashMap<Vec<(u32, i128)>, usize>,
 }
 
-/// The first row with this left side.
-fn place_of(list: &[DerivedRow], parts: &[(u32, i128)]) -> Option<usize>
-    ensures { result ≡ position (λ h. same_parts parts.now h.row.parts) list.now }
-{
-    list.iter()
-        .position(|other| same_left(parts, other.row.parts.as_slice()))
+impl Model for RowList {
+    ghost use Rattle.std.specs.Prelude.{List};
+    ghost use Rattle.sd_linear.specs.declared.list.DerivedRow.{DerivedRow};
+    ghost use Rattle.sd_linear.specs.FirstPlaces.{HasFirstPlaces};
+
+    ghost Value = { List DerivedRow };
+
+    ghost view = { λ list. list.rows.items };
+
+    ghost invariant = { λ list. HasFirstPlaces list.places list.rows.items };
+}
+
+impl RowList {
+    pub(crate) fn new(alloc: Global) -> RowList
+        ensures { result ≡ [] }
+    {
+        RowList {
+            rows: Vec::new(alloc),
+            places: HashMap::new(alloc),
+        }
+    }
+
+    pub(crate) fn as_slice(&self) -> &[DerivedRow]
+        ensures { result.now ≡ self.now }
+    {
+        self.rows.as_slice()
+    }
+
+    pub(crate) fn len(&self) -> usize
+        ensures { result ≡ length self.now }
+    {
+        self.rows.len()
+    }
+
+    /// The first row with this left side.
+    fn place_of(&self, parts: &[(u32, i128)]) -> Option<usize>
+        ensures { result ≡ position (λ h. same_parts parts.now h.row.parts) self.now }
+    {
+        self.places.get(parts).copied()
+    }
+
+    /// Puts a row last. Its room is made first, so that no place is entered for a row that does not come.
+    pub(crate) fn push(&mut self, alloc: Global, derived: DerivedRow) -> Result<(), NoMemory>
+        ensures { OnOk result (self.new ≡ self.old ++ derived ∷ []) }
+    {
+        self.rows.reserve(1)?;
+        if self.place_of(derived.row.parts.as_slice()).is_none() {
+            let left = Vec::from_slice(alloc, derived.row.parts.as_slice())?;
+            self.places.insert(left, self.rows.len())?;
+        }
+        self.rows.push(derived)?;
+        Ok(())
+    }
+
+    /// Puts a row in the place of one with the same left side.
+    fn set(&mut self, place: usize, derived: DerivedRow)
+        requires within { place < length self.old }
+        requires same { same_parts derived.row.parts (slice_index_or self.old place default_row).row.parts ≡ true }
+        ensures { self.new ≡ slice_set self.old place derived }
+    {
+        self.rows[place] = derived;
+    }
 }
 
 /// Whether the bound is less than that of the row at a place.
@@ -59,18 +117,18 @@ fn is_less(list: &[DerivedRow], place: usize, bound: i128) -> bool
 }
 
 /// The lesser bound takes the place of the row with the same left side, or the row continues last.
-pub(crate) fn join(list: &mut Items<DerivedRow>, derived: DerivedRow) -> Result<(), NoMemory>
+pub(crate) fn join(alloc: Global, list: &mut RowList, derived: DerivedRow) -> Result<(), NoMemory>
     ensures rows { OnOk result (rows_of list.new ≡ joined derived.row (rows_of list.old)) }
     ensures derived { OnOk result ((made : List Row) → IsDerivedRow made derived → AreDerivedRows made list.old
         → AreDerivedRows made list.new) }
 {
-    match place_of(list.as_slice(), derived.row.parts.as_slice()) {
+    match list.place_of(derived.row.parts.as_slice()) {
         Some(place) => {
             if is_less(list.as_slice(), place, derived.row.bound) {
                 list.set(place, derived);
             }
         }
-        None => list.push(derived)?,
+        None => list.push(alloc, derived)?,
     }
     Ok(())
 }

@@ -1,5 +1,6 @@
 use Rattle.std.proofs.Common.{rules, ◌≡◌, sym, ◌∙◌, ap, Some, None, true, false, get_or, subst, ◌++◌, ◌∷◌, []}
 use Rattle.std.specs.List.{position}
+use Rattle.std.proofs.lemmas.List.Quantifiers.{position-Some}
 use Rattle.std.specs.Prelude.{int_lt}
 use Rattle.sd_linear.specs.DerivedRows.{rows_of, default_row, AreDerivedRows}
 use Rattle.sd_linear.proofs.Lists.{fits_in, joined-less, joined-not_less, joined-last, AreDerivedRows-append, AreDerivedRows-set}
@@ -31,3 +32,8 @@ pub returns-in_ok-push-in-None-clause-derived : goal.returns-in_ok-push-in-None-
 returns-in_ok-push-in-None-clause-derived c = λ made h k.
     let e : c.push.new.self ≡ c.args.list.now ++ c.args.derived ∷ [] = search rules in
     subst (AreDerivedRows made) (sym e) (AreDerivedRows-append made c.args.list.now (c.args.derived ∷ []) k (h, tt))
+
+pub set-requires-clause-same : goal.set-requires-clause-same
+set-requires-clause-same c =
+    let p : position (fits_in c.args.derived) c.args.list.now ≡ Some c.in-Some.place = search rules in
+    (position-Some (fits_in c.args.derived) c.args.list.now c.in-Some.place default_row p).1
