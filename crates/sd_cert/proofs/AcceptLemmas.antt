@@ -19,7 +19,7 @@ use Rattle.sd_cert.specs.declared.line.Line.TheVariants.{Version, Row, End}
 use Rattle.sd_cert.specs.Lines.{line_text, IsLine}
 use Rattle.sd_cert.specs.Text.{lines_text}
 use Rattle.sd_cert.specs.Certificates.{step_lines, how_lines, proved_lines, pair_lines, certificate_lines, certificate_text, IsCertificate}
-use Rattle.sd_cert.specs.Phases.{Phase, at_version, in_pairs, done, after_line, after_lines}
+use Rattle.sd_cert.specs.Phases.{Phase, at_version, in_pairs, complete, after_line, after_lines}
 use Rattle.sd_cert.specs.Faults.{StopsAt, IsFault}
 use Rattle.sd_cert.proofs.TextLemmas.{no_feed, first_line-unique}
 use Rattle.sd_cert.proofs.OneLine.{line_text-injective}
@@ -27,7 +27,7 @@ use Rattle.sd_cert.proofs.OneCertificate.{one_certificate}
 
 -- these lines lead to the end, with a candidate before them or without
 Ends : ℕ → ℕ → List Line → Type 0
-Ends n i ls = (c : Bool) → after_lines (in_pairs n i c 0) ls ≡ Some done
+Ends n i ls = (c : Bool) → after_lines (in_pairs n i c 0) ls ≡ Some complete
 
 rows-end : (n i : ℕ) (rows : List RowLine) (ls : List Line) → after_lines (in_pairs n i true (length rows)) (map Row rows ++ ls) ≡ after_lines (in_pairs n i true 0) ls
 rows-end n i [] ls = refl
@@ -37,14 +37,14 @@ step-end : (n i : ℕ) (s : Step) (ls : List Line) → after_lines (in_pairs n i
 step-end n i (RowsStep rows) ls = rows-end n i rows ls
 step-end n i _ ls = refl
 
-steps-end : (n i : ℕ) (ss : List Step) (ls : List Line) → Ends n i ls → after_lines (in_pairs n i true 0) (flat_map step_lines ss ++ ls) ≡ Some done
+steps-end : (n i : ℕ) (ss : List Step) (ls : List Line) → Ends n i ls → after_lines (in_pairs n i true 0) (flat_map step_lines ss ++ ls) ≡ Some complete
 unfolding Ends
 steps-end n i [] ls h = h true
 steps-end n i (s ∷ ss) ls h =
     ap (after_lines (in_pairs n i true 0)) (append_assoc (step_lines s) (flat_map step_lines ss) ls) ∙ step-end n i s (flat_map step_lines ss ++ ls)
     ∙ steps-end n i ss ls h
 
-how-end : (n i : ℕ) (h : How) (ls : List Line) → Ends n i ls → after_lines (in_pairs n i true 0) (how_lines h ++ ls) ≡ Some done
+how-end : (n i : ℕ) (h : How) (ls : List Line) → Ends n i ls → after_lines (in_pairs n i true 0) (how_lines h ++ ls) ≡ Some complete
 how-end n i (Steps p) ls h = steps-end n i p.steps ls h
 
 proved-end : (n i : ℕ) (ps : List Proved) (ls : List Line) → 0 < i → Ends n i ls → Ends n i (flat_map proved_lines ps ++ ls)
@@ -57,7 +57,7 @@ proved-end n i (p ∷ ps) ls b h c =
 
 pairs-end : (n i : ℕ) (ps : List CertPair) → i + length ps ≡ n → Ends n i (pair_lines i ps ++ End ∷ [])
 unfolding Ends
-pairs-end n i [] e c = ap (λ t. option_and_then (λ q. after_lines q []) (cond t (Some done) None)) (eq-eqb i n (omega arith))
+pairs-end n i [] e c = ap (λ t. option_and_then (λ q. after_lines q []) (cond t (Some complete) None)) (eq-eqb i n (omega arith))
 pairs-end n i (p ∷ ps) e c =
     ap (λ t. option_and_then (λ q. after_lines q ((flat_map proved_lines p.proved ++ pair_lines (i + 1) ps) ++ End ∷ [])) (cond t (Some (in_pairs n (i + 1) false 0)) None)) (both (i == i) (nat_lt i n) (eq-eqb i i refl) (lt-ltb i n (omega arith)))
     ∙ ap (after_lines (in_pairs n (i + 1) false 0)) (append_assoc (flat_map proved_lines p.proved) (pair_lines (i + 1) ps) (End ∷ []))
@@ -67,7 +67,7 @@ pairs-end n i (p ∷ ps) e c =
     both true b h k = k
     both false b h k = h
 
-pub certificate-end : (c : Certificate) → after_lines at_version (certificate_lines c) ≡ Some done
+pub certificate-end : (c : Certificate) → after_lines at_version (certificate_lines c) ≡ Some complete
 unfolding Ends
 certificate-end c = pairs-end (length c.pairs) 0 c.pairs (omega arith) false
 
@@ -93,11 +93,11 @@ after_lines-append p q (l ∷ ls) ms h = go (after_line p l) (λ r k. after_line
 no_stop : (c : Certificate) → IsCertificate c → (n : ℕ) → StopsAt (certificate_text c) n → ⊥
 no_stop c f n at =
     let parts = front-of at.lines (certificate_lines c) at.rest at.fit f (sym at.whole)
-    in let left : after_lines at.phase parts.0 ≡ Some done = sym (after_lines-append at_version at.phase at.lines parts.0 at.before) ∙ ap (after_lines at_version) (sym parts.1) ∙ certificate-end c
+    in let left : after_lines at.phase parts.0 ≡ Some complete = sym (after_lines-append at_version at.phase at.lines parts.0 at.before) ∙ ap (after_lines at_version) (sym parts.1) ∙ certificate-end c
     in go parts.0 parts.2 parts.3 left
   where
-    go : (more : List Line) → at.rest ≡ lines_text more → AllByRecursion IsLine more → after_lines at.phase more ≡ Some done → ⊥
-    go [] e f k = at.unfinished (same_Some at.phase done k) e
+    go : (more : List Line) → at.rest ≡ lines_text more → AllByRecursion IsLine more → after_lines at.phase more ≡ Some complete → ⊥
+    go [] e f k = at.unfinished (same_Some at.phase complete k) e
     go (l ∷ ls) e f k = absurd (let s = at.stuck l (lines_text ls) f.0 e in let j = ap (option_and_then (λ q. after_lines q ls)) s in cc)
 
 no_fault : (text : List ℕ) (c : Certificate) (e : CertError) → IsCertificate c → text ≡ certificate_text c → IsFault text e → e ≡ NoMemory

@@ -7,16 +7,16 @@ use Rattle.std.proofs.lemmas.List.{take-append-drop, drop_more, take_more, lengt
 use Rattle.std.proofs.lemmas.Option.{same_Some}
 use borrow.Author.Tests.{eqb-true}
 use Rattle.sd_cert.specs.declared.certificate.Certificate.{Certificate}
-use Rattle.sd_cert.specs.declared.draft.Draft.{Draft}
-use Rattle.sd_cert.specs.declared.draft.Draft.TheVariants as draft
+use Rattle.sd_cert.specs.declared.prefix.Prefix.{Prefix}
+use Rattle.sd_cert.specs.declared.prefix.Prefix.TheVariants as prefix
 use Rattle.sd_cert.specs.declared.fault.CertError.{CertError}
 use Rattle.sd_cert.specs.declared.fault.CertError.TheVariants.{NoMemory, Version as OtherVersion, Line as BadLine}
 use Rattle.sd_cert.specs.declared.line.Line.{Line}
 use Rattle.sd_cert.specs.declared.line.Line.TheVariants.{Version}
 use Rattle.sd_cert.specs.Lines.{line_text, IsLine}
 use Rattle.sd_cert.specs.Text.{lines_text, HasLines}
-use Rattle.sd_cert.specs.Phases.{Phase, at_version, at_old, done, after_line, after_lines}
-use Rattle.sd_cert.specs.Drafts.{draft_lines, phase_of, Goes}
+use Rattle.sd_cert.specs.Phases.{Phase, at_version, at_old, complete, after_line, after_lines}
+use Rattle.sd_cert.specs.Prefixes.{prefix_lines, phase_of, IsExtension}
 use Rattle.sd_cert.specs.Faults.{StopsAt, HasVersion, IsFault, IsStuckAt, IsLineFault, IsPlaceFault}
 use Rattle.sd_cert.proofs.TextLemmas.{no_feed, first_line-unique, lines_text-append}
 use Rattle.sd_cert.proofs.OneLine.{line_text-injective}
@@ -33,9 +33,9 @@ after_lines-push p (m ∷ ls) l = go (after_line p m) (λ q. after_lines-push q 
     go None h = refl
     go (Some q) h = h q
 
-module _ (lines : List Line) (i : ℕ) (d : Line) (reading : Draft) (within : i < length lines) (same : draft_lines reading ≡ take i lines) (phase : after_lines at_version (take i lines) ≡ Some (phase_of reading)) where
-  pub draft-step : (longer : Draft) → Goes reading (get_or lines i d) (Some longer) → (draft_lines longer ≡ take (i + 1) lines) × (after_lines at_version (take (i + 1) lines) ≡ Some (phase_of longer))
-  draft-step longer g = (
+module _ (lines : List Line) (i : ℕ) (d : Line) (reading : Prefix) (within : i < length lines) (same : prefix_lines reading ≡ take i lines) (phase : after_lines at_version (take i lines) ≡ Some (phase_of reading)) where
+  pub prefix-step : (longer : Prefix) → IsExtension reading (get_or lines i d) (Some longer) → (prefix_lines longer ≡ take (i + 1) lines) × (after_lines at_version (take (i + 1) lines) ≡ Some (phase_of longer))
+  prefix-step longer g = (
     g.0 ∙ ap (λ ls. ls ++ get_or lines i d ∷ []) same ∙ sym (take_more lines i d within),
     ap (after_lines at_version) (take_more lines i d within) ∙ after_lines-push at_version (take i lines) (get_or lines i d)
         ∙ ap (option_and_then (λ q. after_line q (get_or lines i d))) phase ∙ g.1,
@@ -59,7 +59,7 @@ bad_version : (lines : List Line) (i : ℕ) (d : Line) (p : Phase) → after_lin
 bad_version lines zero d p h other v after e = absurd (other v refl (ap (λ ls. get_or ls 0 d) e))
 bad_version lines (suc i) d p h other v after e = version-follows lines i p h v after e
 
-pub stuck_fault : (lines : List Line) (i : ℕ) (d : Line) (reading : Draft) (e : CertError) → i < length lines → after_lines at_version (take i lines) ≡ Some (phase_of reading) → Goes reading (get_or lines i d) None → IsPlaceFault i (get_or lines i d) e → IsLineFault lines e
+pub stuck_fault : (lines : List Line) (i : ℕ) (d : Line) (reading : Prefix) (e : CertError) → i < length lines → after_lines at_version (take i lines) ≡ Some (phase_of reading) → IsExtension reading (get_or lines i d) None → IsPlaceFault i (get_or lines i d) e → IsLineFault lines e
 stuck_fault lines i d reading NoMemory within phase stuck place = tt
 stuck_fault lines i d reading (OtherVersion v) within phase stuck place =
     let first : 0 < length lines = omega arith
@@ -84,9 +84,9 @@ stuck_fault lines i d reading (BadLine n) within phase stuck place = (
 )
 stuck_fault lines i d reading _ within phase stuck place = absurd place
 
-pub not_done : (reading : Draft) → ((c : Certificate) → reading ≡ draft.Done c → ⊥) → phase_of reading ≡ done → ⊥
-not_done (draft.Done c) n e = n c refl
-not_done _ n e = absurd (cc)
+pub not_complete : (reading : Prefix) → ((c : Certificate) → reading ≡ prefix.Complete c → ⊥) → phase_of reading ≡ complete → ⊥
+not_complete (prefix.Complete c) n e = n c refl
+not_complete _ n e = absurd (cc)
 
 version_is_first : (text : List ℕ) (lines : List Line) (rest : List ℕ) → HasLines text lines rest → (v : ℕ) → HasVersion text v → (after : List Line) × (lines ≡ Version v ∷ after)
 version_is_first text [] rest has v version = absurd (has.stop (Version v) version.more version.fits (sym has.whole ∙ version.line))
@@ -95,7 +95,7 @@ version_is_first text (l ∷ ls) rest has v version =
     (sym (append_assoc (line_text l) (10 ∷ lines_text ls) rest) ∙ sym has.whole ∙ version.line)
     in (ls, ap (λ m. m ∷ ls) (line_text-injective l (Version v) has.fit.0 version.fits parts.0))
 
-pub end_fault : (text : List ℕ) (lines : List Line) (rest : List ℕ) (reading : Draft) → HasLines text lines rest → after_lines at_version lines ≡ Some (phase_of reading) → (phase_of reading ≡ done → rest ≡ [] → ⊥) → IsFault text (BadLine (length lines + 1))
+pub end_fault : (text : List ℕ) (lines : List Line) (rest : List ℕ) (reading : Prefix) → HasLines text lines rest → after_lines at_version lines ≡ Some (phase_of reading) → (phase_of reading ≡ complete → rest ≡ [] → ⊥) → IsFault text (BadLine (length lines + 1))
 end_fault text lines rest reading has phase unfinished = (
   record {
     lines = lines;

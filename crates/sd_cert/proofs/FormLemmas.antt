@@ -15,7 +15,7 @@ use Rattle.sd_cert.specs.declared.line.Line.TheVariants.{Version, Old, New, Sett
 use Rattle.sd_cert.specs.Fields.{IsDigest, AreNumbers, numbers_text}
 use Rattle.sd_cert.specs.Keywords.{front_of, keyword_in, keywords}
 use Rattle.sd_cert.specs.Lines.{line_text, IsLine, state_text}
-use Rattle.sd_cert.specs.Numbered.{numbered}
+use Rattle.sd_cert.specs.NumberLines.{word_and_numbers}
 use Rattle.sd_cert.proofs.NumberLemmas.{small-numbers}
 
 -- ---- words
@@ -61,7 +61,7 @@ form_of (Old d) = Some (word.Old, digest d)
 form_of (New d) = Some (word.New, digest d)
 form_of (Settings d) = Some (word.Settings, digest d)
 form_of (Pair i s) = Some (word.Pair, pair i s)
-form_of l = with_numbers (numbered l)
+form_of l = with_numbers (word_and_numbers l)
 
 abbrev pub word_of : Form → Option Keyword
 word_of None = None

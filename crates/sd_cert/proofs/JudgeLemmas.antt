@@ -13,7 +13,7 @@ use Rattle.sd_kernel.specs.declared.How.{How}
 use Rattle.sd_kernel.specs.declared.How.TheVariants.{Steps}
 use Rattle.sd_kernel.specs.declared.Proved.{Proved}
 use Rattle.sd_product.specs.Inductive.{proved_of, IsHow, IsProved}
-use Rattle.sd_cert.specs.declared.shape.Shape.{Shape}
+use Rattle.sd_cert.specs.declared.header.PairHeader.{PairHeader}
 use Rattle.sd_cert.specs.declared.certificate.CertPair.{CertPair}
 use Rattle.sd_cert.specs.declared.fault.CertError.{CertError}
 use Rattle.sd_cert.proofs.AllLemmas.{all-append, all-front, all-back}
@@ -21,7 +21,7 @@ use Rattle.sd_cert.specs.Certificates.{proved_lines}
 use Rattle.sd_cert.specs.Accepts.{Ascend, FitsPairs, numbered_from, proofs_from}
 use Rattle.sd_cert.specs.Refusals.{or_next}
 use Rattle.sd_cert.specs.BadSteps.{verdict_fault, how_fault, entry_fault, entries_fault, pairs_fault}
-use Rattle.sd_cert.specs.Shapes.{count_of}
+use Rattle.sd_cert.specs.Headers.{count_of}
 
 next-none : (a b : Option CertError) → or_next a b ≡ None → (a ≡ None) × (b ≡ None)
 next-none None b h = (refl, h)
@@ -69,7 +69,7 @@ module _ (queries : List (List Tree)) where
       none-next (entry_fault queries n line p) _ (proves-how (line + 1) facts p.how how) (proved-entries n (line + length (proved_lines p)) (p.candidate + 1) bound ps w a.2 h.1)
 
   -- no step of pairs whose candidates are numbered from n on is bad just where their entries are proofs
-  pub pairs-proved : (n line : ℕ) (ss : List Shape) (ps : List CertPair) → n + count_of ss ≡ length queries → FitsPairs ss ps → pairs_fault queries n line ss ps ≡ None → AllByRecursion (IsProved queries) (proofs_from n ss ps)
+  pub pairs-proved : (n line : ℕ) (ss : List PairHeader) (ps : List CertPair) → n + count_of ss ≡ length queries → FitsPairs ss ps → pairs_fault queries n line ss ps ≡ None → AllByRecursion (IsProved queries) (proofs_from n ss ps)
   pairs-proved n line [] ps w a h = tt
   pairs-proved n line (s ∷ ss) [] w a h = absurd a
   pairs-proved n line (s ∷ ss) (p ∷ ps) w a h =
@@ -78,7 +78,7 @@ module _ (queries : List (List Tree)) where
       (entries-proved n (line + 1) 0 s.candidates p.proved (omega arith) a.0.numbers parts.0)
       (pairs-proved (n + s.candidates) _ ss ps (omega arith) a.1 parts.1)
 
-  pub proved-pairs : (n line : ℕ) (ss : List Shape) (ps : List CertPair) → n + count_of ss ≡ length queries → FitsPairs ss ps → AllByRecursion (IsProved queries) (proofs_from n ss ps) → pairs_fault queries n line ss ps ≡ None
+  pub proved-pairs : (n line : ℕ) (ss : List PairHeader) (ps : List CertPair) → n + count_of ss ≡ length queries → FitsPairs ss ps → AllByRecursion (IsProved queries) (proofs_from n ss ps) → pairs_fault queries n line ss ps ≡ None
   proved-pairs n line [] [] w a h = refl
   proved-pairs n line [] (p ∷ ps) w a h = absurd a
   proved-pairs n line (s ∷ ss) [] w a h = absurd a

@@ -5,11 +5,11 @@ use Rattle.sd_cert.specs.BadSteps.{pairs_fault}
 use Rattle.std.proofs.lemmas.List.{map-append, append-nil, take_more, take_more_set, drop_more, take_all, drop_all, get_or-set_other, length-take-le}
 use Rattle.sd_term.specs.Tree.{Tree}
 use Rattle.sd_kernel.specs.declared.Proved.{Proved}
-use Rattle.sd_cert.specs.declared.shape.Shape.{Shape}
+use Rattle.sd_cert.specs.declared.header.PairHeader.{PairHeader}
 use Rattle.sd_product.specs.Inductive.{proved_of, live_from}
 use Rattle.sd_cert.specs.declared.certificate.CertPair.{CertPair}
 use Rattle.sd_cert.specs.Accepts.{Ascend, FitsPair, FitsPairs, numbered_from, proofs_from}
-use Rattle.sd_cert.specs.Shapes.{count_of}
+use Rattle.sd_cert.specs.Headers.{count_of}
 use Rattle.sd_cert.specs.Tables.{IsDecided}
 
 -- ---- decided numbers
@@ -84,47 +84,47 @@ numbers-from : (n : ℕ) (ps : List Proved) → proved_of (map (numbered_from n)
 numbers-from n [] = refl
 numbers-from n (p ∷ ps) = ap (λ ks. (n + p.candidate) ∷ ks) (numbers-from n ps)
 
--- the shape at a place
-abbrev pub shape-at : List Shape → ℕ → Shape
-shape-at shapes i = get_or shapes i (record { refused = false; candidates = 0 })
+-- the header at a place
+abbrev pub header-at : List PairHeader → ℕ → PairHeader
+header-at headers i = get_or headers i (record { refused = false; candidates = 0 })
 
-module _ (shapes : List Shape) (claims : List CertPair) (i : ℕ) (p : CertPair) (within : i < length shapes) (claimed : i < length claims) (claim : p ≡ get_or claims i p) where
-  pub shapes-here : drop i shapes ≡ shape-at shapes i ∷ drop (i + 1) shapes
-  shapes-here = drop_more shapes i (record { refused = false; candidates = 0 }) within
+module _ (headers : List PairHeader) (claims : List CertPair) (i : ℕ) (p : CertPair) (within : i < length headers) (claimed : i < length claims) (claim : p ≡ get_or claims i p) where
+  pub headers-here : drop i headers ≡ header-at headers i ∷ drop (i + 1) headers
+  headers-here = drop_more headers i (record { refused = false; candidates = 0 }) within
 
   pub claims-here : drop i claims ≡ p ∷ drop (i + 1) claims
   claims-here = drop_more claims i p claimed ∙ ap (λ x. x ∷ drop (i + 1) claims) (sym claim)
 
-  pub fits-step : FitsPairs (drop i shapes) (drop i claims) → FitsPair (shape-at shapes i) p × FitsPairs (drop (i + 1) shapes) (drop (i + 1) claims)
+  pub fits-step : FitsPairs (drop i headers) (drop i claims) → FitsPair (header-at headers i) p × FitsPairs (drop (i + 1) headers) (drop (i + 1) claims)
   fits-step fits =
-      subst (λ (cs : List CertPair). FitsPairs (shape-at shapes i ∷ drop (i + 1) shapes) cs) claims-here
-      (subst (λ (ss : List Shape). FitsPairs ss (drop i claims)) shapes-here fits)
+      subst (λ (cs : List CertPair). FitsPairs (header-at headers i ∷ drop (i + 1) headers) cs) claims-here
+      (subst (λ (ss : List PairHeader). FitsPairs ss (drop i claims)) headers-here fits)
 
-  pub count-step : (first total : ℕ) → first + count_of (drop i shapes) ≡ total → (first + (shape-at shapes i).candidates) + count_of (drop (i + 1) shapes) ≡ total
-  count-step first total h = omega (arith, h, ap count_of shapes-here)
+  pub count-step : (first total : ℕ) → first + count_of (drop i headers) ≡ total → (first + (header-at headers i).candidates) + count_of (drop (i + 1) headers) ≡ total
+  count-step first total h = omega (arith, h, ap count_of headers-here)
 
-  pub numbers-step : (numbers all : List ℕ) (first : ℕ) → numbers ++ proved_of (proofs_from first (drop i shapes) (drop i claims)) ≡ all → (numbers ++ map (λ k. first + k) (proved_of p.proved)) ++ proved_of (proofs_from (first + (shape-at shapes i).candidates) (drop (i + 1) shapes) (drop (i + 1) claims)) ≡ all
+  pub numbers-step : (numbers all : List ℕ) (first : ℕ) → numbers ++ proved_of (proofs_from first (drop i headers) (drop i claims)) ≡ all → (numbers ++ map (λ k. first + k) (proved_of p.proved)) ++ proved_of (proofs_from (first + (header-at headers i).candidates) (drop (i + 1) headers) (drop (i + 1) claims)) ≡ all
   numbers-step numbers all first h =
-      let others = proofs_from (first + (shape-at shapes i).candidates) (drop (i + 1) shapes) (drop (i + 1) claims)
+      let others = proofs_from (first + (header-at headers i).candidates) (drop (i + 1) headers) (drop (i + 1) claims)
       in append_assoc numbers (map (λ k. first + k) (proved_of p.proved)) (proved_of others)
       ∙ ap (λ t. numbers ++ t)
       (sym
-      (ap (λ ss. proved_of (proofs_from first ss (drop i claims))) shapes-here
-      ∙ ap (λ cs. proved_of (proofs_from first (shape-at shapes i ∷ drop (i + 1) shapes) cs)) claims-here
+      (ap (λ ss. proved_of (proofs_from first ss (drop i claims))) headers-here
+      ∙ ap (λ cs. proved_of (proofs_from first (header-at headers i ∷ drop (i + 1) headers) cs)) claims-here
       ∙ map-append (λ (q : Proved). q.candidate) (map (numbered_from first) p.proved) others
       ∙ ap (λ ks. ks ++ proved_of others) (numbers-from first p.proved)))
       ∙ h
 
-no-claims : (n : ℕ) (ss : List Shape) → proofs_from n ss [] ≡ []
+no-claims : (n : ℕ) (ss : List PairHeader) → proofs_from n ss [] ≡ []
 no-claims n [] = refl
 no-claims n (s ∷ ss) = refl
 
-pub numbers-all : (shapes : List Shape) (claims : List CertPair) (i first : ℕ) (numbers all : List ℕ) → length claims ≤ i → numbers ++ proved_of (proofs_from first (drop i shapes) (drop i claims)) ≡ all → all ≡ numbers
-numbers-all shapes claims i first numbers all h e =
-    sym e ∙ ap (λ cs. numbers ++ proved_of (proofs_from first (drop i shapes) cs)) (drop_all i claims h)
-    ∙ ap (λ ps. numbers ++ proved_of ps) (no-claims first (drop i shapes)) ∙ append-nil numbers
+pub numbers-all : (headers : List PairHeader) (claims : List CertPair) (i first : ℕ) (numbers all : List ℕ) → length claims ≤ i → numbers ++ proved_of (proofs_from first (drop i headers) (drop i claims)) ≡ all → all ≡ numbers
+numbers-all headers claims i first numbers all h e =
+    sym e ∙ ap (λ cs. numbers ++ proved_of (proofs_from first (drop i headers) cs)) (drop_all i claims h)
+    ∙ ap (λ ps. numbers ++ proved_of ps) (no-claims first (drop i headers)) ∙ append-nil numbers
 
-pub fits-length : (ss : List Shape) (ps : List CertPair) → FitsPairs ss ps → length ss ≡ length ps
+pub fits-length : (ss : List PairHeader) (ps : List CertPair) → FitsPairs ss ps → length ss ≡ length ps
 fits-length [] [] f = refl
 fits-length (s ∷ ss) (p ∷ ps) f = ap suc (fits-length ss ps f.1)
 fits-length [] (p ∷ ps) f = absurd f
@@ -132,9 +132,9 @@ fits-length (s ∷ ss) [] f = absurd f
 
 -- ---- the lines of the pairs
 
-no-claims-fault : (queries : List (List Tree)) (first line : ℕ) (ss : List Shape) → pairs_fault queries first line ss [] ≡ None
+no-claims-fault : (queries : List (List Tree)) (first line : ℕ) (ss : List PairHeader) → pairs_fault queries first line ss [] ≡ None
 no-claims-fault queries first line [] = refl
 no-claims-fault queries first line (s ∷ ss) = refl
 
-pub no-fault-left : (queries : List (List Tree)) (first line : ℕ) (ss : List Shape) (claims : List CertPair) (i : ℕ) → length claims ≤ i → pairs_fault queries first line ss (drop i claims) ≡ None
+pub no-fault-left : (queries : List (List Tree)) (first line : ℕ) (ss : List PairHeader) (claims : List CertPair) (i : ℕ) → length claims ≤ i → pairs_fault queries first line ss (drop i claims) ≡ None
 no-fault-left queries first line ss claims i h = ap (pairs_fault queries first line ss) (drop_all i claims h) ∙ no-claims-fault queries first line ss

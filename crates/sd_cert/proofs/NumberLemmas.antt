@@ -69,13 +69,13 @@ spaced-last (m ∷ k ∷ ns) n =
     ∙ sym (append_assoc (decimal m ++ 32 ∷ []) (spaced (k ∷ ns)) (decimal n))
 
 -- the numbers that a text spells begin with those in front of it
-record Begins (done rest ns : List ℕ) : Type 0 where
+record Begins (complete rest ns : List ℕ) : Type 0 where
   left : List ℕ
-  whole : ns ≡ done ++ left
+  whole : ns ≡ complete ++ left
   text : rest ≡ numbers_text left
   fit : AreNumbers left
 
-begins : (done rest ns : List ℕ) → AreLess done → AreNumbers ns → spaced done ++ rest ≡ numbers_text ns → Begins done rest ns
+begins : (complete rest ns : List ℕ) → AreLess complete → AreNumbers ns → spaced complete ++ rest ≡ numbers_text ns → Begins complete rest ns
 begins [] rest ns f g e = record { left = ns; whole = refl; text = e; fit = g }
 begins (d ∷ ds) rest [] f g e = absurd g
 begins (d ∷ ds) rest (n ∷ []) f g e =
@@ -92,13 +92,13 @@ begins (d ∷ ds) rest (n ∷ m ∷ ns) f g e =
       fit = others.fit;
     }
 
-module _ (text rest done : List ℕ) (less : AreLess done) (whole : text ≡ spaced done ++ rest) where
+module _ (text rest complete : List ℕ) (less : AreLess complete) (whole : text ≡ spaced complete ++ rest) where
   -- what stands before the first space is no number
   pub none-before_space : (front more : List ℕ) → rest ≡ front ++ 32 ∷ more → has_byte 32 front ≡ false → ((n : ℕ) → n < 2 ^ 64 → front ≡ decimal n → ⊥) → (ns : List ℕ) → AreNumbers ns → text ≡ numbers_text ns → ⊥
   none-before_space front more is plain none ns f e = go b.left b.text b.fit
     where
-      b : Begins done rest ns
-      b = begins done rest ns less f (sym whole ∙ e)
+      b : Begins complete rest ns
+      b = begins complete rest ns less f (sym whole ∙ e)
 
       go : (left : List ℕ) → rest ≡ numbers_text left → AreNumbers left → ⊥
       go [] t g = g
@@ -110,19 +110,19 @@ module _ (text rest done : List ℕ) (less : AreLess done) (whole : text ≡ spa
     pub none-at_end : ((n : ℕ) → n < 2 ^ 64 → rest ≡ decimal n → ⊥) → (ns : List ℕ) → AreNumbers ns → text ≡ numbers_text ns → ⊥
     none-at_end none ns f e = go b.left b.text b.fit
       where
-        b : Begins done rest ns
-        b = begins done rest ns less f (sym whole ∙ e)
+        b : Begins complete rest ns
+        b = begins complete rest ns less f (sym whole ∙ e)
 
         go : (left : List ℕ) → rest ≡ numbers_text left → AreNumbers left → ⊥
         go [] t g = g
         go (n ∷ []) t g = none n g.0 t
         go (n ∷ m ∷ ns) t g = absurd (let h = has_byte-within 32 (decimal n) (numbers_text (m ∷ ns)) in let k = ap (has_byte 32) t in cc)
 
-    pub read-all : (n : ℕ) → n < 2 ^ 64 → rest ≡ decimal n → IsReadAs numbers_text AreNumbers text (Some (done ++ n ∷ []))
+    pub read-all : (n : ℕ) → n < 2 ^ 64 → rest ≡ decimal n → IsReadAs numbers_text AreNumbers text (Some (complete ++ n ∷ []))
     read-all n h e =
-        let fit : AreNumbers (done ++ n ∷ []) = numbers-push done n less h
-        in let is : text ≡ numbers_text (done ++ n ∷ []) = whole ∙ ap (λ t. spaced done ++ t) e ∙ sym (spaced-last done n)
-        in ((fit, is), λ ns f t. ap Some (numbers-injective (done ++ n ∷ []) ns fit f (sym is ∙ t)))
+        let fit : AreNumbers (complete ++ n ∷ []) = numbers-push complete n less h
+        in let is : text ≡ numbers_text (complete ++ n ∷ []) = whole ∙ ap (λ t. spaced complete ++ t) e ∙ sym (spaced-last complete n)
+        in ((fit, is), λ ns f t. ap Some (numbers-injective (complete ++ n ∷ []) ns fit f (sym is ∙ t)))
 
 -- ---- one number more
 

@@ -13,7 +13,7 @@ use Rattle.sd_kernel.specs.declared.How.{How}
 use Rattle.sd_kernel.specs.declared.How.TheVariants.{Steps}
 use Rattle.sd_kernel.specs.declared.Proved.{Proved}
 use Rattle.sd_product.specs.Work.{Held, queries_under}
-use Rattle.sd_cert.specs.declared.shape.Shape.{Shape}
+use Rattle.sd_cert.specs.declared.header.PairHeader.{PairHeader}
 use Rattle.sd_cert.specs.declared.digest.Digests.{Digests}
 use Rattle.sd_cert.specs.declared.certificate.CertPair.{CertPair}
 use Rattle.sd_cert.specs.declared.certificate.Certificate.{Certificate}
@@ -24,12 +24,12 @@ use Rattle.sd_cert.specs.declared.line.Line.TheVariants.{Version, Old, New, Sett
 use Rattle.sd_cert.specs.declared.refusal.Spot.{Spot}
 use Rattle.sd_cert.specs.Lines.{line_text, IsLine}
 use Rattle.sd_cert.specs.Text.{lines_text, BeginsWithoutLine, HasLines}
-use Rattle.sd_cert.specs.Phases.{Phase, at_version, done, after_line, after_lines}
+use Rattle.sd_cert.specs.Phases.{Phase, at_version, complete, after_line, after_lines}
 use Rattle.sd_cert.specs.Certificates.{certificate_lines, certificate_text, IsCertificate}
 use Rattle.sd_cert.specs.Faults.{IsFault}
 use Rattle.sd_cert.specs.Refusals.{unless, or_next, refusal, spot_after, first_spot, first_refusal, refusal_or, first_fault}
 use Rattle.sd_cert.specs.BadSteps.{verdict_fault, how_fault, entry_fault, entries_fault, pairs_fault}
-use Rattle.sd_cert.specs.Shapes.{shapes_of}
+use Rattle.sd_cert.specs.Headers.{headers_of}
 use Rattle.sd_cert.specs.Tables.{table_of}
 use Rattle.sd_cert.specs.ReplayFaults.{IsRefused, HasBadStep, IsReplayFault, IsCertificateFault}
 use Rattle.sd_cert.proofs.TextLemmas.{no_feed, first_line-unique, lines_text-append}
@@ -66,7 +66,7 @@ entries-steps queries first [] line = tt
 entries-steps queries first (p ∷ ps) line =
     next-steps (entry_fault queries first line p) _ (how-steps (line + 1) (get_or queries (first + p.candidate) []) p.how) (entries-steps queries first ps _)
 
-pairs-steps : (queries : List (List Tree)) (ss : List Shape) (ps : List CertPair) (first line : ℕ) → IsOfSteps (pairs_fault queries first line ss ps)
+pairs-steps : (queries : List (List Tree)) (ss : List PairHeader) (ps : List CertPair) (first line : ℕ) → IsOfSteps (pairs_fault queries first line ss ps)
 unfolding IsOfSteps
 pairs-steps queries [] ps first line = tt
 pairs-steps queries (s ∷ ss) [] first line = tt
@@ -92,35 +92,35 @@ unless-work : (b : Bool) (o e : CertError) → IsOfWork o → unless b o ≡ Som
 unless-work true o e f h = absurd (cc)
 unless-work false o e f h = subst IsOfWork (same_Some o e h) f
 
-refusal-work : (shapes : List Shape) (d : Digests) (spot : Spot) (l : Line) (e : CertError) → refusal shapes d spot l ≡ Some e → IsOfWork e
+refusal-work : (headers : List PairHeader) (d : Digests) (spot : Spot) (l : Line) (e : CertError) → refusal headers d spot l ≡ Some e → IsOfWork e
 unfolding IsOfWork
-refusal-work shapes d spot (Version n) e h = absurd (cc)
-refusal-work shapes d spot (Old o) e h = unless-work _ OtherOld e tt h
-refusal-work shapes d spot (New o) e h = unless-work _ OtherNew e tt h
-refusal-work shapes d spot (Settings o) e h = unless-work _ OtherSettings e tt h
-refusal-work shapes d spot (Pairs n) e h = unless-work _ (OtherPair _) e tt h
-refusal-work shapes d spot (Pair i s) e h = unless-work _ (OtherPair i) e tt h
-refusal-work shapes d spot (Candidate k) e h = unless-work _ (OtherPair _) e tt h
-refusal-work shapes d spot (StepLine s) e h = absurd (cc)
-refusal-work shapes d spot (Rows n) e h = absurd (cc)
-refusal-work shapes d spot (Row r) e h = absurd (cc)
-refusal-work shapes d spot End e h = absurd (cc)
+refusal-work headers d spot (Version n) e h = absurd (cc)
+refusal-work headers d spot (Old o) e h = unless-work _ OtherOld e tt h
+refusal-work headers d spot (New o) e h = unless-work _ OtherNew e tt h
+refusal-work headers d spot (Settings o) e h = unless-work _ OtherSettings e tt h
+refusal-work headers d spot (Pairs n) e h = unless-work _ (OtherPair _) e tt h
+refusal-work headers d spot (Pair i s) e h = unless-work _ (OtherPair i) e tt h
+refusal-work headers d spot (Candidate k) e h = unless-work _ (OtherPair _) e tt h
+refusal-work headers d spot (StepLine s) e h = absurd (cc)
+refusal-work headers d spot (Rows n) e h = absurd (cc)
+refusal-work headers d spot (Row r) e h = absurd (cc)
+refusal-work headers d spot End e h = absurd (cc)
 
 -- the lines up to the first that is refused
-record Split (shapes : List Shape) (d : Digests) (spot : Spot) (lines : List Line) (e : CertError) : Type 0 where
+record Split (headers : List PairHeader) (d : Digests) (spot : Spot) (lines : List Line) (e : CertError) : Type 0 where
   front : List Line
   line : Line
   after : List Line
   whole : lines ≡ front ++ line ∷ after
-  passed : first_refusal shapes d spot front ≡ None
-  refused : first_refusal shapes d spot (front ++ line ∷ []) ≡ Some e
+  passed : first_refusal headers d spot front ≡ None
+  refused : first_refusal headers d spot (front ++ line ∷ []) ≡ Some e
   work : IsOfWork e
 
-split-refused : (shapes : List Shape) (d : Digests) (spot : Spot) (ls : List Line) (e : CertError) → first_refusal shapes d spot ls ≡ Some e → Split shapes d spot ls e
-split-refused shapes d spot [] e h = absurd (cc)
-split-refused shapes d spot (l ∷ ls) e h = go (refusal shapes d spot l) refl (split-refused shapes d (spot_after spot l) ls e) h
+split-refused : (headers : List PairHeader) (d : Digests) (spot : Spot) (ls : List Line) (e : CertError) → first_refusal headers d spot ls ≡ Some e → Split headers d spot ls e
+split-refused headers d spot [] e h = absurd (cc)
+split-refused headers d spot (l ∷ ls) e h = go (refusal headers d spot l) refl (split-refused headers d (spot_after spot l) ls e) h
   where
-    go : (o : Option CertError) → refusal shapes d spot l ≡ o → (first_refusal shapes d (spot_after spot l) ls ≡ Some e → Split shapes d (spot_after spot l) ls e) → or_next o (first_refusal shapes d (spot_after spot l) ls) ≡ Some e → Split shapes d spot (l ∷ ls) e
+    go : (o : Option CertError) → refusal headers d spot l ≡ o → (first_refusal headers d (spot_after spot l) ls ≡ Some e → Split headers d (spot_after spot l) ls e) → or_next o (first_refusal headers d (spot_after spot l) ls) ≡ Some e → Split headers d spot (l ∷ ls) e
     go None is others k =
         let more = others k in
         record {
@@ -128,8 +128,8 @@ split-refused shapes d spot (l ∷ ls) e h = go (refusal shapes d spot l) refl (
           line = more.line;
           after = more.after;
           whole = ap (λ t. l ∷ t) more.whole;
-          passed = ap (λ o. or_next o (first_refusal shapes d (spot_after spot l) more.front)) is ∙ more.passed;
-          refused = ap (λ o. or_next o (first_refusal shapes d (spot_after spot l) (more.front ++ more.line ∷ []))) is ∙ more.refused;
+          passed = ap (λ o. or_next o (first_refusal headers d (spot_after spot l) more.front)) is ∙ more.passed;
+          refused = ap (λ o. or_next o (first_refusal headers d (spot_after spot l) (more.front ++ more.line ∷ []))) is ∙ more.refused;
           work = more.work;
         }
     go (Some x) is others k = record {
@@ -139,7 +139,7 @@ split-refused shapes d spot (l ∷ ls) e h = go (refusal shapes d spot l) refl (
       whole = refl;
       passed = refl;
       refused = ap (λ o. or_next o None) is ∙ k;
-      work = refusal-work shapes d spot l e (is ∙ k);
+      work = refusal-work headers d spot l e (is ∙ k);
     }
 
 front-stands : (p q : Phase) (xs ys : List Line) → after_lines p (xs ++ ys) ≡ Some q → (r : Phase) × (after_lines p xs ≡ Some r)
@@ -150,7 +150,7 @@ front-stands p q (x ∷ xs) ys h = go (after_line p x) (λ r. front-stands r q x
     go None more k = absurd (cc)
     go (Some r) more k = more r k
 
-work-fault : (h : Held) (d : Digests) (text : List ℕ) (e : CertError) → IsOfWork e → IsRefused (shapes_of h) d text e → IsReplayFault h d text e
+work-fault : (h : Held) (d : Digests) (text : List ℕ) (e : CertError) → IsOfWork e → IsRefused (headers_of h) d text e → IsReplayFault h d text e
 unfolding IsOfWork
 work-fault h d text OtherOld f r = r
 work-fault h d text OtherNew f r = r
@@ -159,9 +159,9 @@ work-fault h d text (OtherPair i) f r = r
 work-fault h d text _ f r = absurd f
 
 module _ (h : Held) (d : Digests) (text : List ℕ) where
-  refused-fault : (lines : List Line) (rest : List ℕ) (phase : Phase) (e : CertError) → AllByRecursion IsLine lines → text ≡ lines_text lines ++ rest → after_lines at_version lines ≡ Some phase → first_refusal (shapes_of h) d first_spot lines ≡ Some e → IsReplayFault h d text e
+  refused-fault : (lines : List Line) (rest : List ℕ) (phase : Phase) (e : CertError) → AllByRecursion IsLine lines → text ≡ lines_text lines ++ rest → after_lines at_version lines ≡ Some phase → first_refusal (headers_of h) d first_spot lines ≡ Some e → IsReplayFault h d text e
   refused-fault lines rest phase e fit whole stand f =
-      let s = split-refused (shapes_of h) d first_spot lines e f in
+      let s = split-refused (headers_of h) d first_spot lines e f in
       let upto = s.front ++ s.line ∷ [] in
       let parts : lines ≡ upto ++ s.after = s.whole ∙ sym (append_assoc s.front (s.line ∷ []) s.after) in
       let stands = front-stands at_version phase upto s.after (ap (after_lines at_version) (sym parts) ∙ stand) in
@@ -181,9 +181,9 @@ module _ (h : Held) (d : Digests) (text : List ℕ) where
 
   pub certificate-fault : (c : Certificate) (e : CertError) → IsCertificate c → text ≡ certificate_text c → IsCertificateFault h d c e → IsReplayFault h d text e
   certificate-fault c e f t (inl m) = subst (λ (x : CertError). IsReplayFault h d text x) (sym m) tt
-  certificate-fault c e f t (inr (inl r)) = refused-fault (certificate_lines c) [] done e f (t ∙ sym (append-nil (certificate_text c))) (certificate-end c) r
+  certificate-fault c e f t (inr (inl r)) = refused-fault (certificate_lines c) [] complete e f (t ∙ sym (append-nil (certificate_text c))) (certificate-end c) r
   certificate-fault c e f t (inr (inr s)) =
-      step-fault h d text e (subst IsOfSteps s.2 (pairs-steps (queries_under h (table_of (shapes_of h) c.pairs)) (shapes_of h) c.pairs 0 6)) record {
+      step-fault h d text e (subst IsOfSteps s.2 (pairs-steps (queries_under h (table_of (headers_of h) c.pairs)) (headers_of h) c.pairs 0 6)) record {
         certificate = c;
         form = f;
         whole = t;
@@ -211,14 +211,14 @@ module _ (h : Held) (d : Digests) (text : List ℕ) (lines : List Line) (rest : 
       let count : length ls ≡ n - 1 = omega arith in
       prefix-of ls lines others rest f has.fit has.stop (sym w ∙ has.whole) ∙ ap (λ k. take k lines) count
 
-  line-fault : (n : ℕ) → IsFault text (BadLine n) → (o : Option CertError) → first_refusal (shapes_of h) d first_spot (take (n - 1) lines) ≡ o → IsReplayFault h d text (refusal_or o (BadLine n))
-  line-fault n fault None is = (fault, λ ls others f w e. ap (first_refusal (shapes_of h) d first_spot) (before-is n ls others f w e) ∙ is)
+  line-fault : (n : ℕ) → IsFault text (BadLine n) → (o : Option CertError) → first_refusal (headers_of h) d first_spot (take (n - 1) lines) ≡ o → IsReplayFault h d text (refusal_or o (BadLine n))
+  line-fault n fault None is = (fault, λ ls others f w e. ap (first_refusal (headers_of h) d first_spot) (before-is n ls others f w e) ∙ is)
   line-fault n fault (Some e) is =
       let at = fault.0 in
-      refused-fault h d text at.lines at.rest at.phase e at.fit at.whole at.before (ap (first_refusal (shapes_of h) d first_spot) (before-is n at.lines at.rest at.fit at.whole at.number) ∙ is)
+      refused-fault h d text at.lines at.rest at.phase e at.fit at.whole at.before (ap (first_refusal (headers_of h) d first_spot) (before-is n at.lines at.rest at.fit at.whole at.number) ∙ is)
 
-  pub reading-fault : (fault : CertError) → IsFault text fault → IsReplayFault h d text (first_fault (shapes_of h) d lines fault)
+  pub reading-fault : (fault : CertError) → IsFault text fault → IsReplayFault h d text (first_fault (headers_of h) d lines fault)
   reading-fault NoMemory f = tt
   reading-fault (OtherVersion v) f = f
-  reading-fault (BadLine n) f = line-fault n f (first_refusal (shapes_of h) d first_spot (take (n - 1) lines)) refl
+  reading-fault (BadLine n) f = line-fault n f (first_refusal (headers_of h) d first_spot (take (n - 1) lines)) refl
   reading-fault _ f = absurd f

@@ -16,7 +16,7 @@ use Rattle.sd_cert.specs.Accepts.{FitsPairs, Accepts}
 use Rattle.sd_cert.specs.Refusals.{first_spot, first_refusal}
 use Rattle.sd_cert.specs.BadSteps.{step_fault}
 use Rattle.sd_cert.specs.ReplayFaults.{IsCertificateFault}
-use Rattle.sd_cert.specs.Shapes.{shapes_of}
+use Rattle.sd_cert.specs.Headers.{headers_of}
 use Rattle.sd_cert.proofs.AcceptLemmas.{front-of}
 use Rattle.sd_cert.proofs.OneCertificate.{one_certificate}
 use Rattle.sd_cert.proofs.RefusalLemmas.{certificate-passes}
@@ -44,7 +44,7 @@ module _ (h : Held) (d : Digests) (text : List ℕ) where
       go : IsCertificateFault h d c e → ⊥
       go (inl m) = other m
       go (inr (inl r)) =
-          absurd (let k = certificate-passes (shapes_of h) d a.certificate a.same_digests a.fits in let j = ap (λ (x : Certificate). first_refusal (shapes_of h) d first_spot (certificate_lines x)) same in cc)
+          absurd (let k = certificate-passes (headers_of h) d a.certificate a.same_digests a.fits in let j = ap (λ (x : Certificate). first_refusal (headers_of h) d first_spot (certificate_lines x)) same in cc)
       go (inr (inr r)) =
           absurd (let k = accepted-passes h d text t a in let j = ap (λ (x : Certificate). step_fault h x.pairs) same in let i = r.2 in cc)
 
@@ -62,6 +62,6 @@ pub given-err : {A E : Type 0} (P : E → Type 0) (r : Result A E) (e : E) → I
 given-err P (Ok x) e h p = tt
 given-err P (Err y) e h p = subst P (sym h) p
 
-pub accept-fault : (h : Held) (d : Digests) (c : Certificate) (e : CertError) → c.digests ≡ d → FitsPairs (shapes_of h) c.pairs → (e ≡ NoMemory) ⊎ (step_fault h c.pairs ≡ Some e) → IsCertificateFault h d c e
+pub accept-fault : (h : Held) (d : Digests) (c : Certificate) (e : CertError) → c.digests ≡ d → FitsPairs (headers_of h) c.pairs → (e ≡ NoMemory) ⊎ (step_fault h c.pairs ≡ Some e) → IsCertificateFault h d c e
 accept-fault h d c e same fits (inl m) = inl m
 accept-fault h d c e same fits (inr s) = inr (inr (same, fits, s))

@@ -14,7 +14,7 @@ use Rattle.sd_cert.specs.Lines.{IsLine}
 use Rattle.sd_cert.specs.Added.{IsAdded}
 use Rattle.sd_cert.specs.Certificates.{proved_lines, pair_lines, certificate_lines}
 use Rattle.sd_cert.proofs.TextLemmas.{lines_text-append}
-use Rattle.sd_cert.proofs.DraftLemmas.{pair_lines-push}
+use Rattle.sd_cert.proofs.PrefixLemmas.{pair_lines-push}
 use Rattle.sd_cert.proofs.AllLemmas.{all-append}
 
 -- the lines are the same ones

@@ -5,11 +5,11 @@ use Rattle.sd_term.specs.Tree.{Tree}
 use Rattle.sd_kernel.specs.declared.Proved.{Proved}
 use Rattle.sd_product.specs.Work.{Held, claims_in, queries_under}
 use Rattle.sd_product.specs.Inductive.{proved_of, live_from, IsInductive}
-use Rattle.sd_cert.specs.declared.shape.Shape.{Shape}
+use Rattle.sd_cert.specs.declared.header.PairHeader.{PairHeader}
 use Rattle.sd_cert.specs.declared.digest.Digests.{Digests}
 use Rattle.sd_cert.specs.declared.certificate.CertPair.{CertPair}
 use Rattle.sd_cert.specs.Accepts.{Ascend, FitsPairs, numbered_from, proofs_from, Accepts}
-use Rattle.sd_cert.specs.Shapes.{count_of}
+use Rattle.sd_cert.specs.Headers.{count_of}
 use Rattle.sd_cert.specs.Written.{IsWritten}
 
 -- ---- the entries of a pair
@@ -103,9 +103,9 @@ first-above end k (q ∷ qs) p rest size is h e =
 -- ---- the pairs
 
 -- claims before any that fit the pairs that are left, with the proofs that are left, are the claims of all pairs
-abbrev pub Continues : List Shape → List Proved → List CertPair → ℕ → List Shape → List Proved → Type 0
-Continues shapes proofs claims first left rest =
-    (more : List CertPair) → FitsPairs left more → proofs_from first left more ≡ rest → FitsPairs shapes (claims ++ more) × (proofs_from 0 shapes (claims ++ more) ≡ proofs)
+abbrev pub Continues : List PairHeader → List Proved → List CertPair → ℕ → List PairHeader → List Proved → Type 0
+Continues headers proofs claims first left rest =
+    (more : List CertPair) → FitsPairs left more → proofs_from first left more ≡ rest → FitsPairs headers (claims ++ more) × (proofs_from 0 headers (claims ++ more) ≡ proofs)
 
 -- nothing ascends below the first number
 pub none-left : (n : ℕ) (ps : List Proved) → Ascend n n (proved_of ps) → ps ≡ []
@@ -113,14 +113,14 @@ none-left n [] a = refl
 none-left n (p ∷ ps) a = absurd (let low = a.0 in let high = a.1 in omega arith)
 
 -- after the last pair no proof is left, and the claims are those of all pairs
-pub fits-all : (shapes : List Shape) (proofs : List Proved) (claims : List CertPair) (i first : ℕ) (left : List Proved) → length shapes ≤ i → first + count_of (drop i shapes) ≡ count_of shapes
-    → Ascend first (count_of shapes) (proved_of left) → Continues shapes proofs claims first (drop i shapes) left → FitsPairs shapes claims × (proofs_from 0 shapes claims ≡ proofs)
-fits-all shapes proofs claims i first left past total a c =
-    let none : drop i shapes ≡ [] = drop_all i shapes past in
-    let all : first ≡ count_of shapes = omega (arith, total, ap count_of none) in
+pub fits-all : (headers : List PairHeader) (proofs : List Proved) (claims : List CertPair) (i first : ℕ) (left : List Proved) → length headers ≤ i → first + count_of (drop i headers) ≡ count_of headers
+    → Ascend first (count_of headers) (proved_of left) → Continues headers proofs claims first (drop i headers) left → FitsPairs headers claims × (proofs_from 0 headers claims ≡ proofs)
+fits-all headers proofs claims i first left past total a c =
+    let none : drop i headers ≡ [] = drop_all i headers past in
+    let all : first ≡ count_of headers = omega (arith, total, ap count_of none) in
     let empty : left ≡ [] = none-left first left (subst (λ n. Ascend first n (proved_of left)) (sym all) a) in
-    let end : Continues shapes proofs claims first [] left = subst (λ (ss : List Shape). Continues shapes proofs claims first ss left) none c in
-    subst (λ (cs : List CertPair). FitsPairs shapes cs × (proofs_from 0 shapes cs ≡ proofs)) (append-nil claims) (end [] tt (sym empty))
+    let end : Continues headers proofs claims first [] left = subst (λ (ss : List PairHeader). Continues headers proofs claims first ss left) none c in
+    subst (λ (cs : List CertPair). FitsPairs headers cs × (proofs_from 0 headers cs ≡ proofs)) (append-nil claims) (end [] tt (sym empty))
 
 -- ---- what is written is accepted
 

@@ -6,11 +6,11 @@ use Rattle.sd_product.specs.Inductive.{proved_of, IsInductive}
 use Rattle.sd_cert.specs.declared.digest.Digests.{Digests}
 use Rattle.sd_cert.specs.declared.certificate.CertPair.{CertPair}
 use Rattle.sd_cert.specs.declared.certificate.Certificate.{Certificate}
-use Rattle.sd_cert.specs.declared.shape.Shape.{Shape}
+use Rattle.sd_cert.specs.declared.header.PairHeader.{PairHeader}
 use Rattle.sd_cert.specs.declared.line.CertState.{CertState}
 use Rattle.sd_cert.specs.declared.line.CertState.TheVariants.{Open, Refused}
 use Rattle.sd_cert.specs.Certificates.{certificate_text, IsCertificate}
-use Rattle.sd_cert.specs.Shapes.{shapes_of}
+use Rattle.sd_cert.specs.Headers.{headers_of}
 
 abbrev pub state_of : Bool → CertState
 state_of true = Refused
@@ -22,11 +22,11 @@ Ascend least bound [] = Unit {0}
 Ascend least bound (k ∷ ks) = (least ≤ k) × (k < bound) × Ascend (k + 1) bound ks
 
 -- what a certificate says of a pair has the pair's state, and candidates that the pair has
-pub record FitsPair (s : Shape) (p : CertPair) : Type 0 where
+pub record FitsPair (s : PairHeader) (p : CertPair) : Type 0 where
   pub state : p.state ≡ state_of s.refused
   pub numbers : Ascend 0 s.candidates (proved_of p.proved)
 
-abbrev pub FitsPairs : List Shape → List CertPair → Type 0
+abbrev pub FitsPairs : List PairHeader → List CertPair → Type 0
 FitsPairs [] [] = Unit {0}
 FitsPairs (s ∷ ss) (p ∷ ps) = FitsPair s p × FitsPairs ss ps
 FitsPairs _ _ = ⊥
@@ -36,7 +36,7 @@ abbrev pub numbered_from : ℕ → Proved → Proved
 numbered_from n p = record p { candidate = n + p.candidate }
 
 -- the entries of all pairs, whose candidates are numbered through from this number on
-abbrev pub proofs_from : ℕ → List Shape → List CertPair → List Proved
+abbrev pub proofs_from : ℕ → List PairHeader → List CertPair → List Proved
 proofs_from n (s ∷ ss) (p ∷ ps) = map (numbered_from n) p.proved ++ proofs_from (n + s.candidates) ss ps
 proofs_from n _ _ = []
 
@@ -47,6 +47,6 @@ pub record Accepts (h : Held) (digests : Digests) (bytes : List ℕ) (table : Li
   pub form : IsCertificate certificate
   pub text : bytes ≡ certificate_text certificate
   pub same_digests : certificate.digests ≡ digests
-  pub fits : FitsPairs (shapes_of h) certificate.pairs
+  pub fits : FitsPairs (headers_of h) certificate.pairs
   pub size : length table ≡ length (claims_in h)
-  pub inductive : IsInductive (queries_under h table) table (proofs_from 0 (shapes_of h) certificate.pairs)
+  pub inductive : IsInductive (queries_under h table) table (proofs_from 0 (headers_of h) certificate.pairs)

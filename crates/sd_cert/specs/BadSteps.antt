@@ -9,13 +9,13 @@ use Rattle.sd_kernel.specs.declared.How.{How}
 use Rattle.sd_kernel.specs.declared.How.TheVariants.{Steps}
 use Rattle.sd_kernel.specs.declared.Proved.{Proved}
 use Rattle.sd_product.specs.Work.{Held, queries_under}
-use Rattle.sd_cert.specs.declared.shape.Shape.{Shape}
+use Rattle.sd_cert.specs.declared.header.PairHeader.{PairHeader}
 use Rattle.sd_cert.specs.declared.certificate.CertPair.{CertPair}
 use Rattle.sd_cert.specs.declared.fault.CertError.{CertError}
 use Rattle.sd_cert.specs.declared.fault.CertError.TheVariants.{NoMemory, Step as BadStep}
 use Rattle.sd_cert.specs.Certificates.{proved_lines}
 use Rattle.sd_cert.specs.Refusals.{or_next}
-use Rattle.sd_cert.specs.Shapes.{shapes_of}
+use Rattle.sd_cert.specs.Headers.{headers_of}
 use Rattle.sd_cert.specs.Tables.{table_of}
 
 -- what is said of steps from this line on
@@ -37,16 +37,16 @@ entries_fault queries first line (p ∷ ps) =
     or_next (entry_fault queries first line p) (entries_fault queries first (line + length (proved_lines p)) ps)
 
 -- the first bad step of the pairs from this line on, whose candidates are numbered from `first` on
-abbrev pub pairs_fault : List (List Tree) → (first line : ℕ) → List Shape → List CertPair → Option CertError
+abbrev pub pairs_fault : List (List Tree) → (first line : ℕ) → List PairHeader → List CertPair → Option CertError
 pairs_fault queries first line (s ∷ ss) (p ∷ ps) =
     or_next (entries_fault queries first (line + 1) p.proved) (pairs_fault queries (first + s.candidates) (line + 1 + length (flat_map proved_lines p.proved)) ss ps)
 pairs_fault queries first line _ _ = None
 
 -- The first bad step of a certificate with these pairs, under its own table. The first pair stands at line 6.
 abbrev pub step_fault : Held → List CertPair → Option CertError
-step_fault h pairs = pairs_fault (queries_under h (table_of (shapes_of h) pairs)) 0 6 (shapes_of h) pairs
+step_fault h pairs = pairs_fault (queries_under h (table_of (headers_of h) pairs)) 0 6 (headers_of h) pairs
 
 -- the result names the fault, if there is one, but for out of memory
-abbrev pub Names : {A : Type 0} → Option CertError → Result A CertError → Type 0
-Names fault (Ok x) = fault ≡ None
-Names fault (Err e) = (e ≡ NoMemory) ⊎ (fault ≡ Some e)
+abbrev pub HasFault : {A : Type 0} → Option CertError → Result A CertError → Type 0
+HasFault fault (Ok x) = fault ≡ None
+HasFault fault (Err e) = (e ≡ NoMemory) ⊎ (fault ≡ Some e)

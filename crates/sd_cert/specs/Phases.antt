@@ -13,7 +13,7 @@ pub data Phase : Type 0 where
   at_settings : Phase
   at_pairs : Phase
   in_pairs : ℕ → ℕ → Bool → ℕ → Phase
-  done : Phase
+  complete : Phase
 
 abbrev pub after_line : Phase → Line → Option Phase
 after_line at_version (Version n) = if n == 1 then Some at_old else None
@@ -25,7 +25,7 @@ after_line (in_pairs n i c zero) (Pair j s) = if (j == i) && nat_lt i n then Som
 after_line (in_pairs n i c zero) (Candidate k) = if nat_lt 0 i then Some (in_pairs n i true 0) else None
 after_line (in_pairs n i c zero) (StepLine s) = if c then Some (in_pairs n i true 0) else None
 after_line (in_pairs n i c zero) (Rows rows) = if c then Some (in_pairs n i true rows) else None
-after_line (in_pairs n i c zero) End = if i == n then Some done else None
+after_line (in_pairs n i c zero) End = if i == n then Some complete else None
 after_line (in_pairs n i c (suc rows)) (Row row) = Some (in_pairs n i c rows)
 after_line _ _ = None
 

@@ -5,13 +5,13 @@ ghost use Rattle.sd_product.specs.Inductive.{proved_of};
 ghost use Rattle.sd_product.specs.Work.{claims_in, queries_under};
 ghost use Rattle.sd_cert.specs.Accepts.{FitsPairs, Ascend};
 ghost use Rattle.sd_cert.specs.Certificates.{proved_lines};
-ghost use Rattle.sd_cert.specs.BadSteps.{how_fault, entries_fault, pairs_fault, Names};
-ghost use Rattle.sd_cert.specs.Shapes.{count_of};
+ghost use Rattle.sd_cert.specs.BadSteps.{how_fault, entries_fault, pairs_fault, HasFault};
+ghost use Rattle.sd_cert.specs.Headers.{count_of};
 
 use crate::certificate::CertPair;
 use crate::counting::{below_entry, further};
 use crate::fault::CertError;
-use crate::shape::Shape;
+use crate::header::PairHeader;
 use sd_cand::LiveTable;
 use sd_kernel::{How, Proved, Verdict, proves};
 use sd_product::{Work, query};
@@ -28,7 +28,7 @@ fn judge_entry(
 ) -> Result<(), CertError>
     requires within { candidate < length (claims_in work.now) }
     requires size { length table.now ≡ length (claims_in work.now) }
-    ensures { Names (how_fault (line + 1) (slice_index_or (queries_under work.now table.now) candidate []) how.now) result }
+    ensures { HasFault (how_fault (line + 1) (slice_index_or (queries_under work.now table.now) candidate []) how.now) result }
 {
     let facts = query(alloc, work, table, candidate)?;
     let How::Steps(proof) = how;
@@ -55,7 +55,7 @@ fn judge_entries(
     requires ascend { Ascend 0 (length (claims_in work.now) - first) (proved_of entries.now) }
     requires size { length table.now ≡ length (claims_in work.now) }
     requires small { length (claims_in work.now) < 2 ^ 32 }
-    ensures fault { Names (entries_fault (queries_under work.now table.now) first line entries.now) result }
+    ensures fault { HasFault (entries_fault (queries_under work.now table.now) first line entries.now) result }
     ensures line { IfOk result (λ l. l ≡ line + length (flat_map proved_lines entries.now)) }
 {
     let mut at = line;
@@ -72,20 +72,20 @@ pub(crate) fn judge_pairs(
     alloc: Global,
     work: &Work,
     table: &LiveTable,
-    shapes: &[Shape],
+    headers: &[PairHeader],
     claims: &[CertPair],
     line: u64,
 ) -> Result<(), CertError>
-    requires fits { FitsPairs shapes.now claims.now }
-    requires count { count_of shapes.now ≡ length (claims_in work.now) }
+    requires fits { FitsPairs headers.now claims.now }
+    requires count { count_of headers.now ≡ length (claims_in work.now) }
     requires size { length table.now ≡ length (claims_in work.now) }
     requires small { length (claims_in work.now) < 2 ^ 32 }
-    ensures { Names (pairs_fault (queries_under work.now table.now) 0 line shapes.now claims.now) result }
+    ensures { HasFault (pairs_fault (queries_under work.now table.now) 0 line headers.now claims.now) result }
 {
     let mut at = line;
     let mut first = 0u32;
     for (i, claim) in claims.iter().enumerate() {
-        let count = shapes[i].candidates;
+        let count = headers[i].candidates;
         let below = further(at, 1)?;
         at = judge_entries(alloc, work, table, claim.proved.as_slice(), first, below)?;
         first += count;

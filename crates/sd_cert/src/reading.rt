@@ -5,12 +5,12 @@ ghost use Rattle.sd_cert.specs.Lines.{IsLine};
 ghost use Rattle.sd_cert.specs.declared.certificate.Certificate.{Certificate as Spelled};
 ghost use Rattle.sd_cert.specs.declared.fault.CertError.TheVariants.{NoMemory as Memory};
 ghost use Rattle.sd_cert.specs.Certificates.{certificate_text, IsCertificate};
-ghost use Rattle.sd_cert.specs.Drafts.{draft_lines, phase_of};
+ghost use Rattle.sd_cert.specs.Prefixes.{prefix_lines, phase_of};
 ghost use Rattle.sd_cert.specs.Phases.{at_version, after_lines};
 ghost use Rattle.sd_cert.specs.Faults.{IsFault, IsLineFault, IsPlaceFault};
 
 use crate::certificate::Certificate;
-use crate::draft::Draft;
+use crate::prefix::Prefix;
 use crate::extend::next;
 use crate::fault::CertError;
 use crate::line::Line;
@@ -34,27 +34,27 @@ fn read_whole(alloc: Global, bytes: &[u8]) -> Result<Certificate, CertError>
 {
     let (lines, rest) = read_lines(alloc, bytes)?;
     let lines = lines.as_slice();
-    let draft = read_draft(alloc, lines)?;
-    match draft {
-        Draft::Done(certificate) if rest.is_empty() => Ok(certificate),
+    let prefix = read_prefix(alloc, lines)?;
+    match prefix {
+        Prefix::Complete(certificate) if rest.is_empty() => Ok(certificate),
         _ => Err(CertError::Line(lines.len() as u64 + 1)),
     }
 }
 
-fn read_draft(alloc: Global, lines: &[Line]) -> Result<Draft, CertError>
+fn read_prefix(alloc: Global, lines: &[Line]) -> Result<Prefix, CertError>
     requires { AllByRecursion IsLine lines.now }
-    ensures lines { IfOk result (λ draft. draft_lines draft ≡ lines.now) }
-    ensures phase { IfOk result (λ draft. after_lines at_version lines.now ≡ Some (phase_of draft)) }
+    ensures lines { IfOk result (λ prefix. prefix_lines prefix ≡ lines.now) }
+    ensures phase { IfOk result (λ prefix. after_lines at_version lines.now ≡ Some (phase_of prefix)) }
     ensures fault { IfErr result (IsLineFault lines.now) }
 {
-    let mut draft = Draft::Empty;
+    let mut prefix = Prefix::Empty;
     for (i, line) in lines.iter().enumerate() {
-        match next(alloc, draft, line)? {
-            Some(longer) => draft = longer,
+        match next(alloc, prefix, line)? {
+            Some(longer) => prefix = longer,
             None => return Err(fault_at(i, line)),
         }
     }
-    Ok(draft)
+    Ok(prefix)
 }
 
 fn fault_at(place: usize, line: &Line) -> CertError

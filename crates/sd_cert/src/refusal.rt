@@ -1,11 +1,11 @@
-//! Lines that are not those of the shapes and digests.
+//! Lines that are not those of the headers and digests.
 ghost use Rattle.std.specs.Prelude.{◌≡◌, ◌<◌, ◌^◌, ◌+◌, length, slice_get};
 ghost use Rattle.sd_cert.specs.Refusals.{unless, has_state, candidate_count, spot_after, refusal, first_spot, first_refusal};
 
 use crate::digest::Digests;
 use crate::fault::CertError;
 use crate::line::{CertState, Line};
-use crate::shape::Shape;
+use crate::header::PairHeader;
 
 /// Where a line stands: below the line of a pair, with the least number that its next candidate can have.
 #[derive(Clone, Copy, Debug)]
@@ -21,10 +21,10 @@ fn unless(holds: bool, fault: CertError) -> Option<CertError>
 }
 
 /// Whether the pair with this number has this state.
-fn has_state(shapes: &[Shape], pair: u32, state: CertState) -> bool
-    ensures { result ≡ has_state (slice_get shapes.now pair) state }
+fn has_state(headers: &[PairHeader], pair: u32, state: CertState) -> bool
+    ensures { result ≡ has_state (slice_get headers.now pair) state }
 {
-    match shapes.get(pair as usize) {
+    match headers.get(pair as usize) {
         Some(found) => match state {
             CertState::Open => !found.refused,
             CertState::Refused => found.refused,
@@ -34,19 +34,19 @@ fn has_state(shapes: &[Shape], pair: u32, state: CertState) -> bool
 }
 
 /// How many candidates the pair with this number has.
-fn candidate_count(shapes: &[Shape], pair: u32) -> u64
-    ensures { result ≡ candidate_count (slice_get shapes.now pair) }
+fn candidate_count(headers: &[PairHeader], pair: u32) -> u64
+    ensures { result ≡ candidate_count (slice_get headers.now pair) }
 {
-    match shapes.get(pair as usize) {
+    match headers.get(pair as usize) {
         Some(found) => found.candidates as u64,
         None => 0,
     }
 }
 
 /// Why a line is refused.
-fn refusal(shapes: &[Shape], digests: &Digests, spot: Spot, line: &Line) -> Option<CertError>
-    requires { length shapes.now < 2 ^ 32 }
-    ensures { result ≡ refusal shapes.now digests.now spot line.now }
+fn refusal(headers: &[PairHeader], digests: &Digests, spot: Spot, line: &Line) -> Option<CertError>
+    requires { length headers.now < 2 ^ 32 }
+    ensures { result ≡ refusal headers.now digests.now spot line.now }
 {
     match line {
         Line::Old(old) => unless(*old == digests.old, CertError::OtherOld),
@@ -55,13 +55,13 @@ fn refusal(shapes: &[Shape], digests: &Digests, spot: Spot, line: &Line) -> Opti
             unless(*settings == digests.settings, CertError::OtherSettings)
         }
         Line::Pairs(count) => {
-            let own = shapes.len() as u64;
+            let own = headers.len() as u64;
             unless(*count == own, CertError::Pair((*count).min(own) as u32))
         }
-        Line::Pair(pair, state) => unless(has_state(shapes, *pair, *state), CertError::Pair(*pair)),
+        Line::Pair(pair, state) => unless(has_state(headers, *pair, *state), CertError::Pair(*pair)),
         Line::Candidate(candidate) => {
             let number = *candidate as u64;
-            let count = candidate_count(shapes, spot.pair);
+            let count = candidate_count(headers, spot.pair);
             unless(
                 spot.least <= number && number < count,
                 CertError::Pair(spot.pair),
@@ -89,16 +89,16 @@ fn spot_after(spot: Spot, line: &Line) -> Spot
 
 /// Why the first of these lines that is refused is refused, if one is.
 pub(crate) fn first_refusal(
-    shapes: &[Shape],
+    headers: &[PairHeader],
     digests: &Digests,
     lines: &[Line],
 ) -> Option<CertError>
-    requires { length shapes.now < 2 ^ 32 }
-    ensures { result ≡ first_refusal shapes.now digests.now first_spot lines.now }
+    requires { length headers.now < 2 ^ 32 }
+    ensures { result ≡ first_refusal headers.now digests.now first_spot lines.now }
 {
     let mut spot = Spot { pair: 0, least: 0 };
     for line in lines {
-        if let Some(fault) = refusal(shapes, digests, spot, line) {
+        if let Some(fault) = refusal(headers, digests, spot, line) {
             return Some(fault);
         }
         spot = spot_after(spot, line);

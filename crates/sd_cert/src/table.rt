@@ -2,23 +2,23 @@
 ghost use Rattle.std.specs.Prelude.{◌≡◌, ◌<◌, ◌≤◌, ◌+◌, ◌++◌, ◌^◌, IfOk, List, ℕ, length, map};
 ghost use Rattle.sd_product.specs.Inductive.{proved_of, live_from};
 ghost use Rattle.sd_cert.specs.Accepts.{FitsPairs, Ascend, proofs_from};
-ghost use Rattle.sd_cert.specs.Shapes.{count_of};
+ghost use Rattle.sd_cert.specs.Headers.{count_of};
 ghost use Rattle.sd_cert.specs.Tables.{IsDecided};
 
 use crate::certificate::CertPair;
-use crate::shape::Shape;
+use crate::header::PairHeader;
 use sd_base::NoMemory;
 use sd_cand::LiveTable;
 use sd_kernel::Proved;
 use std::alloc::Global;
 
 /// How many candidates there are. More than a table can have are out of memory.
-fn count_candidates(shapes: &[Shape]) -> Result<u32, NoMemory>
-    ensures { IfOk result (λ n. n ≡ count_of shapes.now) }
+fn count_candidates(headers: &[PairHeader]) -> Result<u32, NoMemory>
+    ensures { IfOk result (λ n. n ≡ count_of headers.now) }
 {
     let mut count = 0u32;
-    for shape in shapes {
-        let Some(sum) = count.checked_add(shape.candidates) else {
+    for header in headers {
+        let Some(sum) = count.checked_add(header.candidates) else {
             return Err(NoMemory);
         };
         count = sum;
@@ -64,23 +64,23 @@ fn list_entries(
     next
 }
 
-/// The table of pairs with these shapes in which just the listed candidates are live.
+/// The table of pairs with these headers in which just the listed candidates are live.
 pub(crate) fn list_live(
     alloc: Global,
-    shapes: &[Shape],
+    headers: &[PairHeader],
     claims: &[CertPair],
 ) -> Result<LiveTable, NoMemory>
-    requires { FitsPairs shapes.now claims.now }
-    ensures size { IfOk result (λ table. length table ≡ count_of shapes.now) }
+    requires { FitsPairs headers.now claims.now }
+    ensures size { IfOk result (λ table. length table ≡ count_of headers.now) }
     ensures small { IfOk result (λ table. length table < 2 ^ 32) }
-    ensures live { IfOk result (λ table. proved_of (proofs_from 0 shapes.now claims.now) ≡ live_from 0 table) }
+    ensures live { IfOk result (λ table. proved_of (proofs_from 0 headers.now claims.now) ≡ live_from 0 table) }
 {
-    let total = count_candidates(shapes)?;
+    let total = count_candidates(headers)?;
     let mut table = LiveTable::full(alloc, total)?;
     let mut first = 0u32;
     let mut decided = 0u32;
     for (i, claim) in claims.iter().enumerate() {
-        let count = shapes[i].candidates;
+        let count = headers[i].candidates;
         decided = list_entries(&mut table, claim.proved.as_slice(), first, count, decided);
         first += count;
     }

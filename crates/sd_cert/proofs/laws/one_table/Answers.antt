@@ -4,7 +4,7 @@ use Rattle.sd_product.specs.Inductive.{proved_of, live_from}
 use Rattle.sd_cert.specs.declared.certificate.Certificate.{Certificate}
 use Rattle.sd_cert.specs.Accepts.{proofs_from}
 use Rattle.sd_cert.specs.OneTable.{ShowsOneTable}
-use Rattle.sd_cert.specs.Shapes.{shapes_of}
+use Rattle.sd_cert.specs.Headers.{headers_of}
 use Rattle.sd_cert.proofs.OneCertificate.{one_certificate}
 use Rattle.sd_cert.proofs.laws.one_table.Goals as goal
 
@@ -26,7 +26,7 @@ one_table : ShowsOneTable
 one_table h d bytes t u a b =
     let same : a.certificate ≡ b.certificate = one_certificate a.certificate b.certificate a.form b.form (sym a.text ∙ b.text)
     in same-table 0 t u (a.size ∙ sym b.size)
-    (sym a.inductive.numbers ∙ ap (λ (c : Certificate). proved_of (proofs_from 0 (shapes_of h) c.pairs)) same ∙ b.inductive.numbers)
+    (sym a.inductive.numbers ∙ ap (λ (c : Certificate). proved_of (proofs_from 0 (headers_of h) c.pairs)) same ∙ b.inductive.numbers)
 
 pub returns : goal.returns
 returns c = one_table

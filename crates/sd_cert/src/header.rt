@@ -1,15 +1,16 @@
-//! The shapes of pairs.
+//! The headers of pairs.
 ghost use Rattle.std.specs.Prelude.{◌≡◌, ◌<◌, ◌^◌, IfOk, length};
-ghost use Rattle.sd_cert.specs.Shapes.{is_refused, shapes_of};
+ghost use Rattle.sd_cert.specs.Headers.{is_refused, headers_of};
 
 use sd_base::NoMemory;
 use sd_match::PairState;
 use sd_product::Work;
 use std::alloc::Global;
 
-/// What a certificate says nothing of but must fit: whether a pair is refused, and how many candidates it has.
+/// The header of a pair, which the pair of a certificate must fit: whether it is refused, and how many candidates it
+/// has.
 #[derive(Clone, Copy, Debug, PartialEq, Eq)]
-pub struct Shape {
+pub struct PairHeader {
     pub refused: bool,
     pub candidates: u32,
 }
@@ -20,21 +21,21 @@ fn is_refused(state: &PairState) -> bool
     !matches!(state, PairState::Open)
 }
 
-/// The shapes of all pairs. More candidates than a table can have are out of memory.
-pub fn shapes_of(alloc: Global, work: &Work) -> Result<Vec<Shape>, NoMemory>
-    ensures shapes { IfOk result (λ shapes. shapes.items ≡ shapes_of work.now) }
-    ensures count { IfOk result (λ shapes. length shapes.items < 2 ^ 32) }
+/// The headers of all pairs. More candidates than a table can have are out of memory.
+pub fn headers_of(alloc: Global, work: &Work) -> Result<Vec<PairHeader>, NoMemory>
+    ensures headers { IfOk result (λ headers. headers.items ≡ headers_of work.now) }
+    ensures count { IfOk result (λ headers. length headers.items < 2 ^ 32) }
 {
     let pairs = work.pairs();
-    let mut shapes = Vec::new(alloc);
+    let mut headers = Vec::new(alloc);
     for i in 0..pairs.len() {
         let Ok(candidates) = u32::try_from(work.candidates_of(i).len()) else {
             return Err(NoMemory);
         };
-        shapes.push(Shape {
+        headers.push(PairHeader {
             refused: is_refused(&pairs.pair(i).state),
             candidates,
         })?;
     }
-    Ok(shapes)
+    Ok(headers)
 }

@@ -1,0 +1,48 @@
+-- The headers of pairs, and how many candidates they have.
+use Rattle.std.proofs.Common.{◌≡◌, ℕ, ◌+◌, ◌<◌, Bool, List, [], ◌∷◌, ◌++◌, map, take, length, get_or, refl, sym, ap, ◌∙◌, arith, length-append}
+use Rattle.std.specs.Prelude.{Some, slice_get}
+use Rattle.std.proofs.lemmas.List.{length-map, map-append, take_more}
+use Rattle.std.proofs.lemmas.Option.{get_or_from_slice_get, same_Some, slice_get-map}
+use Rattle.std.specs.Option.{option_map}
+use Rattle.sd_match.specs.declared.pair.Pair.{Pair}
+use Rattle.sd_cand.specs.declared.candidate.Candidate.{Candidate}
+use Rattle.sd_cand.specs.Candidates.{candidates_of}
+use Rattle.sd_product.specs.Query.{Claimed, query_of}
+use Rattle.sd_product.specs.Work.{Held, infallibles_in, work_of, claims_of, claims_in, pairs_in, queries_under}
+use Rattle.sd_cert.specs.declared.header.PairHeader.{PairHeader}
+use Rattle.sd_cert.specs.Headers.{is_refused, header_of, headers_of, count_of}
+
+-- ---- one header more
+
+pub header-made : (pairs : List Pair) (i : ℕ) (p : Pair) (candidates : List Candidate) (refused : Bool) (count : ℕ) → slice_get pairs i ≡ Some p → slice_get (map candidates_of pairs) i ≡ Some candidates → refused ≡ is_refused p.state → count ≡ length candidates → ◌≡◌ {A = PairHeader} (record { refused = refused; candidates = count }) (header_of p)
+header-made pairs i p candidates refused count found listed state size =
+    let same : candidates ≡ candidates_of p = same_Some candidates (candidates_of p) (sym listed ∙ slice_get-map candidates_of pairs i ∙ ap (option_map candidates_of) found) in
+    ap (λ b. record { refused = b; candidates = count }) state ∙ ap (λ n. record { refused = is_refused p.state; candidates = n }) (size ∙ ap length same)
+
+pub header-pushed : (pairs : List Pair) (i : ℕ) (p : Pair) (before after : List PairHeader) (s : PairHeader) → i < length pairs → slice_get pairs i ≡ Some p → s ≡ header_of p → before ≡ map header_of (take i pairs) → after ≡ before ++ s ∷ [] → after ≡ map header_of (take (i + 1) pairs)
+header-pushed pairs i p before after s within found is made pushed =
+    let here : get_or pairs i p ≡ p = get_or_from_slice_get pairs i p p found in
+    let more : take (i + 1) pairs ≡ take i pairs ++ p ∷ [] = take_more pairs i p within ∙ ap (λ x. take i pairs ++ x ∷ []) here in
+    pushed ∙ ap (λ ss. ss ++ s ∷ []) made ∙ ap (λ x. map header_of (take i pairs) ++ x ∷ []) is
+    ∙ sym (map-append header_of (take i pairs) (p ∷ [])) ∙ ap (map header_of) (sym more)
+
+-- ---- the candidates of all pairs
+
+headers-count : (pairs : List Pair) → count_of (map header_of pairs) ≡ length (claims_of pairs)
+headers-count [] = refl
+headers-count (p ∷ ps) =
+    let claim : Candidate → Claimed = λ c. record { pair = p; candidate = c } in
+    omega (arith, headers-count ps, length-append (map claim (candidates_of p)) (claims_of ps), length-map (candidates_of p) claim)
+
+pub count-in : (h : Held) → count_of (headers_of h) ≡ length (claims_in h)
+count-in h = headers-count (pairs_in h)
+
+queries-count : (h : Held) (table : List Bool) → length (queries_under h table) ≡ length (claims_in h)
+queries-count h table = length-map (claims_in h) (query_of (work_of h.old h.new) (infallibles_in h) table)
+
+pub count-own : (h : Held) (headers : List PairHeader) → headers ≡ headers_of h → count_of headers ≡ length (claims_in h)
+count-own h headers own = ap count_of own ∙ count-in h
+
+-- the numbers of the pairs are those of their queries
+pub count-queries : (h : Held) (table : List Bool) → 0 + count_of (headers_of h) ≡ length (queries_under h table)
+count-queries h table = omega (arith, count-in h, queries-count h table)
