@@ -2,6 +2,7 @@
 use Rattle.std.proofs.Common.{◌≡◌, ℕ, ◌+◌, ◌<◌, ◌==◌, Bool, true, false, cond, List, [], ◌∷◌, ◌++◌, map, length, refl, sym, ap, ◌∙◌, subst, arith, append_assoc, length-append, inl, inr, eq-eqb, lt-ltb}
 use Rattle.std.specs.Prelude.{Option, Some, None, Result, Ok, Err, IfOk, IfErr, ◌⊎◌, ◌&&◌, nat_lt}
 use Rattle.std.specs.Option.{option_and_then}
+use Rattle.std.proofs.lemmas.List.{append-nil}
 use Rattle.std.proofs.lemmas.Option.{same_Some}
 use Rattle.std.specs.List.{AllByRecursion, flat_map}
 use Rattle.sd_kernel.specs.declared.Step.{Step}
@@ -17,7 +18,7 @@ use Rattle.sd_cert.specs.declared.fault.CertError.TheVariants.{NoMemory, Version
 use Rattle.sd_cert.specs.declared.line.Line.{Line}
 use Rattle.sd_cert.specs.declared.line.Line.TheVariants.{Version, Row, End}
 use Rattle.sd_cert.specs.Lines.{line_text, IsLine}
-use Rattle.sd_cert.specs.Text.{lines_text}
+use Rattle.sd_cert.specs.Text.{lines_text, HasLines}
 use Rattle.sd_cert.specs.Certificates.{step_lines, how_lines, proved_lines, pair_lines, certificate_lines, certificate_text, IsCertificate}
 use Rattle.sd_cert.specs.Phases.{Phase, at_version, in_pairs, complete, after_line, after_lines}
 use Rattle.sd_cert.specs.Faults.{StopsAt, IsFault}
@@ -100,7 +101,7 @@ no_stop c f n at =
     go [] e f k = at.unfinished (same_Some at.phase complete k) e
     go (l ∷ ls) e f k = absurd (let s = at.stuck l (lines_text ls) f.0 e in let j = ap (option_and_then (λ q. after_lines q ls)) s in cc)
 
-no_fault : (text : List ℕ) (c : Certificate) (e : CertError) → IsCertificate c → text ≡ certificate_text c → IsFault text e → e ≡ NoMemory
+pub no_fault : (text : List ℕ) (c : Certificate) (e : CertError) → IsCertificate c → text ≡ certificate_text c → IsFault text e → e ≡ NoMemory
 no_fault text c NoMemory f t h = refl
 no_fault text c (OtherVersion v) f t h =
     let parts = first_line-unique (line_text (Version v)) h.0.more (line_text (Version 1)) _ (no_feed (Version v) h.0.fits) (no_feed (Version 1) f.0) (sym h.0.line ∙ t)
@@ -111,3 +112,18 @@ no_fault text c _ f t h = absurd h
 pub only : (text : List ℕ) (r : Result Certificate CertError) → IfOk r (λ c. IsCertificate c × (text ≡ certificate_text c)) → IfErr r (IsFault text) → (c : Certificate) → IsCertificate c → text ≡ certificate_text c → (r ≡ Ok c) ⊎ (r ≡ Err NoMemory)
 only text (Ok d) found fault c f t = inl (ap Ok (one_certificate d c found.0 f (sym found.1 ∙ t)))
 only text (Err e) found fault c f t = inr (ap Err (no_fault text c e f t fault))
+
+-- what the lines of a text spell, where nothing follows them
+pub read-of : (text : List ℕ) (lines ls : List Line) (rest : List ℕ) (c : Certificate) → HasLines text lines rest → ls ≡ lines → (ls ≡ certificate_lines c) × (rest ≡ []) → IsCertificate c × (text ≡ certificate_text c)
+read-of text lines ls rest c has are e =
+    let same : lines ≡ certificate_lines c = sym are ∙ e.0 in (
+      subst (λ (x : List Line). AllByRecursion IsLine x) same has.fit,
+      has.whole ∙ ap (λ x. lines_text x ++ rest) same ∙ ap (λ t. certificate_text c ++ t) e.1 ∙ append-nil (certificate_text c),
+    )
+
+pub read-fault : (text : List ℕ) (lines ls : List Line) (rest : List ℕ) (e : CertError) → HasLines text lines rest → ls ≡ lines → IsFault (lines_text ls ++ rest) e → IsFault text e
+read-fault text lines ls rest e has are f = subst (λ (t : List ℕ). IsFault t e) (ap (λ x. lines_text x ++ rest) are ∙ sym has.whole) f
+
+pub read-whole : (text : List ℕ) (lines ls : List Line) (rest : List ℕ) (r : Result Certificate CertError) → HasLines text lines rest → ls ≡ lines → IfOk r (λ c. (ls ≡ certificate_lines c) × (rest ≡ [])) → IfErr r (IsFault (lines_text ls ++ rest)) → IfOk r (λ c. IsCertificate c × (text ≡ certificate_text c)) × IfErr r (IsFault text)
+read-whole text lines ls rest (Ok c) has are found fault = (read-of text lines ls rest c has are found, tt)
+read-whole text lines ls rest (Err e) has are found fault = (tt, read-fault text lines ls rest e has are fault)

@@ -6,6 +6,7 @@ use Rattle.std.specs.List.{AllByRecursion}
 use Rattle.std.proofs.lemmas.List.{take-append-drop, drop_more, take_more, length-take-le}
 use Rattle.std.proofs.lemmas.Option.{same_Some}
 use borrow.Author.Tests.{eqb-true}
+use Rattle.sd_base.proofs.Lists.{all-front, all-back}
 use Rattle.sd_cert.specs.declared.certificate.Certificate.{Certificate}
 use Rattle.sd_cert.specs.declared.prefix.Prefix.{Prefix}
 use Rattle.sd_cert.specs.declared.prefix.Prefix.TheVariants as prefix
@@ -111,24 +112,16 @@ end_fault text lines rest reading has phase unfinished = (
   λ v version. let first = version_is_first text lines rest has v version in follows_version v first.0 (phase_of reading) (ap (after_lines at_version) (sym first.1) ∙ phase),
 )
 
-fit-front : (xs ys : List Line) → AllByRecursion IsLine (xs ++ ys) → AllByRecursion IsLine xs
-fit-front [] ys h = tt
-fit-front (x ∷ xs) ys h = (h.0, fit-front xs ys h.1)
-
-fit-back : (xs ys : List Line) → AllByRecursion IsLine (xs ++ ys) → AllByRecursion IsLine ys
-fit-back [] ys h = h
-fit-back (x ∷ xs) ys h = fit-back xs ys h.1
-
 stops : (text : List ℕ) (lines : List Line) (rest : List ℕ) (n : ℕ) → HasLines text lines rest → IsStuckAt lines n → StopsAt text n
 stops text lines rest n has at =
     let fit = subst (λ (ls : List Line). AllByRecursion IsLine ls) at.whole has.fit
-    in let one = (fit-back at.front (at.line ∷ at.after) fit).0
+    in let one = (all-back IsLine at.front (at.line ∷ at.after) fit).0
     in let left = line_text at.line ++ 10 ∷ (lines_text at.after ++ rest)
     in record {
       lines = at.front;
       rest = left;
       phase = at.phase;
-      fit = fit-front at.front (at.line ∷ at.after) fit;
+      fit = all-front IsLine at.front (at.line ∷ at.after) fit;
       whole =
           has.whole ∙ ap (λ ls. lines_text ls ++ rest) at.whole ∙ ap (λ t. t ++ rest) (lines_text-append at.front (at.line ∷ at.after))
           ∙ append_assoc (lines_text at.front) (line_text at.line ++ 10 ∷ lines_text at.after) rest

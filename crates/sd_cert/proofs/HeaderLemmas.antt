@@ -1,5 +1,5 @@
 -- The headers of pairs, and how many candidates they have.
-use Rattle.std.proofs.Common.{◌≡◌, ℕ, ◌+◌, ◌<◌, Bool, List, [], ◌∷◌, ◌++◌, map, take, length, get_or, refl, sym, ap, ◌∙◌, arith, length-append}
+use Rattle.std.proofs.Common.{◌≡◌, ℕ, zero, suc, ◌+◌, ◌<◌, Bool, List, [], ◌∷◌, ◌++◌, map, take, drop, length, get_or, refl, sym, ap, ◌∙◌, arith, length-append}
 use Rattle.std.specs.Prelude.{Some, slice_get}
 use Rattle.std.proofs.lemmas.List.{length-map, map-append, take_more}
 use Rattle.std.proofs.lemmas.Option.{get_or_from_slice_get, same_Some, slice_get-map}
@@ -33,6 +33,14 @@ headers-count [] = refl
 headers-count (p ∷ ps) =
     let claim : Candidate → Claimed = λ c. record { pair = p; candidate = c } in
     omega (arith, headers-count ps, length-append (map claim (candidates_of p)) (claims_of ps), length-map (candidates_of p) claim)
+
+-- the candidates of the pairs before one, and of those from it on
+pub before-count : (pairs : List Pair) (i : ℕ) → length (claims_of (take i pairs)) + count_of (drop i (map header_of pairs)) ≡ length (claims_of pairs)
+before-count pairs zero = omega (arith, headers-count pairs)
+before-count [] (suc i) = refl
+before-count (p ∷ ps) (suc i) =
+    let claim : Candidate → Claimed = λ c. record { pair = p; candidate = c } in
+    omega (arith, before-count ps i, length-append (map claim (candidates_of p)) (claims_of ps), length-append (map claim (candidates_of p)) (claims_of (take i ps)))
 
 pub count-in : (h : Held) → count_of (headers_of h) ≡ length (claims_in h)
 count-in h = headers-count (pairs_in h)

@@ -16,7 +16,7 @@ use Rattle.sd_product.specs.Inductive.{proved_of, IsHow, IsProved}
 use Rattle.sd_cert.specs.declared.header.PairHeader.{PairHeader}
 use Rattle.sd_cert.specs.declared.certificate.CertPair.{CertPair}
 use Rattle.sd_cert.specs.declared.fault.CertError.{CertError}
-use Rattle.sd_cert.proofs.AllLemmas.{all-append, all-front, all-back}
+use Rattle.sd_base.proofs.Lists.{all-append, all-front, all-back}
 use Rattle.sd_cert.specs.Certificates.{proved_lines}
 use Rattle.sd_cert.specs.Accepts.{Ascend, FitsPairs, numbered_from, proofs_from}
 use Rattle.sd_cert.specs.Refusals.{or_next}

@@ -1,5 +1,4 @@
 pub mod FieldLemmas
-pub mod AllLemmas
 pub mod ByteLemmas
 pub mod NumberLemmas
 pub mod FormLemmas

@@ -7,7 +7,7 @@ use Rattle.std.proofs.lemmas.Fmt.{decimal_injective}
 use Rattle.std.proofs.lemmas.Grind.{flat_map-append}
 use Rattle.std.proofs.lemmas.List.{append-nil, take_more}
 use Rattle.sd_cert.specs.Fields.{IsReadAs, has_byte, AreSmall, AreNumbers, numbers_text}
-use Rattle.sd_cert.proofs.AllLemmas.{all-weaker}
+use Rattle.sd_base.proofs.Lists.{all-weaker}
 use Rattle.sd_cert.proofs.ByteLemmas.{no_byte-append, no_byte-decimal, has_byte-within, first-unique}
 
 -- ---- bytes
@@ -24,7 +24,7 @@ no_feed-numbers (n ∷ []) f = no_feed-decimal n f.0
 no_feed-numbers (n ∷ m ∷ ns) f = no_byte-append 10 (decimal n) (32 ∷ numbers_text (m ∷ ns)) (no_feed-decimal n f.0) (no_feed-numbers (m ∷ ns) f.1)
 
 pub small-numbers : (n : ℕ) (ns : List ℕ) → n < 2 ^ 32 → AreSmall ns → AreNumbers (n ∷ ns)
-small-numbers n ns h f = (omega arith, all-weaker (λ m. m < 2 ^ 32) (λ m. m < 2 ^ 64) ns (λ m k. omega arith) f)
+small-numbers n ns h f = (omega arith, all-weaker (λ m. m < 2 ^ 32) (λ m. m < 2 ^ 64) (λ m k. omega arith) ns f)
 
 -- ---- one list
 

@@ -24,6 +24,7 @@ use Rattle.sd_cert.specs.declared.line.Line.TheVariants.{Row, End}
 use Rattle.sd_cert.specs.declared.refusal.Spot.{Spot}
 use Rattle.sd_cert.specs.Certificates.{step_lines, how_lines, proved_lines, pair_lines, certificate_lines}
 use Rattle.sd_cert.specs.Accepts.{state_of, Ascend, FitsPairs}
+use Rattle.sd_cert.proofs.Listing.{fits-length}
 use Rattle.sd_cert.specs.Refusals.{unless, or_next, same_bytes, has_state, candidate_count, first_spot, first_refusal}
 
 -- ---- tests
@@ -174,16 +175,10 @@ module _ (headers : List PairHeader) (d : Digests) where
         pairs-fit first_spot 0 headers c.pairs refl (sym same_count) count.1,
       )
 
-  fits-count : (ss : List PairHeader) (ps : List CertPair) → FitsPairs ss ps → length ps ≡ length ss
-  fits-count [] [] f = refl
-  fits-count (s ∷ ss) (p ∷ ps) f = ap suc (fits-count ss ps f.1)
-  fits-count [] (p ∷ ps) f = absurd f
-  fits-count (s ∷ ss) [] f = absurd f
-
   pub certificate-passes : (c : Certificate) → c.digests ≡ d → FitsPairs headers c.pairs → first_refusal headers d first_spot (certificate_lines c) ≡ None
   certificate-passes c e f =
       none-next _ OtherOld _ (are-bytes _ _ (ap (λ (x : Digests). x.old) e))
       (none-next _ OtherNew _ (are-bytes _ _ (ap (λ (x : Digests). x.new) e))
       (none-next _ OtherSettings _ (are-bytes _ _ (ap (λ (x : Digests). x.settings) e))
-      (none-next _ (OtherPair (min (length c.pairs) (length headers))) _ (eq-eqb _ _ (fits-count headers c.pairs f))
+      (none-next _ (OtherPair (min (length c.pairs) (length headers))) _ (eq-eqb _ _ (sym (fits-length headers c.pairs f)))
       (pairs-pass first_spot 0 headers c.pairs refl f))))

@@ -35,7 +35,7 @@ use Rattle.sd_cert.specs.ReplayFaults.{IsRefused, HasBadStep, IsReplayFault, IsC
 use Rattle.sd_cert.proofs.TextLemmas.{no_feed, first_line-unique, lines_text-append}
 use Rattle.sd_cert.proofs.OneLine.{line_text-injective}
 use Rattle.sd_cert.proofs.AcceptLemmas.{certificate-end}
-use Rattle.sd_cert.proofs.AllLemmas.{all-front}
+use Rattle.sd_base.proofs.Lists.{all-front}
 
 -- ---- bad steps
 

@@ -22,16 +22,6 @@ use Rattle.sd_cert.proofs.OneCertificate.{one_certificate}
 use Rattle.sd_cert.proofs.RefusalLemmas.{certificate-passes}
 use Rattle.sd_cert.proofs.TableLemmas.{accepted-passes}
 
--- the lines in front of the text of a certificate are its lines
-pub lines-are : (text : List ℕ) (lines : List Line) (rest : List ℕ) (c : Certificate) → HasLines text lines rest → IsCertificate c → text ≡ certificate_text c → lines ≡ certificate_lines c
-lines-are text lines rest c has f t =
-    let parts = front-of lines (certificate_lines c) rest has.fit f (sym has.whole ∙ t)
-    in go parts.0 parts.1 parts.2 parts.3
-  where
-    go : (more : List Line) → certificate_lines c ≡ lines ++ more → rest ≡ lines_text more → AllByRecursion IsLine more → lines ≡ certificate_lines c
-    go [] e r g = sym (e ∙ append-nil lines)
-    go (l ∷ ls) e r g = absurd (has.stop l (lines_text ls) g.0 r)
-
 -- ---- what is refused is not accepted
 
 module _ (h : Held) (d : Digests) (text : List ℕ) where
@@ -57,10 +47,6 @@ any-ok (Err e) p = tt
 pub each-err : {A E : Type 0} (P Q : E → Type 0) (r : Result A E) → ((e : E) → P e → Q e) → IfErr r P → IfErr r Q
 each-err P Q (Ok x) f h = tt
 each-err P Q (Err e) f h = f e h
-
-pub given-err : {A E : Type 0} (P : E → Type 0) (r : Result A E) (e : E) → IsErrAnd r (λ y. y ≡ e) → P e → IfErr r P
-given-err P (Ok x) e h p = tt
-given-err P (Err y) e h p = subst P (sym h) p
 
 pub accept-fault : (h : Held) (d : Digests) (c : Certificate) (e : CertError) → c.digests ≡ d → FitsPairs (headers_of h) c.pairs → (e ≡ NoMemory) ⊎ (step_fault h c.pairs ≡ Some e) → IsCertificateFault h d c e
 accept-fault h d c e same fits (inl m) = inl m

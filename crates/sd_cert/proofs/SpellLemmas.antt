@@ -15,7 +15,7 @@ use Rattle.sd_cert.specs.Added.{IsAdded}
 use Rattle.sd_cert.specs.Certificates.{proved_lines, pair_lines, certificate_lines}
 use Rattle.sd_cert.proofs.TextLemmas.{lines_text-append}
 use Rattle.sd_cert.proofs.PrefixLemmas.{pair_lines-push}
-use Rattle.sd_cert.proofs.AllLemmas.{all-append}
+use Rattle.sd_base.proofs.Lists.{all-append}
 
 -- the lines are the same ones
 pub added-same : (ls ms : List Line) (old new : List ℕ) → ls ≡ ms → IsAdded ls old new → IsAdded ms old new

@@ -2,7 +2,7 @@
 use Rattle.std.proofs.Common.{◌≡◌, ℕ, zero, suc, ◌+◌, ◌<◌, Bool, true, false, List, [], ◌∷◌, length, refl, sym, ap, ◌∙◌, subst, arith, eq-eqb, inl, inr}
 use Rattle.std.specs.Prelude.{Some, None, ◌||◌, ◌⊎◌}
 use Rattle.std.proofs.lemmas.Bool.{ne_eqb}
-use Rattle.sd_product.specs.Work.{Held, queries_under}
+use Rattle.sd_product.specs.Work.{Held, claims_in, queries_under}
 use Rattle.sd_product.specs.Inductive.{proved_of, live_from, IsInductive}
 use Rattle.sd_cert.specs.declared.header.PairHeader.{PairHeader}
 use Rattle.sd_cert.specs.declared.digest.Digests.{Digests}
@@ -54,22 +54,13 @@ accepted-passes h d text table a =
     ap (λ (t : List Bool). pairs_fault (queries_under h t) 0 6 (headers_of h) pairs) (sym own)
     ∙ proved-pairs (queries_under h table) 0 6 (headers_of h) pairs (count-queries h table) a.fits a.inductive.proved
 
-module _ (h : Held) (headers : List PairHeader) (claims : List CertPair) (table : List Bool) (own : headers ≡ headers_of h) (size : length table ≡ count_of headers) (live : proved_of (proofs_from 0 headers claims) ≡ live_from 0 table) where
+module _ (h : Held) (claims : List CertPair) (table : List Bool) (size : length table ≡ length (claims_in h)) (live : proved_of (proofs_from 0 (headers_of h) claims) ≡ live_from 0 table) where
   -- entries without a bad step are proofs
-  pub passes-inductive : FitsPairs headers claims → pairs_fault (queries_under h table) 0 6 headers claims ≡ None → IsInductive (queries_under h table) table (proofs_from 0 (headers_of h) claims)
-  passes-inductive fits none =
-      let count : 0 + count_of headers ≡ length (queries_under h table) = omega (arith, ap count_of own, count-queries h table) in
-      subst (λ (ss : List PairHeader). IsInductive (queries_under h table) table (proofs_from 0 ss claims)) own record {
-        numbers = live;
-        proved = pairs-proved (queries_under h table) 0 6 headers claims count fits none;
-      }
+  pub passes-inductive : FitsPairs (headers_of h) claims → pairs_fault (queries_under h table) 0 6 (headers_of h) claims ≡ None → IsInductive (queries_under h table) table (proofs_from 0 (headers_of h) claims)
+  passes-inductive fits none = record { numbers = live; proved = pairs-proved (queries_under h table) 0 6 (headers_of h) claims (count-queries h table) fits none }
 
   -- the first bad step under this table is that of the certificate
-  own-fault : step_fault h claims ≡ pairs_fault (queries_under h table) 0 6 headers claims
-  own-fault =
-      ap (λ (ss : List PairHeader). pairs_fault (queries_under h (table_of ss claims)) 0 6 ss claims) (sym own)
-      ∙ ap (λ (t : List Bool). pairs_fault (queries_under h t) 0 6 headers claims) (sym (listed-table headers claims table size live))
-
-  pub own-fault-is : (e : CertError) → (e ≡ NoMemory) ⊎ (pairs_fault (queries_under h table) 0 6 headers claims ≡ Some e) → (e ≡ NoMemory) ⊎ (step_fault h claims ≡ Some e)
-  own-fault-is e (inl m) = inl m
-  own-fault-is e (inr f) = inr (own-fault ∙ f)
+  pub own-fault : (e : CertError) → (e ≡ NoMemory) ⊎ (pairs_fault (queries_under h table) 0 6 (headers_of h) claims ≡ Some e) → (e ≡ NoMemory) ⊎ (step_fault h claims ≡ Some e)
+  own-fault e (inl m) = inl m
+  own-fault e (inr f) =
+      inr (ap (λ (t : List Bool). pairs_fault (queries_under h t) 0 6 (headers_of h) claims) (sym (listed-table (headers_of h) claims table (size ∙ sym (count-in h)) live)) ∙ f)

@@ -68,10 +68,6 @@ first_line-unique = first-unique 10
 pub without_form : (text front rest : List ℕ) → text ≡ front ++ 10 ∷ rest → has_feed front ≡ false → ((l : Line) → IsLine l → front ≡ line_text l → ⊥) → BeginsWithoutLine text
 without_form text front rest whole h none l more f e = none l f (first_line-unique front rest (line_text l) more h (no_feed l f) (sym whole ∙ e)).0
 
-pub fit-push : (ls : List Line) (l : Line) → AllByRecursion IsLine ls → IsLine l → AllByRecursion IsLine (ls ++ l ∷ [])
-fit-push [] l h k = (k, tt)
-fit-push (m ∷ ls) l h k = (h.0, fit-push ls l h.1 k)
-
 pub lines_text-append : (ls ms : List Line) → lines_text (ls ++ ms) ≡ lines_text ls ++ lines_text ms
 lines_text-append [] ms = refl
 lines_text-append (l ∷ ls) ms = ap (λ t. line_text l ++ 10 ∷ t) (lines_text-append ls ms) ∙ sym (append_assoc (line_text l) (10 ∷ lines_text ls) (lines_text ms))

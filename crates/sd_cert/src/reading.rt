@@ -1,12 +1,13 @@
 //! Certificates from their bytes.
-ghost use Rattle.std.specs.Prelude.{◌≡◌, ◌⊎◌, ◌+◌, ◌<◌, ◌^◌, IfOk, IfErr};
+ghost use Rattle.std.specs.Prelude.{◌≡◌, ◌⊎◌, ◌+◌, ◌++◌, ◌<◌, ◌^◌, [], IfOk, IfErr};
 ghost use Rattle.std.specs.List.{AllByRecursion};
 ghost use Rattle.sd_cert.specs.Lines.{IsLine};
 ghost use Rattle.sd_cert.specs.declared.certificate.Certificate.{Certificate as Spelled};
 ghost use Rattle.sd_cert.specs.declared.fault.CertError.TheVariants.{NoMemory as Memory};
-ghost use Rattle.sd_cert.specs.Certificates.{certificate_text, IsCertificate};
+ghost use Rattle.sd_cert.specs.Certificates.{certificate_lines, certificate_text, IsCertificate};
 ghost use Rattle.sd_cert.specs.Prefixes.{prefix_lines, phase_of};
 ghost use Rattle.sd_cert.specs.Phases.{at_version, after_lines};
+ghost use Rattle.sd_cert.specs.Text.{lines_text, BeginsWithoutLine};
 ghost use Rattle.sd_cert.specs.Faults.{IsFault, IsLineFault, IsPlaceFault};
 
 use crate::certificate::Certificate;
@@ -22,18 +23,25 @@ use std::alloc::Global;
 /// counts as one.
 pub fn read_certificate(alloc: Global, bytes: &[u8]) -> Result<Certificate, CertError>
     ensures found { IfOk result (λ c. IsCertificate c × (bytes.now ≡ certificate_text c)) }
-    ensures only { (c : Spelled) → IsCertificate c → bytes.now ≡ certificate_text c → (result ≡ Ok c) ⊎ (result ≡ Err Memory) }
-    ensures fault { IfErr result (IsFault bytes.now) }
-{
-    read_whole(alloc, bytes)
-}
-
-fn read_whole(alloc: Global, bytes: &[u8]) -> Result<Certificate, CertError>
-    ensures found { IfOk result (λ c. IsCertificate c × (bytes.now ≡ certificate_text c)) }
+    ensures only { (c : Spelled) → IsCertificate c → bytes.now ≡ certificate_text c →
+        (result ≡ Ok c) ⊎ (result ≡ Err Memory) }
     ensures fault { IfErr result (IsFault bytes.now) }
 {
     let (lines, rest) = read_lines(alloc, bytes)?;
-    let lines = lines.as_slice();
+    certificate_in(alloc, lines.as_slice(), rest)
+}
+
+/// The certificate that a text spells, which is these lines and a rest that begins without a line.
+pub(crate) fn certificate_in(
+    alloc: Global,
+    lines: &[Line],
+    rest: &[u8],
+) -> Result<Certificate, CertError>
+    requires fit { AllByRecursion IsLine lines.now }
+    requires stop { BeginsWithoutLine rest.now }
+    ensures found { IfOk result (λ c. (lines.now ≡ certificate_lines c) × (rest.now ≡ [])) }
+    ensures fault { IfErr result (IsFault (lines_text lines.now ++ rest.now)) }
+{
     let prefix = read_prefix(alloc, lines)?;
     match prefix {
         Prefix::Complete(certificate) if rest.is_empty() => Ok(certificate),

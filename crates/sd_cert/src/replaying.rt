@@ -15,7 +15,7 @@ use crate::digest::Digests;
 use crate::fault::CertError;
 use crate::judge::judge_pairs;
 use crate::line::Line;
-use crate::reading::read_certificate;
+use crate::reading::certificate_in;
 use crate::refusal::first_refusal;
 use crate::header::{PairHeader, headers_of};
 use crate::table::list_live;
@@ -32,21 +32,16 @@ pub struct Replayed {
 }
 
 /// The table of a certificate that fits the pairs, if its proofs are good under this table.
-fn accept(
-    alloc: Global,
-    work: &Work,
-    headers: &[PairHeader],
-    certificate: &Certificate,
-) -> Result<Replayed, CertError>
-    requires headers { headers.now ≡ headers_of work.now }
-    requires fits { FitsPairs headers.now certificate.now.pairs }
+fn accept(alloc: Global, work: &Work, certificate: &Certificate) -> Result<Replayed, CertError>
+    requires { FitsPairs (headers_of work.now) certificate.now.pairs }
     ensures size { IfOk result (λ r. length r.table ≡ length (claims_in work.now)) }
-    ensures inductive { IfOk result (λ r. IsInductive (queries_under work.now r.table) r.table (proofs_from 0 (headers_of work.now) certificate.now.pairs)) }
+    ensures inductive { IfOk result (λ r. IsInductive (queries_under work.now r.table) r.table
+        (proofs_from 0 (headers_of work.now) certificate.now.pairs)) }
     ensures fault { IfErr result (λ e. (e ≡ Memory) ⊎ (step_fault work.now certificate.now.pairs ≡ Some e)) }
 {
     let pairs = certificate.pairs.as_slice();
-    let table = list_live(alloc, headers, pairs)?;
-    judge_pairs(alloc, work, &table, headers, pairs, 6)?;
+    let table = list_live(alloc, work, pairs)?;
+    judge_pairs(alloc, work, &table, pairs, 6)?;
     Ok(Replayed { table })
 }
 
@@ -93,17 +88,19 @@ fn check(
     ensures digests { IfOk result (λ _. certificate.now.digests ≡ digests.now) }
     ensures fits { IfOk result (λ _. FitsPairs (headers_of work.now) certificate.now.pairs) }
     ensures size { IfOk result (λ r. length r.table ≡ length (claims_in work.now)) }
-    ensures inductive { IfOk result (λ r. IsInductive (queries_under work.now r.table) r.table (proofs_from 0 (headers_of work.now) certificate.now.pairs)) }
+    ensures inductive { IfOk result (λ r. IsInductive (queries_under work.now r.table) r.table
+        (proofs_from 0 (headers_of work.now) certificate.now.pairs)) }
     ensures fault { IfErr result (IsCertificateFault work.now digests.now certificate.now) }
 {
     match first_refusal(headers, digests, lines) {
         Some(fault) => Err(fault),
-        None => accept(alloc, work, headers, certificate),
+        None => accept(alloc, work, certificate),
     }
 }
 
 /// The table that a certificate shows to stand on proofs under the table itself, if it is one of these digests and
-/// programs. It trusts nothing about who made the certificate, and its answer for the programs doesn't rest on the digests.
+/// programs. It trusts nothing about who made the certificate, and its answer for the programs doesn't rest on the
+/// digests.
 ///
 /// The first bad line is answered: `Version` and `Line` as `read_certificate` has them; `OtherOld`, `OtherNew` and
 /// `OtherSettings` for another digest; `Pair` for a number of pairs other than theirs, with the lesser of the two, and
@@ -116,14 +113,16 @@ pub fn replay(
     certificate: &[u8],
 ) -> Result<Replayed, CertError>
     ensures accepted { IfOk result (λ r. Accepts work.now digests.now certificate.now r.table) }
-    ensures refused_only { IfErr result (λ e. e ≢ Memory → (t : List Bool) → Accepts work.now digests.now certificate.now t → ⊥) }
+    ensures refused_only { IfErr result (λ e. e ≢ Memory → (t : List Bool) →
+        Accepts work.now digests.now certificate.now t → ⊥) }
     ensures refused { IfErr result (IsReplayFault work.now digests.now certificate.now) }
 {
     let headers = headers_of(alloc, work)?;
     let headers = headers.as_slice();
-    let (lines, _) = read_lines(alloc, certificate)?;
-    match read_certificate(alloc, certificate) {
-        Ok(read) => check(alloc, work, headers, digests, lines.as_slice(), &read),
-        Err(fault) => Err(first_fault(headers, digests, lines.as_slice(), fault)),
+    let (lines, rest) = read_lines(alloc, certificate)?;
+    let lines = lines.as_slice();
+    match certificate_in(alloc, lines, rest) {
+        Ok(read) => check(alloc, work, headers, digests, lines, &read),
+        Err(fault) => Err(first_fault(headers, digests, lines, fault)),
     }
 }

@@ -8,5 +8,5 @@ use Rattle.sd_cert.proofs.judge.judge_entries.Given as goal
 
 abbrev pub invariant-loop-entry : goal.invariant-loop-entry
 invariant-loop-entry l =
-    (entries_fault (queries_under l.work l.table) l.first l.line l.entries ≡ entries_fault (queries_under l.work l.table) l.first l.at (drop l.entry-index l.entries))
+    (entries_fault (queries_under l.bodies.work l.table) l.first l.line l.entries ≡ entries_fault (queries_under l.bodies.work l.table) l.first l.at (drop l.entry-index l.entries))
     × (l.line + length (flat_map proved_lines l.entries) ≡ l.at + length (flat_map proved_lines (drop l.entry-index l.entries)))

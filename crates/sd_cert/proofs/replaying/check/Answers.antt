@@ -19,8 +19,9 @@ returns-in-Some-clause-fault c =
     (ap (λ (ss : List PairHeader). first_refusal ss c.args.digests.now first_spot (certificate_lines c.args.certificate.now)) (sym c.requires.headers)
     ∙ ap (first_refusal c.args.headers.now c.args.digests.now first_spot) (sym c.requires.lines) ∙ sym c.in-Some.ensures))
 
-pub accept-requires-clause-fits : goal.accept-requires-clause-fits
-accept-requires-clause-fits c =
+pub accept-requires : goal.accept-requires
+accept-requires c =
+    subst (λ (ss : List PairHeader). FitsPairs ss c.args.certificate.now.pairs) c.requires.headers
     (certificate-fits c.args.headers.now c.args.digests.now c.args.certificate.now (ap (first_refusal c.args.headers.now c.args.digests.now first_spot) (sym c.requires.lines) ∙ sym c.in-None.ensures)).1
 
 pub returns-in-None-clause-digests : goal.returns-in-None-clause-digests
