@@ -1,6 +1,7 @@
 -- The lines of a certificate follow one another to the end.
-use Rattle.std.proofs.Common.{◌≡◌, ℕ, ◌+◌, ◌<◌, ◌==◌, Bool, true, false, cond, List, [], ◌∷◌, ◌++◌, map, length, refl, sym, ap, ◌∙◌, subst, arith, append_assoc, length-append, inl, inr, eq-eqb, lt-ltb}
-use Rattle.std.specs.Prelude.{Option, Some, None, Result, Ok, Err, IfOk, IfErr, ◌⊎◌, ◌&&◌, nat_lt}
+use Rattle.std.proofs.Common.{◌≡◌, ℕ, ◌+◌, ◌<◌, Bool, true, false, cond, List, [], ◌∷◌, ◌++◌, map, length, refl, sym, ap, ◌∙◌, subst, arith, append_assoc, length-append, inl, inr, eq-eqb, lt-ltb}
+use Rattle.std.specs.Prelude.{Some, None, Result, Ok, Err, IfOk, IfErr, ◌⊎◌}
+use Rattle.std.specs.Cmp.Derive.{both_true}
 use Rattle.std.specs.Option.{option_and_then}
 use Rattle.std.proofs.lemmas.List.{append-nil}
 use Rattle.std.proofs.lemmas.Option.{same_Some}
@@ -20,8 +21,9 @@ use Rattle.sd_cert.specs.declared.line.Line.TheVariants.{Version, Row, End}
 use Rattle.sd_cert.specs.Lines.{line_text, IsLine}
 use Rattle.sd_cert.specs.Text.{lines_text, HasLines}
 use Rattle.sd_cert.specs.Certificates.{step_lines, how_lines, proved_lines, pair_lines, certificate_lines, certificate_text, IsCertificate}
-use Rattle.sd_cert.specs.Phases.{Phase, at_version, in_pairs, complete, after_line, after_lines}
+use Rattle.sd_cert.specs.Phases.{at_version, in_pairs, complete, after_lines}
 use Rattle.sd_cert.specs.Faults.{StopsAt, IsFault}
+use Rattle.sd_cert.proofs.FaultLemmas.{after_lines-append}
 use Rattle.sd_cert.proofs.TextLemmas.{no_feed, first_line-unique}
 use Rattle.sd_cert.proofs.OneLine.{line_text-injective}
 use Rattle.sd_cert.proofs.OneCertificate.{one_certificate}
@@ -60,13 +62,9 @@ pairs-end : (n i : ℕ) (ps : List CertPair) → i + length ps ≡ n → Ends n 
 unfolding Ends
 pairs-end n i [] e c = ap (λ t. option_and_then (λ q. after_lines q []) (cond t (Some complete) None)) (eq-eqb i n (omega arith))
 pairs-end n i (p ∷ ps) e c =
-    ap (λ t. option_and_then (λ q. after_lines q ((flat_map proved_lines p.proved ++ pair_lines (i + 1) ps) ++ End ∷ [])) (cond t (Some (in_pairs n (i + 1) false 0)) None)) (both (i == i) (nat_lt i n) (eq-eqb i i refl) (lt-ltb i n (omega arith)))
+    ap (λ t. option_and_then (λ q. after_lines q ((flat_map proved_lines p.proved ++ pair_lines (i + 1) ps) ++ End ∷ [])) (cond t (Some (in_pairs n (i + 1) false 0)) None)) (both_true (eq-eqb i i refl) (lt-ltb i n (omega arith)))
     ∙ ap (after_lines (in_pairs n (i + 1) false 0)) (append_assoc (flat_map proved_lines p.proved) (pair_lines (i + 1) ps) (End ∷ []))
     ∙ proved-end n (i + 1) p.proved (pair_lines (i + 1) ps ++ End ∷ []) (omega arith) (pairs-end n (i + 1) ps (omega arith)) false
-  where
-    both : (a b : Bool) → a ≡ true → b ≡ true → (a && b) ≡ true
-    both true b h k = k
-    both false b h k = h
 
 pub certificate-end : (c : Certificate) → after_lines at_version (certificate_lines c) ≡ Some complete
 unfolding Ends
@@ -82,19 +80,11 @@ front-of (l ∷ ls) (m ∷ ms) rest f g e =
     in let others = front-of ls ms rest f.1 g.1 parts.1
     in (others.0, (let r = others.1 in cc), others.2, others.3)
 
-after_lines-append : (p q : Phase) (ls ms : List Line) → after_lines p ls ≡ Some q → after_lines p (ls ++ ms) ≡ after_lines q ms
-after_lines-append p q [] ms h = ap (λ o. option_and_then (λ r. after_lines r ms) o) h
-after_lines-append p q (l ∷ ls) ms h = go (after_line p l) (λ r k. after_lines-append r q ls ms k) h
-  where
-    go : (o : Option Phase) → ((r : Phase) → after_lines r ls ≡ Some q → after_lines r (ls ++ ms) ≡ after_lines q ms) → option_and_then (λ r. after_lines r ls) o ≡ Some q → option_and_then (λ r. after_lines r (ls ++ ms)) o ≡ after_lines q ms
-    go None more k = absurd (cc)
-    go (Some r) more k = more r k
-
 -- the text of a certificate stops nowhere
 no_stop : (c : Certificate) → IsCertificate c → (n : ℕ) → StopsAt (certificate_text c) n → ⊥
 no_stop c f n at =
     let parts = front-of at.lines (certificate_lines c) at.rest at.fit f (sym at.whole)
-    in let left : after_lines at.phase parts.0 ≡ Some complete = sym (after_lines-append at_version at.phase at.lines parts.0 at.before) ∙ ap (after_lines at_version) (sym parts.1) ∙ certificate-end c
+    in let left : after_lines at.phase parts.0 ≡ Some complete = sym (after_lines-append at_version at.lines parts.0 ∙ ap (option_and_then (λ q. after_lines q parts.0)) at.before) ∙ ap (after_lines at_version) (sym parts.1) ∙ certificate-end c
     in go parts.0 parts.2 parts.3 left
   where
     go : (more : List Line) → at.rest ≡ lines_text more → AllByRecursion IsLine more → after_lines at.phase more ≡ Some complete → ⊥

@@ -26,11 +26,11 @@ then_some : {A : Type 0} (o : Option A) → option_and_then (λ (q : A). Some q)
 then_some None = refl
 then_some (Some x) = refl
 
-after_lines-push : (p : Phase) (ls : List Line) (l : Line) → after_lines p (ls ++ l ∷ []) ≡ option_and_then (λ q. after_line q l) (after_lines p ls)
-after_lines-push p [] l = then_some (after_line p l)
-after_lines-push p (m ∷ ls) l = go (after_line p m) (λ q. after_lines-push q ls l)
+pub after_lines-append : (p : Phase) (ls ms : List Line) → after_lines p (ls ++ ms) ≡ option_and_then (λ q. after_lines q ms) (after_lines p ls)
+after_lines-append p [] ms = refl
+after_lines-append p (l ∷ ls) ms = go (after_line p l) (λ q. after_lines-append q ls ms)
   where
-    go : (o : Option Phase) → ((q : Phase) → after_lines q (ls ++ l ∷ []) ≡ option_and_then (λ q. after_line q l) (after_lines q ls)) → option_and_then (λ q. after_lines q (ls ++ l ∷ [])) o ≡ option_and_then (λ q. after_line q l) (option_and_then (λ q. after_lines q ls) o)
+    go : (o : Option Phase) → ((q : Phase) → after_lines q (ls ++ ms) ≡ option_and_then (λ r. after_lines r ms) (after_lines q ls)) → option_and_then (λ q. after_lines q (ls ++ ms)) o ≡ option_and_then (λ r. after_lines r ms) (option_and_then (λ q. after_lines q ls) o)
     go None h = refl
     go (Some q) h = h q
 
@@ -38,8 +38,8 @@ module _ (lines : List Line) (i : ℕ) (d : Line) (reading : Prefix) (within : i
   pub prefix-step : (longer : Prefix) → IsExtension reading (get_or lines i d) (Some longer) → (prefix_lines longer ≡ take (i + 1) lines) × (after_lines at_version (take (i + 1) lines) ≡ Some (phase_of longer))
   prefix-step longer g = (
     g.0 ∙ ap (λ ls. ls ++ get_or lines i d ∷ []) same ∙ sym (take_more lines i d within),
-    ap (after_lines at_version) (take_more lines i d within) ∙ after_lines-push at_version (take i lines) (get_or lines i d)
-        ∙ ap (option_and_then (λ q. after_line q (get_or lines i d))) phase ∙ g.1,
+    ap (after_lines at_version) (take_more lines i d within) ∙ after_lines-append at_version (take i lines) (get_or lines i d ∷ [])
+        ∙ ap (option_and_then (λ q. after_lines q (get_or lines i d ∷ []))) phase ∙ then_some (after_line (phase_of reading) (get_or lines i d)) ∙ g.1,
   )
 
 -- a first line of a version that can be followed is that of this version

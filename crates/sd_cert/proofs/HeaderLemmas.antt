@@ -1,7 +1,8 @@
 -- The headers of pairs, and how many candidates they have.
-use Rattle.std.proofs.Common.{◌≡◌, ℕ, zero, suc, ◌+◌, ◌<◌, Bool, List, [], ◌∷◌, ◌++◌, map, take, drop, length, get_or, refl, sym, ap, ◌∙◌, arith, length-append}
+use Rattle.std.proofs.Common.{◌≡◌, ℕ, zero, suc, ◌+◌, ◌<◌, Bool, List, [], ◌∷◌, ◌++◌, map, take, drop, length, refl, sym, ap, ◌∙◌, arith, length-append}
 use Rattle.std.specs.Prelude.{Some, slice_get}
-use Rattle.std.proofs.lemmas.List.{length-map, map-append, take_more}
+use Rattle.std.proofs.lemmas.List.{length-map, map-append}
+use Rattle.sd_base.proofs.Lists.{take-at}
 use Rattle.std.proofs.lemmas.Option.{get_or_from_slice_get, same_Some, slice_get-map}
 use Rattle.std.specs.Option.{option_map}
 use Rattle.sd_match.specs.declared.pair.Pair.{Pair}
@@ -21,8 +22,7 @@ header-made pairs i p candidates refused count found listed state size =
 
 pub header-pushed : (pairs : List Pair) (i : ℕ) (p : Pair) (before after : List PairHeader) (s : PairHeader) → i < length pairs → slice_get pairs i ≡ Some p → s ≡ header_of p → before ≡ map header_of (take i pairs) → after ≡ before ++ s ∷ [] → after ≡ map header_of (take (i + 1) pairs)
 header-pushed pairs i p before after s within found is made pushed =
-    let here : get_or pairs i p ≡ p = get_or_from_slice_get pairs i p p found in
-    let more : take (i + 1) pairs ≡ take i pairs ++ p ∷ [] = take_more pairs i p within ∙ ap (λ x. take i pairs ++ x ∷ []) here in
+    let more : take (i + 1) pairs ≡ take i pairs ++ p ∷ [] = take-at pairs i p within (sym (get_or_from_slice_get pairs i p p found)) in
     pushed ∙ ap (λ ss. ss ++ s ∷ []) made ∙ ap (λ x. map header_of (take i pairs) ++ x ∷ []) is
     ∙ sym (map-append header_of (take i pairs) (p ∷ [])) ∙ ap (map header_of) (sym more)
 

@@ -1,12 +1,11 @@
 -- No step of a certificate that fits the pairs is bad just where its entries are proofs of these queries.
 use Rattle.std.proofs.Common.{◌≡◌, ℕ, ◌+◌, ◌≤◌, List, [], ◌∷◌, map, length, get_or, refl, sym, ap, ◌∙◌, subst, arith}
-use Rattle.std.specs.Prelude.{Option, Some, None, slice_get}
+use Rattle.std.specs.Prelude.{Option, None}
 use Rattle.std.specs.List.{AllByRecursion}
-use Rattle.std.proofs.lemmas.Option.{same_Some, slice_get-get_or, get_or_from_slice_get}
+use Rattle.std.proofs.lemmas.Option.{same_Some, slice_get-get_or}
 use Rattle.sd_term.specs.Tree.{Tree}
 use Rattle.sd_kernel.specs.Proof.{verdict}
 use Rattle.sd_kernel.proofs.Refuted.{verdict-exact}
-use Rattle.sd_kernel.specs.declared.step.Proof.{Proof}
 use Rattle.sd_kernel.specs.declared.step.Verdict.{Verdict}
 use Rattle.sd_kernel.specs.declared.step.Verdict.TheVariants.{Accepted, Rejected}
 use Rattle.sd_kernel.specs.declared.How.{How}
@@ -22,10 +21,7 @@ use Rattle.sd_cert.specs.Accepts.{Ascend, FitsPairs, numbered_from, proofs_from}
 use Rattle.sd_cert.specs.Refusals.{or_next}
 use Rattle.sd_cert.specs.BadSteps.{verdict_fault, how_fault, entry_fault, entries_fault, pairs_fault}
 use Rattle.sd_cert.specs.Headers.{count_of}
-
-next-none : (a b : Option CertError) → or_next a b ≡ None → (a ≡ None) × (b ≡ None)
-next-none None b h = (refl, h)
-next-none (Some e) b h = absurd (cc)
+use Rattle.sd_cert.proofs.RefusalLemmas.{next-none}
 
 none-next : (a b : Option CertError) → a ≡ None → b ≡ None → or_next a b ≡ None
 none-next a b h k = ap (λ o. or_next o b) h ∙ k
@@ -39,11 +35,6 @@ how-proves line facts (Steps p) k = (verdict-exact facts p.steps (verdict facts 
 
 proves-how : (line : ℕ) (facts : List Tree) (h : How) → IsHow facts h → how_fault line facts h ≡ None
 proves-how line facts (Steps p) k = ap (verdict_fault line) ((verdict-exact facts p.steps (verdict facts p.steps) refl).1 k)
-
--- what is said of an entry follows from the verdict on its query
-pub judged : (queries : List (List Tree)) (k line : ℕ) (facts : List Tree) (proof : Proof) (how : How) (r : Verdict) → slice_get queries k ≡ Some facts → how ≡ Steps proof → r ≡ verdict facts proof.steps → how_fault line (get_or queries k []) how ≡ verdict_fault line r
-judged queries k line facts proof how r query is verdict_is =
-    ap (how_fault line (get_or queries k [])) is ∙ ap (λ (ts : List Tree). verdict_fault line (verdict ts proof.steps)) (get_or_from_slice_get queries k facts [] query) ∙ ap (verdict_fault line) (sym verdict_is)
 
 module _ (queries : List (List Tree)) where
   entries-proved : (n line least bound : ℕ) (ps : List Proved) → n + bound ≤ length queries → Ascend least bound (proved_of ps) → entries_fault queries n line ps ≡ None → AllByRecursion (IsProved queries) (map (numbered_from n) ps)

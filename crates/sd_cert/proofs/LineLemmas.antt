@@ -1,6 +1,6 @@
 -- A line is read as what its spelling came from.
 use Rattle.std.proofs.Common.{◌≡◌, ℕ, suc, ◌+◌, ◌^◌, ◌<◌, List, [], ◌∷◌, ◌++◌, length, get_or, drop, refl, sym, ap, ◌∙◌, subst, arith, add-one}
-use Rattle.std.specs.Prelude.{Option, Some, None, IfSome, Result, Ok, Err, IfOk, codes}
+use Rattle.std.specs.Prelude.{Option, Some, None, IfSome, codes}
 use Rattle.std.proofs.lemmas.Option.{some_pair_parts, same_Some, none-some}
 use Rattle.std.proofs.lemmas.List.{append_cancel_right}
 use Rattle.std.specs.Option.{option_map}
@@ -156,9 +156,3 @@ module _ (k : Keyword) (old : k ≡ word.Old → ⊥) (new : k ≡ word.New → 
         found : (p : Option Line) → IfSome p (λ l. IsLine l × (Some (k, ns) ≡ word_and_numbers l)) → IfSome p (λ l. IsLine l × (front_of k ++ fields ≡ line_text l))
         found None h = tt
         found (Some l) h = (h.0, ap (λ t. front_of k ++ t) spelled.1 ∙ sym (ap form_text (form-numbers l k ns (sym h.1))) ∙ sym (text-of_form l h.0))
-
--- ---- results
-
-pub each-ok : {A E : Type 0} (P Q : A → Type 0) (r : Result A E) → ((x : A) → P x → Q x) → IfOk r P → IfOk r Q
-each-ok P Q (Ok x) f h = f x h
-each-ok P Q (Err e) f h = tt

@@ -2,6 +2,7 @@
 use Rattle.std.proofs.Common.{◌≡◌, ℕ, zero, suc, ◌+◌, Bool, true, false, List, [], ◌∷◌, ◌++◌, map, length, drop, refl, sym, ap, ◌∙◌, subst, arith, append_assoc, eqb-true, eq-eqb, leb-true, le-leb, ltb-true, lt-ltb, add-one}
 use Rattle.std.specs.Prelude.{Option, Some, None, slice_get, ◌&&◌, nat_lt, nat_le, min}
 use Rattle.std.specs.List.{flat_map}
+use Rattle.std.specs.Cmp.Derive.{both_true}
 use Rattle.std.proofs.lemmas.Slice.Eq.{slice_eq-Decides}
 use Rattle.std.proofs.lemmas.Bool.Decides.{Decides-eqb}
 use Rattle.sd_kernel.specs.declared.Step.{Step}
@@ -33,7 +34,7 @@ unless-none : (b : Bool) (e : CertError) → unless b e ≡ None → b ≡ true
 unless-none true e h = refl
 unless-none false e h = absurd (cc)
 
-next-none : (a b : Option CertError) → or_next a b ≡ None → (a ≡ None) × (b ≡ None)
+pub next-none : (a b : Option CertError) → or_next a b ≡ None → (a ≡ None) × (b ≡ None)
 next-none None b h = (refl, h)
 next-none (Some e) b h = absurd (cc)
 
@@ -44,10 +45,6 @@ none-next false e next h k = absurd (cc)
 both-true : (a b : Bool) → (a && b) ≡ true → (a ≡ true) × (b ≡ true)
 both-true true b h = (refl, h)
 both-true false b h = absurd (cc)
-
-true-both : (a b : Bool) → a ≡ true → b ≡ true → (a && b) ≡ true
-true-both true b h k = k
-true-both false b h k = absurd (cc)
 
 bytes-are : (xs ys : List ℕ) → same_bytes xs ys ≡ true → xs ≡ ys
 bytes-are xs ys h = (slice_eq-Decides Decides-eqb xs ys (same_bytes xs ys) refl).0 h
@@ -122,7 +119,7 @@ module _ (headers : List PairHeader) (d : Digests) where
   entries-pass i least (p ∷ ps) ls a h =
       let others = flat_map proved_lines ps ++ ls in
       ap (first_refusal headers d (at-spot i least)) (append_assoc (proved_lines p) (flat_map proved_lines ps) ls)
-      ∙ none-next _ (OtherPair i) _ (true-both _ _ (le-leb _ _ a.0) (lt-ltb _ _ a.1)) (how-pass (at-spot i (p.candidate + 1)) p.how others ∙ entries-pass i (p.candidate + 1) ps ls a.2 h)
+      ∙ none-next _ (OtherPair i) _ (both_true (le-leb _ _ a.0) (lt-ltb _ _ a.1)) (how-pass (at-spot i (p.candidate + 1)) p.how others ∙ entries-pass i (p.candidate + 1) ps ls a.2 h)
 
   -- ---- pairs
 

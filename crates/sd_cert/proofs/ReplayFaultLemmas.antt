@@ -24,7 +24,7 @@ use Rattle.sd_cert.specs.declared.line.Line.TheVariants.{Version, Old, New, Sett
 use Rattle.sd_cert.specs.declared.refusal.Spot.{Spot}
 use Rattle.sd_cert.specs.Lines.{line_text, IsLine}
 use Rattle.sd_cert.specs.Text.{lines_text, BeginsWithoutLine, HasLines}
-use Rattle.sd_cert.specs.Phases.{Phase, at_version, complete, after_line, after_lines}
+use Rattle.sd_cert.specs.Phases.{Phase, at_version, complete, after_lines}
 use Rattle.sd_cert.specs.Certificates.{certificate_lines, certificate_text, IsCertificate}
 use Rattle.sd_cert.specs.Faults.{IsFault}
 use Rattle.sd_cert.specs.Refusals.{unless, or_next, refusal, spot_after, first_spot, first_refusal, refusal_or, first_fault}
@@ -35,6 +35,7 @@ use Rattle.sd_cert.specs.ReplayFaults.{IsRefused, HasBadStep, IsReplayFault, IsC
 use Rattle.sd_cert.proofs.TextLemmas.{no_feed, first_line-unique, lines_text-append}
 use Rattle.sd_cert.proofs.OneLine.{line_text-injective}
 use Rattle.sd_cert.proofs.AcceptLemmas.{certificate-end}
+use Rattle.sd_cert.proofs.FaultLemmas.{after_lines-append}
 use Rattle.sd_base.proofs.Lists.{all-front}
 
 -- ---- bad steps
@@ -143,12 +144,11 @@ split-refused headers d spot (l ∷ ls) e h = go (refusal headers d spot l) refl
     }
 
 front-stands : (p q : Phase) (xs ys : List Line) → after_lines p (xs ++ ys) ≡ Some q → (r : Phase) × (after_lines p xs ≡ Some r)
-front-stands p q [] ys h = (p, refl)
-front-stands p q (x ∷ xs) ys h = go (after_line p x) (λ r. front-stands r q xs ys) h
+front-stands p q xs ys h = go (after_lines p xs) refl (sym (after_lines-append p xs ys) ∙ h)
   where
-    go : (o : Option Phase) → ((r : Phase) → after_lines r (xs ++ ys) ≡ Some q → (t : Phase) × (after_lines r xs ≡ Some t)) → option_and_then (λ r. after_lines r (xs ++ ys)) o ≡ Some q → (r : Phase) × (option_and_then (λ r. after_lines r xs) o ≡ Some r)
-    go None more k = absurd (cc)
-    go (Some r) more k = more r k
+    go : (o : Option Phase) → after_lines p xs ≡ o → option_and_then (λ r. after_lines r ys) o ≡ Some q → (r : Phase) × (after_lines p xs ≡ Some r)
+    go None is k = absurd (cc)
+    go (Some r) is k = (r, is)
 
 work-fault : (h : Held) (d : Digests) (text : List ℕ) (e : CertError) → IsOfWork e → IsRefused (headers_of h) d text e → IsReplayFault h d text e
 unfolding IsOfWork

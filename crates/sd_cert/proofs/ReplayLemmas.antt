@@ -1,25 +1,21 @@
 -- What a certificate that was read says of the bytes.
-use Rattle.std.proofs.Common.{◌≡◌, ◌≢◌, ℕ, Bool, List, [], ◌∷◌, ◌++◌, sym, ap, subst, ◌∙◌, inl, inr}
-use Rattle.std.specs.Prelude.{Some, Result, Ok, Err, IfOk, IfErr, IsErrAnd, ◌⊎◌}
-use Rattle.std.specs.List.{AllByRecursion}
-use Rattle.std.proofs.lemmas.List.{append-nil}
+use Rattle.std.proofs.Common.{◌≡◌, ◌≢◌, ℕ, Bool, List, sym, ap, ◌∙◌, inl, inr}
+use Rattle.std.specs.Prelude.{Some, None, Result, Ok, Err, IfOk, ◌⊎◌}
 use Rattle.sd_product.specs.Work.{Held}
+use Rattle.sd_cert.specs.declared.header.PairHeader.{PairHeader}
 use Rattle.sd_cert.specs.declared.digest.Digests.{Digests}
 use Rattle.sd_cert.specs.declared.certificate.Certificate.{Certificate}
 use Rattle.sd_cert.specs.declared.fault.CertError.{CertError}
 use Rattle.sd_cert.specs.declared.fault.CertError.TheVariants.{NoMemory}
 use Rattle.sd_cert.specs.declared.line.Line.{Line}
-use Rattle.sd_cert.specs.Lines.{IsLine}
-use Rattle.sd_cert.specs.Text.{lines_text, HasLines}
 use Rattle.sd_cert.specs.Certificates.{certificate_lines, certificate_text, IsCertificate}
 use Rattle.sd_cert.specs.Accepts.{FitsPairs, Accepts}
 use Rattle.sd_cert.specs.Refusals.{first_spot, first_refusal}
 use Rattle.sd_cert.specs.BadSteps.{step_fault}
 use Rattle.sd_cert.specs.ReplayFaults.{IsCertificateFault}
 use Rattle.sd_cert.specs.Headers.{headers_of}
-use Rattle.sd_cert.proofs.AcceptLemmas.{front-of}
 use Rattle.sd_cert.proofs.OneCertificate.{one_certificate}
-use Rattle.sd_cert.proofs.RefusalLemmas.{certificate-passes}
+use Rattle.sd_cert.proofs.RefusalLemmas.{certificate-fits, certificate-passes}
 use Rattle.sd_cert.proofs.TableLemmas.{accepted-passes}
 
 -- ---- what is refused is not accepted
@@ -44,10 +40,10 @@ pub any-ok : {A E P : Type 0} (r : Result A E) → P → IfOk r (λ x. P)
 any-ok (Ok x) p = p
 any-ok (Err e) p = tt
 
-pub each-err : {A E : Type 0} (P Q : E → Type 0) (r : Result A E) → ((e : E) → P e → Q e) → IfErr r P → IfErr r Q
-each-err P Q (Ok x) f h = tt
-each-err P Q (Err e) f h = f e h
-
 pub accept-fault : (h : Held) (d : Digests) (c : Certificate) (e : CertError) → c.digests ≡ d → FitsPairs (headers_of h) c.pairs → (e ≡ NoMemory) ⊎ (step_fault h c.pairs ≡ Some e) → IsCertificateFault h d c e
 accept-fault h d c e same fits (inl m) = inl m
 accept-fault h d c e same fits (inr s) = inr (inr (same, fits, s))
+
+pub passes-fits : (h : Held) (d : Digests) (c : Certificate) (headers : List PairHeader) (lines : List Line) → headers ≡ headers_of h → lines ≡ certificate_lines c → None ≡ first_refusal headers d first_spot lines → (c.digests ≡ d) × FitsPairs (headers_of h) c.pairs
+passes-fits h d c headers lines own are none =
+    certificate-fits (headers_of h) d c (ap (first_refusal (headers_of h) d first_spot) (sym are) ∙ ap (λ (hs : List PairHeader). first_refusal hs d first_spot lines) (sym own) ∙ sym none)

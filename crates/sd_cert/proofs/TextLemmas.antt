@@ -1,6 +1,5 @@
 -- Lines have no line feeds, so a text has one first line at most.
 use Rattle.std.proofs.Common.{◌≡◌, ℕ, ◌==◌, Bool, true, false, List, [], ◌∷◌, ◌++◌, get_or, sym, refl, ap, ◌∙◌, arith, append_assoc}
-use Rattle.std.specs.List.{AllByRecursion}
 use Rattle.std.specs.Fmt.{decimal}
 use Rattle.std.proofs.lemmas.List.Folds.{list_any_none}
 use Rattle.hex.specs.Hex.{encode_lower, is_hex_digit}

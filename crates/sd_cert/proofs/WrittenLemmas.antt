@@ -16,21 +16,21 @@ use Rattle.sd_cert.specs.Written.{IsWritten}
 
 -- Where the numbers ascend from the first one on, those of the front ascend below the end, with the first one as 0, and the
 -- others ascend from the first or from below the end of the front on.
-pub record IsSplit (first end bound : ℕ) (taken left : List ℕ) : Type 0 where
+pub record IsSplit (first end bound : ℕ) (head rest : List ℕ) : Type 0 where
   pub least : ℕ
   pub above : first ≤ least
-  pub front : (k : ℕ) (more : List ℕ) → least ≤ first + k → Ascend k (end - first) more → Ascend 0 (end - first) (taken ++ more)
-  pub back : Ascend least bound left
+  pub front : (k : ℕ) (more : List ℕ) → least ≤ first + k → Ascend k (end - first) more → Ascend 0 (end - first) (head ++ more)
+  pub back : Ascend least bound rest
 
 abbrev pub Splits : ℕ → ℕ → List ℕ → List ℕ → List ℕ → Type 0
-Splits first end all taken left = (bound : ℕ) → Ascend first bound all → IsSplit first end bound taken left
+Splits first end all head rest = (bound : ℕ) → Ascend first bound all → IsSplit first end bound head rest
+
+weaken-least : (least k bound : ℕ) (ks : List ℕ) → least ≤ k → Ascend k bound ks → Ascend least bound ks
+weaken-least least k bound [] h a = tt
+weaken-least least k bound (j ∷ ks) h a = (omega (arith, a.0), a.1, a.2)
 
 pub splits-first : (first end : ℕ) (all : List ℕ) → Splits first end all [] all
 splits-first first end all bound a = record { least = first; above = omega arith; front = λ k more h m. weaken-least 0 k (end - first) more (omega arith) m; back = a }
-  where
-    weaken-least : (least k bound : ℕ) (ks : List ℕ) → least ≤ k → Ascend k bound ks → Ascend least bound ks
-    weaken-least least k bound [] h a = tt
-    weaken-least least k bound (j ∷ ks) h a = (omega (arith, a.0), a.1, a.2)
 
 -- one entry more, below the end
 pub splits-more : (first end : ℕ) (all front : List ℕ) (c : ℕ) (back : List ℕ) → c < end → Splits first end all front (c ∷ back) → Splits first end all (front ++ (c - first) ∷ []) back
@@ -45,10 +45,6 @@ splits-more first end all front c back below s bound a =
           (p.front (c - first) ((c - first) ∷ more) (omega arith) (omega arith, omega arith, weaken-least (c - first + 1) k (end - first) more (omega arith) m));
       back = step.2;
     }
-  where
-    weaken-least : (least k bound : ℕ) (ks : List ℕ) → least ≤ k → Ascend k bound ks → Ascend least bound ks
-    weaken-least least k bound [] h a = tt
-    weaken-least least k bound (j ∷ ks) h a = (omega (arith, a.0), a.1, a.2)
 
 -- nothing is left below the end
 pub splits-end : (first end bound : ℕ) (all front back : List ℕ) → first ≤ end → ((c : ℕ) (rest : List ℕ) → back ≡ c ∷ rest → end ≤ c) → Splits first end all front back → Ascend first bound all → Ascend 0 (end - first) front × Ascend end bound back
@@ -132,11 +128,7 @@ live-ascends n (true ∷ bs) =
     (omega arith, omega arith, subst (λ m. Ascend m (n + suc (length bs)) (live_from (suc n) bs)) one (subst (λ m. Ascend (suc n) m (live_from (suc n) bs)) e (live-ascends (suc n) bs)))
 live-ascends n (false ∷ bs) =
     let e : suc n + length bs ≡ n + suc (length bs) = omega arith in
-    lower (live_from (suc n) bs) (subst (λ m. Ascend (suc n) m (live_from (suc n) bs)) e (live-ascends (suc n) bs))
-  where
-    lower : (ks : List ℕ) → Ascend (suc n) (n + suc (length bs)) ks → Ascend n (n + suc (length bs)) ks
-    lower [] a = tt
-    lower (k ∷ ks) a = (let h = a.0 in omega arith, a.1, a.2)
+    weaken-least n (suc n) (n + suc (length bs)) (live_from (suc n) bs) (omega arith) (subst (λ m. Ascend (suc n) m (live_from (suc n) bs)) e (live-ascends (suc n) bs))
 
 -- the proofs of a table ascend
 pub inductive-ascends : (queries : List (List Tree)) (count : ℕ) (table : List Bool) (proofs : List Proved) → length table ≡ count → IsInductive queries table proofs → Ascend 0 count (proved_of proofs)

@@ -40,8 +40,8 @@ abbrev pub proofs_from : ℕ → List PairHeader → List CertPair → List Prov
 proofs_from n (s ∷ ss) (p ∷ ps) = map (numbered_from n) p.proved ++ proofs_from (n + s.candidates) ss ps
 proofs_from n _ _ = []
 
--- The bytes spell a certificate with these digests and the pair lines of these programs, whose entries are proofs of the
--- live candidates of the table, under the table itself.
+-- The bytes spell a certificate with these digests and the pair lines of these programs, whose entries are proofs of
+-- the live candidates of the table, under the table itself.
 pub record Accepts (h : Held) (digests : Digests) (bytes : List ℕ) (table : List Bool) : Type 0 where
   pub certificate : Certificate
   pub form : IsCertificate certificate

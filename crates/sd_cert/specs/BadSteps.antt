@@ -1,5 +1,6 @@
 -- The first bad step of a certificate.
-use Rattle.std.specs.Prelude.{◌≡◌, ℕ, ◌+◌, List, [], ◌∷◌, length, slice_index_or, Option, Some, None, Result, Ok, Err, ◌⊎◌}
+use Rattle.std.specs.Prelude.{◌≡◌, ℕ, ◌+◌, List, [], ◌∷◌, length, slice_index_or, Option, Some, None, Result, Ok, Err}
+use Rattle.std.specs.Prelude.{◌⊎◌}
 use Rattle.std.specs.List.{flat_map}
 use Rattle.sd_term.specs.Tree.{Tree}
 use Rattle.sd_kernel.specs.Proof.{verdict}
@@ -26,7 +27,8 @@ verdict_fault line (Rejected n cause) = Some (BadStep (line + n) cause)
 abbrev pub how_fault : ℕ → List Tree → How → Option CertError
 how_fault line facts (Steps proof) = verdict_fault line (verdict facts proof.steps)
 
--- the first bad step of an entry whose candidate stands at this line, of a pair whose candidates are numbered from `first` on
+-- the first bad step of an entry whose candidate stands at this line, of a pair whose candidates are numbered from
+-- `first` on
 abbrev pub entry_fault : List (List Tree) → (first line : ℕ) → Proved → Option CertError
 entry_fault queries first line p = how_fault (line + 1) (slice_index_or queries (first + p.candidate) []) p.how
 
@@ -39,7 +41,8 @@ entries_fault queries first line (p ∷ ps) =
 -- the first bad step of the pairs from this line on, whose candidates are numbered from `first` on
 abbrev pub pairs_fault : List (List Tree) → (first line : ℕ) → List PairHeader → List CertPair → Option CertError
 pairs_fault queries first line (s ∷ ss) (p ∷ ps) =
-    or_next (entries_fault queries first (line + 1) p.proved) (pairs_fault queries (first + s.candidates) (line + 1 + length (flat_map proved_lines p.proved)) ss ps)
+    or_next (entries_fault queries first (line + 1) p.proved)
+    (pairs_fault queries (first + s.candidates) (line + 1 + length (flat_map proved_lines p.proved)) ss ps)
 pairs_fault queries first line _ _ = None
 
 -- The first bad step of a certificate with these pairs, under its own table. The first pair stands at line 6.

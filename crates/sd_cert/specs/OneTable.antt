@@ -6,4 +6,5 @@ use Rattle.sd_cert.specs.Accepts.{Accepts}
 
 abbrev pub ShowsOneTable : Type 0
 ShowsOneTable =
-    (h : Held) (digests : Digests) (bytes : List ℕ) (t u : List Bool) → Accepts h digests bytes t → Accepts h digests bytes u → t ≡ u
+    (h : Held) (digests : Digests) (bytes : List ℕ) (t u : List Bool) →
+    Accepts h digests bytes t → Accepts h digests bytes u → t ≡ u

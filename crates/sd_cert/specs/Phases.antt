@@ -1,11 +1,13 @@
 -- Which lines can follow one another.
-use Rattle.std.specs.Prelude.{ℕ, ◌+◌, ◌==◌, nat_lt, ◌&&◌, zero, suc, Bool, true, false, List, [], ◌∷◌, Option, Some, None, if◌then◌else◌}
+use Rattle.std.specs.Prelude.{ℕ, ◌+◌, ◌==◌, nat_lt, ◌&&◌, zero, suc, Bool, true, false, List, [], ◌∷◌, Option, Some}
+use Rattle.std.specs.Prelude.{None, if◌then◌else◌}
 use Rattle.std.specs.Option.{option_and_then}
 use Rattle.sd_cert.specs.declared.line.Line.{Line}
-use Rattle.sd_cert.specs.declared.line.Line.TheVariants.{Version, Old, New, Settings, Pairs, Pair, Candidate, Step as StepLine, Rows, Row, End}
+use Rattle.sd_cert.specs.declared.line.Line.TheVariants.{Version, Old, New, Settings, Pairs, Pair, Candidate}
+use Rattle.sd_cert.specs.declared.line.Line.TheVariants.{Step as StepLine, Rows, Row, End}
 
--- What comes next: a line of the head, or what stands below so many pairs, of which so many began, the last with a candidate or without, where so
--- many row lines still have to come.
+-- What comes next: a line of the head, or what stands below so many pairs, of which so many began, the last with a
+-- candidate or without, where so many row lines still have to come.
 pub data Phase : Type 0 where
   at_version : Phase
   at_old : Phase

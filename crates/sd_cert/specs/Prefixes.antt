@@ -1,5 +1,6 @@
 -- The lines of a prefix, and what comes next.
-use Rattle.std.specs.Prelude.{◌≡◌, ℕ, suc, ◌+◌, Bool, true, false, List, [], ◌∷◌, ◌++◌, map, length, Option, Some, None, MatchOption, is_some, if◌then◌else◌}
+use Rattle.std.specs.Prelude.{◌≡◌, ℕ, suc, ◌+◌, Bool, true, false, List, [], ◌∷◌, ◌++◌, map, length, Option, Some, None}
+use Rattle.std.specs.Prelude.{MatchOption, is_some, if◌then◌else◌}
 use Rattle.std.specs.List.{flat_map}
 use Rattle.sd_cert.specs.declared.digest.Digests.{Digests}
 use Rattle.sd_cert.specs.declared.certificate.CertPair.{CertPair}
@@ -12,7 +13,8 @@ use Rattle.sd_cert.specs.declared.prefix.Prefix.TheVariants as prefix
 use Rattle.sd_cert.specs.declared.line.Line.{Line}
 use Rattle.sd_cert.specs.declared.line.Line.TheVariants.{Version, Old, New, Settings, Pairs, Pair, Candidate, Rows, Row}
 use Rattle.sd_cert.specs.Certificates.{step_lines, proved_lines, pair_lines, certificate_lines}
-use Rattle.sd_cert.specs.Phases.{Phase, at_version, at_old, at_new, at_settings, at_pairs, in_pairs, complete, after_line}
+use Rattle.sd_cert.specs.Phases.{Phase, at_version, at_old, at_new, at_settings, at_pairs, in_pairs, complete}
+use Rattle.sd_cert.specs.Phases.{after_line}
 
 abbrev pub proof_lines : Option PartialProof → List Line
 proof_lines None = []
@@ -48,7 +50,9 @@ pair_before r = record { state = r.state; proved = r.proved; proof = Some r.proo
 -- a rows step with the rows that were read, the next one and the later ones
 abbrev pub lines_in_rows : PartialRows → List Line
 lines_in_rows r =
-    digest_lines r.digests ++ Pairs r.count ∷ (body_lines r.pairs (Some (pair_before r)) ++ Rows (length r.rows + suc r.later) ∷ map Row r.rows)
+    digest_lines r.digests
+    ++ Pairs r.count
+    ∷ (body_lines r.pairs (Some (pair_before r)) ++ Rows (length r.rows + suc r.later) ∷ map Row r.rows)
 
 abbrev pub prefix_lines : Prefix → List Line
 prefix_lines prefix.Empty = []
@@ -79,7 +83,8 @@ phase_of (prefix.Complete c) = complete
 -- the line follows these lines with this phase, and gives the prefix; or it can't stand there
 abbrev pub IsExtensionOf : List Line → Phase → Line → Option Prefix → Type 0
 IsExtensionOf lines phase line result =
-    MatchOption result (after_line phase line ≡ None) (λ d. (prefix_lines d ≡ lines ++ line ∷ []) × (after_line phase line ≡ Some (phase_of d)))
+    MatchOption result (after_line phase line ≡ None)
+    (λ p. (prefix_lines p ≡ lines ++ line ∷ []) × (after_line phase line ≡ Some (phase_of p)))
 
 abbrev pub IsExtension : Prefix → Line → Option Prefix → Type 0
 IsExtension d line result = IsExtensionOf (prefix_lines d) (phase_of d) line result

@@ -1,10 +1,12 @@
 -- Which lines of a certificate are not those of pairs with these headers and of the digests.
-use Rattle.std.specs.Prelude.{ℕ, ◌+◌, ◌==◌, nat_lt, nat_le, min, ◌&&◌, Bool, true, false, List, [], ◌∷◌, length, Option, Some, None, slice_get, ◌-◌, take}
+use Rattle.std.specs.Prelude.{ℕ, ◌+◌, ◌==◌, nat_lt, nat_le, min, ◌&&◌, Bool, true, false, List, [], ◌∷◌, length, Option}
+use Rattle.std.specs.Prelude.{Some, None, slice_get, ◌-◌, take}
 use Rattle.std.specs.Cmp.Lexicographic.{pointwise}
 use Rattle.sd_cert.specs.declared.header.PairHeader.{PairHeader}
 use Rattle.sd_cert.specs.declared.digest.Digests.{Digests}
 use Rattle.sd_cert.specs.declared.fault.CertError.{CertError}
-use Rattle.sd_cert.specs.declared.fault.CertError.TheVariants.{OtherOld, OtherNew, OtherSettings, Line as BadLine, Pair as OtherPair}
+use Rattle.sd_cert.specs.declared.fault.CertError.TheVariants.{OtherOld, OtherNew, OtherSettings, Line as BadLine}
+use Rattle.sd_cert.specs.declared.fault.CertError.TheVariants.{Pair as OtherPair}
 use Rattle.sd_cert.specs.declared.line.CertState.{CertState}
 use Rattle.sd_cert.specs.declared.line.CertState.TheVariants.{Open, Refused}
 use Rattle.sd_cert.specs.declared.line.Line.{Line}
@@ -63,5 +65,6 @@ refusal_or (Some first) e = first
 
 -- why a line before the bad one is refused, or else why the bad one is bad
 abbrev pub first_fault : List PairHeader → Digests → List Line → CertError → CertError
-first_fault headers digests lines (BadLine n) = refusal_or (first_refusal headers digests first_spot (take (n - 1) lines)) (BadLine n)
+first_fault headers digests lines (BadLine n) =
+    refusal_or (first_refusal headers digests first_spot (take (n - 1) lines)) (BadLine n)
 first_fault headers digests lines e = e

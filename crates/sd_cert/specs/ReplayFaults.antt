@@ -33,7 +33,8 @@ pub record IsRefused (headers : List PairHeader) (digests : Digests) (text : Lis
 -- none of the lines before the one with this number is refused
 abbrev pub PassBefore : List PairHeader → Digests → List ℕ → ℕ → Type 0
 PassBefore headers digests text n =
-    (lines : List Line) (rest : List ℕ) → AllByRecursion IsLine lines → text ≡ lines_text lines ++ rest → n ≡ length lines + 1 → first_refusal headers digests first_spot lines ≡ None
+    (lines : List Line) (rest : List ℕ) → AllByRecursion IsLine lines → text ≡ lines_text lines ++ rest →
+    n ≡ length lines + 1 → first_refusal headers digests first_spot lines ≡ None
 
 -- The text is that of a certificate that fits the digests and the pairs, and the error names its first bad step.
 pub record HasBadStep (h : Held) (digests : Digests) (text : List ℕ) (e : CertError) : Type 0 where
@@ -55,4 +56,6 @@ IsReplayFault h digests text e = IsRefused (headers_of h) digests text e
 
 abbrev pub IsCertificateFault : Held → Digests → Certificate → CertError → Type 0
 IsCertificateFault h digests c e =
-    (e ≡ NoMemory) ⊎ ((first_refusal (headers_of h) digests first_spot (certificate_lines c) ≡ Some e) ⊎ ((c.digests ≡ digests) × FitsPairs (headers_of h) c.pairs × (step_fault h c.pairs ≡ Some e)))
+    (e ≡ NoMemory)
+    ⊎ ((first_refusal (headers_of h) digests first_spot (certificate_lines c) ≡ Some e)
+    ⊎ ((c.digests ≡ digests) × FitsPairs (headers_of h) c.pairs × (step_fault h c.pairs ≡ Some e)))

@@ -11,7 +11,8 @@ use Rattle.sd_cert.specs.Certificates.{certificate_text, IsCertificate}
 use Rattle.sd_cert.specs.Headers.{headers_of}
 
 -- The certificate has these digests and the pair lines of pairs with these headers, and its entries are these proofs.
-pub record IsCertificateOf (headers : List PairHeader) (digests : Digests) (proofs : List Proved) (c : Certificate) : Type 0 where
+pub record IsCertificateOf (headers : List PairHeader) (digests : Digests) (proofs : List Proved) (c : Certificate)
+    : Type 0 where
   pub same_digests : c.digests ≡ digests
   pub fits : FitsPairs headers c.pairs
   pub entries : proofs_from 0 headers c.pairs ≡ proofs
@@ -26,4 +27,6 @@ pub record IsWritten (h : Held) (digests : Digests) (proofs : List Proved) (byte
 -- The bytes that are written of the proofs of a table are accepted with this table.
 abbrev pub WrittenIsAccepted : Type 0
 WrittenIsAccepted =
-    (h : Held) (digests : Digests) (proofs : List Proved) (bytes : List ℕ) (table : List Bool) → IsWritten h digests proofs bytes → length table ≡ length (claims_in h) → IsInductive (queries_under h table) table proofs → Accepts h digests bytes table
+    (h : Held) (digests : Digests) (proofs : List Proved) (bytes : List ℕ) (table : List Bool) →
+    IsWritten h digests proofs bytes → length table ≡ length (claims_in h) →
+    IsInductive (queries_under h table) table proofs → Accepts h digests bytes table

@@ -4,13 +4,14 @@ ghost use Rattle.std.specs.List.{flat_map};
 ghost use Rattle.sd_cert.specs.declared.line.Line.TheVariants as line;
 ghost use Rattle.sd_cert.specs.Lines.{IsLine, IsStep};
 ghost use Rattle.sd_cert.specs.Certificates.{step_lines, proved_lines, pair_lines};
-ghost use Rattle.sd_cert.specs.Prefixes.{IsExtension, IsBodyExtension, IsRowsExtension, proof_lines, pair_count, body_lines};
+ghost use Rattle.sd_cert.specs.Prefixes.{IsExtension, IsBodyExtension, IsRowsExtension, proof_lines, pair_count};
+ghost use Rattle.sd_cert.specs.Prefixes.{body_lines};
 
 use crate::certificate::{CertPair, Certificate};
 use crate::copying::copy_step;
 use crate::digest::Digests;
-use crate::prefix::{Body, Prefix, PartialPair, PartialProof, PartialRows};
 use crate::line::{CertState, Line};
+use crate::prefix::{Body, PartialPair, PartialProof, PartialRows, Prefix};
 use sd_base::NoMemory;
 use sd_kernel::{How, Proof, Proved, RowLine, Step};
 use sqlite_items::Items;
@@ -81,21 +82,29 @@ fn next_in_rows(rows: PartialRows, line: &Line) -> Result<Option<Prefix>, NoMemo
 }
 
 /// The list with the partial proof, if there is one.
-fn close_proof(proved: Items<Proved>, proof: Option<PartialProof>) -> Result<Items<Proved>, NoMemory>
+fn close_proof(
+    proved: Items<Proved>,
+    proof: Option<PartialProof>,
+) -> Result<Items<Proved>, NoMemory>
     ensures { IfOk result (λ closed. flat_map proved_lines closed ≡ flat_map proved_lines proved ++ proof_lines proof) }
 {
     let mut proved = proved;
     if let Some(partial) = proof {
         proved.push(Proved {
             candidate: partial.candidate,
-            how: How::Steps(Proof { steps: partial.steps }),
+            how: How::Steps(Proof {
+                steps: partial.steps,
+            }),
         })?;
     }
     Ok(proved)
 }
 
 /// The list with the last pair, if there is one.
-fn close_pair(pairs: Items<CertPair>, last: Option<PartialPair>) -> Result<Items<CertPair>, NoMemory>
+fn close_pair(
+    pairs: Items<CertPair>,
+    last: Option<PartialPair>,
+) -> Result<Items<CertPair>, NoMemory>
     ensures count { IfOk result (λ closed. length closed ≡ pair_count pairs last) }
     ensures lines { IfOk result (λ closed. pair_lines 0 closed ≡ body_lines pairs last) }
 {

@@ -11,10 +11,10 @@ ghost use Rattle.sd_cert.specs.Text.{lines_text, BeginsWithoutLine};
 ghost use Rattle.sd_cert.specs.Faults.{IsFault, IsLineFault, IsPlaceFault};
 
 use crate::certificate::Certificate;
-use crate::prefix::Prefix;
 use crate::extend::next;
 use crate::fault::CertError;
 use crate::line::Line;
+use crate::prefix::Prefix;
 use crate::text::read_lines;
 use std::alloc::Global;
 

@@ -1,11 +1,12 @@
 //! Lines that are not those of the headers and digests.
 ghost use Rattle.std.specs.Prelude.{◌≡◌, ◌<◌, ◌^◌, ◌+◌, length, slice_get};
-ghost use Rattle.sd_cert.specs.Refusals.{unless, has_state, candidate_count, spot_after, refusal, first_spot, first_refusal};
+ghost use Rattle.sd_cert.specs.Refusals.{unless, has_state, candidate_count, spot_after, refusal, first_spot};
+ghost use Rattle.sd_cert.specs.Refusals.{first_refusal};
 
 use crate::digest::Digests;
 use crate::fault::CertError;
-use crate::line::{CertState, Line};
 use crate::header::PairHeader;
+use crate::line::{CertState, Line};
 
 /// Where a line stands: below the line of a pair, with the least number that its next candidate can have.
 #[derive(Clone, Copy, Debug)]
@@ -58,7 +59,10 @@ fn refusal(headers: &[PairHeader], digests: &Digests, spot: Spot, line: &Line) -
             let own = headers.len() as u64;
             unless(*count == own, CertError::Pair((*count).min(own) as u32))
         }
-        Line::Pair(pair, state) => unless(has_state(headers, *pair, *state), CertError::Pair(*pair)),
+        Line::Pair(pair, state) => unless(
+            has_state(headers, *pair, *state),
+            CertError::Pair(*pair),
+        ),
         Line::Candidate(candidate) => {
             let number = *candidate as u64;
             let count = candidate_count(headers, spot.pair);

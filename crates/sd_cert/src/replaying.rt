@@ -13,11 +13,11 @@ ghost use Rattle.sd_cert.specs.Headers.{headers_of};
 use crate::certificate::Certificate;
 use crate::digest::Digests;
 use crate::fault::CertError;
+use crate::header::{PairHeader, headers_of};
 use crate::judge::judge_pairs;
 use crate::line::Line;
 use crate::reading::certificate_in;
 use crate::refusal::first_refusal;
-use crate::header::{PairHeader, headers_of};
 use crate::table::list_live;
 use crate::text::read_lines;
 use sd_cand::LiveTable;
@@ -58,7 +58,12 @@ fn lines_before(lines: &[Line], number: u64) -> &[Line]
 }
 
 /// Why a line before the bad one is refused, or else why the bad one is bad.
-fn first_fault(headers: &[PairHeader], digests: &Digests, lines: &[Line], fault: CertError) -> CertError
+fn first_fault(
+    headers: &[PairHeader],
+    digests: &Digests,
+    lines: &[Line],
+    fault: CertError,
+) -> CertError
     requires { length headers.now < 2 ^ 32 }
     ensures { result ≡ first_fault headers.now digests.now lines.now fault }
 {

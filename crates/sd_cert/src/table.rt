@@ -53,7 +53,11 @@ fn list_entries(
 }
 
 /// The table in which just the candidates that a certificate of these pairs lists are live.
-pub(crate) fn list_live(alloc: Global, work: &Work, claims: &[CertPair]) -> Result<LiveTable, NoMemory>
+pub(crate) fn list_live(
+    alloc: Global,
+    work: &Work,
+    claims: &[CertPair],
+) -> Result<LiveTable, NoMemory>
     requires { FitsPairs (headers_of work.now) claims.now }
     ensures size { IfOk result (λ table. length table ≡ length (claims_in work.now)) }
     ensures small { IfOk result (λ table. length table < 2 ^ 32) }
@@ -66,7 +70,13 @@ pub(crate) fn list_live(alloc: Global, work: &Work, claims: &[CertPair]) -> Resu
     'pairs: for pair in 0..work.pairs().len() {
         let (first, end) = work.numbers_of(pair);
         let claim = &claims[pair as usize];
-        decided = list_entries(&mut table, claim.proved.as_slice(), first, end - first, decided);
+        decided = list_entries(
+            &mut table,
+            claim.proved.as_slice(),
+            first,
+            end - first,
+            decided,
+        );
     }
     clear_until(&mut table, decided, total);
     Ok(table)

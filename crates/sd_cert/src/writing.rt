@@ -9,8 +9,8 @@ ghost use Rattle.sd_cert.specs.Written.{IsCertificateOf, IsWritten};
 use crate::certificate::{CertPair, Certificate};
 use crate::copying::copy_steps;
 use crate::digest::Digests;
-use crate::line::CertState;
 use crate::header::{PairHeader, headers_of};
+use crate::line::CertState;
 use crate::spelling::spell_certificate;
 use sd_base::NoMemory;
 use sd_kernel::{How, Proof, Proved};
@@ -41,7 +41,8 @@ fn entries_of(
     requires order { first ≤ end }
     requires ascend { (bound : ℕ) × Ascend first bound (proved_of proofs.now) }
     ensures all { IfOk result (λ r. map (numbered_from first) r.0 ++ r.1.now ≡ proofs.now) }
-    ensures ascend { IfOk result (λ r. (bound : ℕ) → Ascend first bound (proved_of proofs.now) → Ascend 0 (end - first) (proved_of r.0) × Ascend end bound (proved_of r.1.now)) }
+    ensures ascend { IfOk result (λ r. (bound : ℕ) → Ascend first bound (proved_of proofs.now) →
+        Ascend 0 (end - first) (proved_of r.0) × Ascend end bound (proved_of r.1.now)) }
 {
     let mut entries = Items::new(alloc);
     let mut left = proofs;
@@ -120,8 +121,8 @@ fn certificate_of_work(
     certificate_of(alloc, headers.as_slice(), digests, proofs)
 }
 
-/// The text of the certificate of two programs with these digests whose live candidates are those of the proofs, which are
-/// numbered through all pairs.
+/// The text of the certificate of two programs with these digests whose live candidates are those of the proofs, which
+/// are numbered through all pairs.
 pub fn write_certificate(
     alloc: Global,
     work: &Work,

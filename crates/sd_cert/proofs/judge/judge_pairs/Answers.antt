@@ -1,8 +1,8 @@
 -- The pairs are judged one by one.
-use Rattle.std.proofs.Common.{◌<◌, length, ap, ◌∙◌, arith}
+use Rattle.std.proofs.Common.{◌<◌, length, ap, arith}
 use Rattle.std.proofs.lemmas.Result.{err_from_is_err_and}
 use Rattle.sd_product.specs.Work.{pairs_in, queries_under}
-use Rattle.sd_cert.proofs.Listing.{claims-count, ascend-own, fault-here, fault-later, no-fault-left}
+use Rattle.sd_cert.proofs.Listing.{claims-count, ascend-own, fault-here, fault-later}
 use Rattle.sd_cert.proofs.judge.judge_pairs.Goals as goal
 
 pub bounds-claims-pair : goal.bounds-claims-pair

@@ -1,6 +1,6 @@
-use Rattle.std.proofs.Common.{◌≡◌, ℕ, ◌==◌, ◌++◌, List, length, refl, ap}
+use Rattle.std.proofs.Common.{ℕ, ◌==◌, ◌++◌, List, length, refl, ap}
 use Rattle.std.proofs.lemmas.Result.{err_from_is_err_and}
-use Rattle.sd_cert.specs.Text.{lines_text, HasLines}
+use Rattle.sd_cert.specs.Text.{lines_text}
 use Rattle.sd_cert.proofs.FaultLemmas.{line_fault, end_fault, not_complete}
 use Rattle.sd_cert.proofs.reading.certificate_in.Goals as goal
 use Rattle.sd_cert.proofs.reading.certificate_in.Goals.{in_default-via-in-Complete+else-is_empty, in_default-via-in_default}

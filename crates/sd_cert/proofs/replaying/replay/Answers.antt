@@ -1,5 +1,6 @@
 -- What was read and checked is accepted, and what is refused is not.
 use Rattle.std.proofs.Common.{◌≡◌, ◌≢◌, Bool, List, ◌∙◌, sym, ap, subst}
+use Rattle.std.proofs.lemmas.Result.{IfErr-weaker}
 use Rattle.sd_cert.specs.declared.header.PairHeader.{PairHeader}
 use Rattle.sd_cert.specs.declared.fault.CertError.{CertError}
 use Rattle.sd_cert.specs.declared.fault.CertError.TheVariants.{NoMemory}
@@ -8,7 +9,7 @@ use Rattle.sd_cert.specs.Headers.{headers_of}
 use Rattle.sd_cert.specs.Refusals.{first_fault}
 use Rattle.sd_cert.specs.ReplayFaults.{IsCertificateFault, IsReplayFault}
 use Rattle.sd_cert.proofs.AcceptLemmas.{no_fault, read-of, read-fault}
-use Rattle.sd_cert.proofs.ReplayLemmas.{check-only, each-err}
+use Rattle.sd_cert.proofs.ReplayLemmas.{check-only}
 use Rattle.sd_cert.proofs.ReplayFaultLemmas.{certificate-fault, reading-fault}
 use Rattle.sd_cert.proofs.replaying.replay.Goals as goal
 
@@ -16,8 +17,8 @@ pub returns-in-Ok-clause-refused_only : goal.returns-in-Ok-clause-refused_only
 returns-in-Ok-clause-refused_only c =
     let text = c.args.certificate.now in
     let read = read-of text c.in_ok-lines.lines c.as_slice-lines.result.now c.in_ok-lines.rest.now c.in-Ok.read c.in_ok-lines.ensures c.as_slice-lines.ensures c.in-Ok.ensures.found in
-    each-err (IsCertificateFault c.args.work.now c.args.digests.now c.in-Ok.read)
-    (λ e. e ≢ NoMemory → (t : List Bool) → Accepts c.args.work.now c.args.digests.now text t → ⊥) c.check.result
+    IfErr-weaker c.check.result (IsCertificateFault c.args.work.now c.args.digests.now c.in-Ok.read)
+    (λ e. e ≢ NoMemory → (t : List Bool) → Accepts c.args.work.now c.args.digests.now text t → ⊥)
     (λ e h. check-only c.args.work.now c.args.digests.now text c.in-Ok.read e read.0 read.1 h)
     c.check.ensures.fault
 
@@ -25,7 +26,7 @@ pub returns-in-Ok-clause-refused : goal.returns-in-Ok-clause-refused
 returns-in-Ok-clause-refused c =
     let text = c.args.certificate.now in
     let read = read-of text c.in_ok-lines.lines c.as_slice-lines.result.now c.in_ok-lines.rest.now c.in-Ok.read c.in_ok-lines.ensures c.as_slice-lines.ensures c.in-Ok.ensures.found in
-    each-err (IsCertificateFault c.args.work.now c.args.digests.now c.in-Ok.read) (IsReplayFault c.args.work.now c.args.digests.now text) c.check.result
+    IfErr-weaker c.check.result (IsCertificateFault c.args.work.now c.args.digests.now c.in-Ok.read) (IsReplayFault c.args.work.now c.args.digests.now text)
     (λ e h. certificate-fault c.args.work.now c.args.digests.now text c.in-Ok.read e read.0 read.1 h)
     c.check.ensures.fault
 

@@ -2,7 +2,7 @@
 use Rattle.std.proofs.Common.{◌≡◌, ◌<◌, ◌+◌, ◌++◌, map, List, length, ap, sym, ◌∙◌, subst, arith}
 use Rattle.sd_kernel.specs.declared.Proved.{Proved}
 use Rattle.sd_product.specs.Inductive.{proved_of}
-use Rattle.sd_product.specs.Work.{pairs_in, claims_in}
+use Rattle.sd_product.specs.Work.{pairs_in}
 use Rattle.sd_cert.specs.Accepts.{proofs_from}
 use Rattle.sd_cert.specs.Headers.{headers_of}
 use Rattle.sd_cert.specs.Tables.{IsDecided}

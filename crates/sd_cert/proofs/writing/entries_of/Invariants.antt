@@ -4,7 +4,7 @@ use Rattle.sd_cert.specs.Accepts.{numbered_from}
 use Rattle.sd_cert.proofs.WrittenLemmas.{Splits}
 use Rattle.sd_cert.proofs.writing.entries_of.Given as goal
 
--- what was taken and what is left are the proofs, and where they ascend, both do
+-- the entries and the rest are the proofs, and where they ascend, both do
 abbrev pub invariant-proofs : goal.invariant-proofs
 invariant-proofs l = record {
   all : map (numbered_from l.first) l.entries ++ l.left ≡ l.initial.proofs;
