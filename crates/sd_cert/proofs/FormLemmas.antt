@@ -71,7 +71,7 @@ abbrev pub form_text : Form → List ℕ
 form_text None = codes "end"
 form_text (Some f) = front_of f.0 ++ fields_text f.1
 
-abbrev IsForm : Form → Type 0
+abbrev pub IsForm : Form → Type 0
 IsForm None = Unit {0}
 IsForm (Some f) = AreFields f.1
 
@@ -81,7 +81,7 @@ text-of_form (StepLine (RowsStep rows)) h = absurd h
 text-of_form (Row (Fact k)) h = refl
 text-of_form _ h = refl
 
-form-fits : (l : Line) → IsLine l → IsForm (form_of l)
+pub form-fits : (l : Line) → IsLine l → IsForm (form_of l)
 form-fits (Version n) h = (h, tt)
 form-fits (Pairs n) h = (h, tt)
 form-fits (Candidate k) h = (omega arith, tt)

@@ -1,5 +1,7 @@
 -- Proofs that are shared out among the pairs.
 use Rattle.std.proofs.Common.{◌≡◌, ℕ, suc, ◌+◌, ◌-◌, ◌<◌, ◌≤◌, Bool, true, false, List, [], ◌∷◌, ◌++◌, map, length, get_or, take, drop, refl, sym, ap, ◌∙◌, subst, arith, append_assoc}
+use Rattle.std.specs.List.{AllByRecursion}
+use Rattle.sd_base.proofs.Lists.{all-push}
 use Rattle.std.proofs.lemmas.List.{map-append, append-nil, take_all, drop_all}
 use Rattle.sd_term.specs.Tree.{Tree}
 use Rattle.sd_kernel.specs.declared.Proved.{Proved}
@@ -14,49 +16,23 @@ use Rattle.sd_cert.specs.Written.{IsWritten}
 
 -- ---- the entries of a pair
 
--- Where the numbers ascend from the first one on, those of the front ascend below the end, with the first one as 0, and the
--- others ascend from the first or from below the end of the front on.
-pub record IsSplit (first end bound : ℕ) (head rest : List ℕ) : Type 0 where
-  pub least : ℕ
-  pub above : first ≤ least
-  pub front : (k : ℕ) (more : List ℕ) → least ≤ first + k → Ascend k (end - first) more → Ascend 0 (end - first) (head ++ more)
-  pub back : Ascend least bound rest
+-- each of ascending numbers is at least the least one
+pub ascend-least : (least bound : ℕ) (xs : List Proved) (y : Proved) (ys : List Proved) → Ascend least bound (proved_of (xs ++ y ∷ ys)) → least ≤ y.candidate
+ascend-least least bound [] y ys a = a.0
+ascend-least least bound (x ∷ xs) y ys a = let more = ascend-least (x.candidate + 1) bound xs y ys a.2 in omega (arith, a.0)
 
-abbrev pub Splits : ℕ → ℕ → List ℕ → List ℕ → List ℕ → Type 0
-Splits first end all head rest = (bound : ℕ) → Ascend first bound all → IsSplit first end bound head rest
-
-weaken-least : (least k bound : ℕ) (ks : List ℕ) → least ≤ k → Ascend k bound ks → Ascend least bound ks
-weaken-least least k bound [] h a = tt
-weaken-least least k bound (j ∷ ks) h a = (omega (arith, a.0), a.1, a.2)
-
-pub splits-first : (first end : ℕ) (all : List ℕ) → Splits first end all [] all
-splits-first first end all bound a = record { least = first; above = omega arith; front = λ k more h m. weaken-least 0 k (end - first) more (omega arith) m; back = a }
-
--- one entry more, below the end
-pub splits-more : (first end : ℕ) (all front : List ℕ) (c : ℕ) (back : List ℕ) → c < end → Splits first end all front (c ∷ back) → Splits first end all (front ++ (c - first) ∷ []) back
-splits-more first end all front c back below s bound a =
-    let p = s bound a in
-    let step = p.back in record {
-      least = c + 1;
-      above = let h = step.0 in let g = p.above in omega arith;
-      front = λ k more h m.
-          let lo = step.0 in let ab = p.above in
-          subst (λ (ks : List ℕ). Ascend 0 (end - first) ks) (sym (append_assoc front ((c - first) ∷ []) more))
-          (p.front (c - first) ((c - first) ∷ more) (omega arith) (omega arith, omega arith, weaken-least (c - first + 1) k (end - first) more (omega arith) m));
-      back = step.2;
-    }
-
--- nothing is left below the end
-pub splits-end : (first end bound : ℕ) (all front back : List ℕ) → first ≤ end → ((c : ℕ) (rest : List ℕ) → back ≡ c ∷ rest → end ≤ c) → Splits first end all front back → Ascend first bound all → Ascend 0 (end - first) front × Ascend end bound back
-splits-end first end bound all front back order stop s a =
-    let p = s bound a in (
-      subst (λ (ks : List ℕ). Ascend 0 (end - first) ks) (append-nil front) (p.front (p.least - first) [] (let h = p.above in omega arith) tt),
-      raise back stop p.back,
-    )
+-- Where the numbers of all ascend, so do those of the entries, with the first one as 0, and those of the rest, if the entries are
+-- below the end and the rest isn't.
+pub split-ascends : (first end bound least : ℕ) (es rest : List Proved) → Ascend (first + least) bound (proved_of (map (numbered_from first) es ++ rest)) → AllByRecursion (λ e. first + e.candidate < end) es → ((c : ℕ) (ks : List ℕ) → proved_of rest ≡ c ∷ ks → end ≤ c) → Ascend least (end - first) (proved_of es) × Ascend end bound (proved_of rest)
+split-ascends first end bound least [] rest a b stop = (tt, raise (proved_of rest) stop a)
   where
-    raise : (ks : List ℕ) → ((c : ℕ) (rest : List ℕ) → ks ≡ c ∷ rest → end ≤ c) → Ascend (s bound a).least bound ks → Ascend end bound ks
-    raise [] stop b = tt
-    raise (k ∷ ks) stop b = (stop k ks refl, b.1, b.2)
+    raise : (ks : List ℕ) → ((c : ℕ) (more : List ℕ) → ks ≡ c ∷ more → end ≤ c) → Ascend (first + least) bound ks → Ascend end bound ks
+    raise [] stop a = tt
+    raise (k ∷ ks) stop a = (stop k ks refl, a.1, a.2)
+split-ascends first end bound least (e ∷ es) rest a b stop =
+    let next : first + e.candidate + 1 ≡ first + (e.candidate + 1) = omega arith in
+    let more = split-ascends first end bound (e.candidate + 1) es rest (subst (λ n. Ascend n bound (proved_of (map (numbered_from first) es ++ rest))) next a.2) b.1 stop in
+    ((omega (arith, a.0), omega (arith, b.0), more.0), more.1)
 
 -- the first of several
 pub cut-first : {X : Type 0} (xs : List X) (x : X) → 1 ≤ length xs → x ≡ get_or xs 0 x → xs ≡ x ∷ take (length xs - 1) (drop 1 xs)
@@ -73,14 +49,10 @@ module _ (first : ℕ) (entries next_entries : List Proved) (e next : Proved) (l
       ∙ append_assoc (map (numbered_from first) entries) (next ∷ []) rest
       ∙ ap (λ ps. map (numbered_from first) entries ++ ps) (sym cut) ∙ h
 
-  pub splits-pushed : (end : ℕ) (all : List ℕ) → next.candidate < end → Splits first end all (proved_of entries) (proved_of left) → Splits first end all (proved_of next_entries) (proved_of rest)
-  splits-pushed end all below s =
-      let sum : first + e.candidate ≡ next.candidate = ap (λ (p : Proved). p.candidate) same in
-      let number : next.candidate - first ≡ e.candidate = omega (arith, sum) in
-      let grown : proved_of next_entries ≡ proved_of entries ++ (next.candidate - first) ∷ [] =
-      ap proved_of pushed ∙ map-append (λ (p : Proved). p.candidate) entries (e ∷ []) ∙ ap (λ k. proved_of entries ++ k ∷ []) (sym number) in
-      subst (λ (ks : List ℕ). Splits first end all ks (proved_of rest)) (sym grown)
-      (splits-more first end all (proved_of entries) next.candidate (proved_of rest) below (subst (λ (ps : List Proved). Splits first end all (proved_of entries) (proved_of ps)) cut s))
+  pub below-more : (end : ℕ) → next.candidate < end → AllByRecursion (λ e. first + e.candidate < end) entries → AllByRecursion (λ e. first + e.candidate < end) next_entries
+  below-more end below all =
+      subst (λ (es : List Proved). AllByRecursion (λ e. first + e.candidate < end) es) (sym pushed)
+      (all-push (λ e. first + e.candidate < end) entries e all (omega (arith, ap (λ (p : Proved). p.candidate) same)))
 
 same_first : (j k : ℕ) (js ks : List ℕ) → ◌≡◌ {A = List ℕ} (j ∷ js) (k ∷ ks) → j ≡ k
 same_first j k js ks e = cc
@@ -119,6 +91,10 @@ fits-all headers proofs claims i first left past total a c =
     subst (λ (cs : List CertPair). FitsPairs headers cs × (proofs_from 0 headers cs ≡ proofs)) (append-nil claims) (end [] tt (sym empty))
 
 -- ---- what is written is accepted
+
+weaken-least : (least k bound : ℕ) (ks : List ℕ) → least ≤ k → Ascend k bound ks → Ascend least bound ks
+weaken-least least k bound [] h a = tt
+weaken-least least k bound (j ∷ ks) h a = (omega (arith, a.0), a.1, a.2)
 
 live-ascends : (n : ℕ) (table : List Bool) → Ascend n (n + length table) (live_from n table)
 live-ascends n [] = tt
