@@ -10,15 +10,16 @@ use Rattle.sd_cand.specs.declared.candidate.Candidate.{Candidate}
 use Rattle.sd_cand.specs.Candidates.{candidates_of}
 use Rattle.sd_product.specs.Query.{Claimed, query_of}
 use Rattle.sd_product.specs.Work.{Held, infallibles_in, work_of, claims_of, claims_in, pairs_in, queries_under}
+use Rattle.sd_cert.specs.declared.line.CertState.{CertState}
 use Rattle.sd_cert.specs.declared.header.PairHeader.{PairHeader}
-use Rattle.sd_cert.specs.Headers.{is_refused, header_of, headers_of, count_of}
+use Rattle.sd_cert.specs.Headers.{state_of, header_of, headers_of, count_of}
 
 -- ---- one header more
 
-pub header-made : (pairs : List Pair) (i : ℕ) (p : Pair) (candidates : List Candidate) (refused : Bool) (count : ℕ) → slice_get pairs i ≡ Some p → slice_get (map candidates_of pairs) i ≡ Some candidates → refused ≡ is_refused p.state → count ≡ length candidates → ◌≡◌ {A = PairHeader} (record { refused = refused; candidates = count }) (header_of p)
-header-made pairs i p candidates refused count found listed state size =
+pub header-made : (pairs : List Pair) (i : ℕ) (p : Pair) (candidates : List Candidate) (state : CertState) (count : ℕ) → slice_get pairs i ≡ Some p → slice_get (map candidates_of pairs) i ≡ Some candidates → state ≡ state_of p.state → count ≡ length candidates → ◌≡◌ {A = PairHeader} (record { state = state; candidates = count }) (header_of p)
+header-made pairs i p candidates state count found listed said size =
     let same : candidates ≡ candidates_of p = same_Some candidates (candidates_of p) (sym listed ∙ slice_get-map candidates_of pairs i ∙ ap (option_map candidates_of) found) in
-    ap (λ b. record { refused = b; candidates = count }) state ∙ ap (λ n. record { refused = is_refused p.state; candidates = n }) (size ∙ ap length same)
+    ap (λ s. record { state = s; candidates = count }) said ∙ ap (λ n. record { state = state_of p.state; candidates = n }) (size ∙ ap length same)
 
 pub header-pushed : (pairs : List Pair) (i : ℕ) (p : Pair) (before after : List PairHeader) (s : PairHeader) → i < length pairs → slice_get pairs i ≡ Some p → s ≡ header_of p → before ≡ map header_of (take i pairs) → after ≡ before ++ s ∷ [] → after ≡ map header_of (take (i + 1) pairs)
 header-pushed pairs i p before after s within found is made pushed =

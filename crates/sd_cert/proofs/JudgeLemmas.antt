@@ -17,7 +17,7 @@ use Rattle.sd_cert.specs.declared.certificate.CertPair.{CertPair}
 use Rattle.sd_cert.specs.declared.fault.CertError.{CertError}
 use Rattle.sd_base.proofs.Lists.{all-append, all-front, all-back}
 use Rattle.sd_cert.specs.Certificates.{proved_lines}
-use Rattle.sd_cert.specs.Accepts.{Ascend, FitsPairs, numbered_from, proofs_from}
+use Rattle.sd_cert.specs.Accepts.{Ascend, FitsPairs, entry_from, proofs_from}
 use Rattle.sd_cert.specs.Refusals.{or_next}
 use Rattle.sd_cert.specs.BadSteps.{verdict_fault, how_fault, entry_fault, entries_fault, pairs_fault}
 use Rattle.sd_cert.specs.Headers.{count_of}
@@ -37,7 +37,7 @@ proves-how : (line : ℕ) (facts : List Tree) (h : How) → IsHow facts h → ho
 proves-how line facts (Steps p) k = ap (verdict_fault line) ((verdict-exact facts p.steps (verdict facts p.steps) refl).1 k)
 
 module _ (queries : List (List Tree)) where
-  entries-proved : (n line least bound : ℕ) (ps : List Proved) → n + bound ≤ length queries → Ascend least bound (proved_of ps) → entries_fault queries n line ps ≡ None → AllByRecursion (IsProved queries) (map (numbered_from n) ps)
+  entries-proved : (n line least bound : ℕ) (ps : List Proved) → n + bound ≤ length queries → Ascend least bound (proved_of ps) → entries_fault queries n line ps ≡ None → AllByRecursion (IsProved queries) (map (entry_from n) ps)
   entries-proved n line least bound [] w a h = tt
   entries-proved n line least bound (p ∷ ps) w a h =
       let parts = next-none (entry_fault queries n line p) _ h in
@@ -50,7 +50,7 @@ module _ (queries : List (List Tree)) where
         entries-proved n (line + length (proved_lines p)) (p.candidate + 1) bound ps w a.2 parts.1,
       )
 
-  proved-entries : (n line least bound : ℕ) (ps : List Proved) → n + bound ≤ length queries → Ascend least bound (proved_of ps) → AllByRecursion (IsProved queries) (map (numbered_from n) ps) → entries_fault queries n line ps ≡ None
+  proved-entries : (n line least bound : ℕ) (ps : List Proved) → n + bound ≤ length queries → Ascend least bound (proved_of ps) → AllByRecursion (IsProved queries) (map (entry_from n) ps) → entries_fault queries n line ps ≡ None
   proved-entries n line least bound [] w a h = refl
   proved-entries n line least bound (p ∷ ps) w a h =
       let below = a.1 in
@@ -65,7 +65,7 @@ module _ (queries : List (List Tree)) where
   pairs-proved n line (s ∷ ss) [] w a h = absurd a
   pairs-proved n line (s ∷ ss) (p ∷ ps) w a h =
       let parts = next-none (entries_fault queries n (line + 1) p.proved) _ h in
-      all-append (IsProved queries) (map (numbered_from n) p.proved) (proofs_from (n + s.candidates) ss ps)
+      all-append (IsProved queries) (map (entry_from n) p.proved) (proofs_from (n + s.candidates) ss ps)
       (entries-proved n (line + 1) 0 s.candidates p.proved (omega arith) a.0.numbers parts.0)
       (pairs-proved (n + s.candidates) _ ss ps (omega arith) a.1 parts.1)
 
@@ -74,7 +74,7 @@ module _ (queries : List (List Tree)) where
   proved-pairs n line [] (p ∷ ps) w a h = absurd a
   proved-pairs n line (s ∷ ss) [] w a h = absurd a
   proved-pairs n line (s ∷ ss) (p ∷ ps) w a h =
-      let first = map (numbered_from n) p.proved in
+      let first = map (entry_from n) p.proved in
       let others = proofs_from (n + s.candidates) ss ps in
       none-next (entries_fault queries n (line + 1) p.proved) _
       (proved-entries n (line + 1) 0 s.candidates p.proved (omega arith) a.0.numbers (all-front (IsProved queries) first others h))

@@ -10,10 +10,11 @@ use Rattle.sd_cert.specs.declared.header.PairHeader.{PairHeader}
 use Rattle.sd_product.specs.Bodies.{count_before}
 use Rattle.sd_product.specs.Inductive.{proved_of, live_from}
 use Rattle.sd_product.specs.Work.{Held, pairs_in}
+use Rattle.sd_cert.specs.declared.line.CertState.TheVariants.{Open}
 use Rattle.sd_cert.specs.declared.certificate.CertPair.{CertPair}
 use Rattle.sd_cert.specs.declared.fault.CertError.{CertError}
 use Rattle.sd_cert.specs.declared.fault.CertError.TheVariants.{NoMemory}
-use Rattle.sd_cert.specs.Accepts.{Ascend, FitsPair, FitsPairs, numbered_from, proofs_from}
+use Rattle.sd_cert.specs.Accepts.{Ascend, FitsPair, FitsPairs, entry_from, proofs_from}
 use Rattle.sd_cert.specs.BadSteps.{entries_fault, pairs_fault}
 use Rattle.sd_cert.specs.Certificates.{proved_lines}
 use Rattle.sd_cert.specs.Headers.{header_of, headers_of, count_of}
@@ -81,7 +82,7 @@ listed-all entries i first numbers h = ap (λ ps. numbers ++ map (λ k. first + 
 
 -- ---- the pairs
 
-numbers-from : (n : ℕ) (ps : List Proved) → proved_of (map (numbered_from n) ps) ≡ map (λ k. n + k) (proved_of ps)
+numbers-from : (n : ℕ) (ps : List Proved) → proved_of (map (entry_from n) ps) ≡ map (λ k. n + k) (proved_of ps)
 numbers-from n [] = refl
 numbers-from n (p ∷ ps) = ap (λ ks. (n + p.candidate) ∷ ks) (numbers-from n ps)
 
@@ -98,7 +99,7 @@ fits-at d s (t ∷ ss) (q ∷ ps) zero p f h k e = rw (k, e) f.0
 fits-at d s (t ∷ ss) (q ∷ ps) (suc i) p f h k e = fits-at d s ss ps i p f.1 (omega arith) k e
 
 none : PairHeader
-none = record { refused = false; candidates = 0 }
+none = record { state = Open; candidates = 0 }
 
 module _ (h : Held) (claims : List CertPair) (fits : FitsPairs (headers_of h) claims) where
   pub claims-count : length (pairs_in h) ≡ length claims
@@ -136,8 +137,8 @@ module _ (h : Held) (claims : List CertPair) (fits : FitsPairs (headers_of h) cl
         (sym
         (ap (λ ss. proved_of (proofs_from (count_before h i) ss (drop i claims))) headers-here
         ∙ ap (λ cs. proved_of (proofs_from (count_before h i) (own ∷ drop (i + 1) (headers_of h)) cs)) claims-here
-        ∙ ap (λ n. proved_of (map (numbered_from (count_before h i)) p.proved ++ proofs_from n (drop (i + 1) (headers_of h)) (drop (i + 1) claims))) next
-        ∙ map-append (λ (q : Proved). q.candidate) (map (numbered_from (count_before h i)) p.proved) others
+        ∙ ap (λ n. proved_of (map (entry_from (count_before h i)) p.proved ++ proofs_from n (drop (i + 1) (headers_of h)) (drop (i + 1) claims))) next
+        ∙ map-append (λ (q : Proved). q.candidate) (map (entry_from (count_before h i)) p.proved) others
         ∙ ap (λ ks. ks ++ proved_of others) (numbers-from (count_before h i) p.proved ∙ ap (λ n. map (λ k. n + k) (proved_of p.proved)) (sym begins))))
         ∙ e
 

@@ -24,9 +24,9 @@ use Rattle.sd_cert.specs.declared.line.Line.{Line}
 use Rattle.sd_cert.specs.declared.line.Line.TheVariants.{Row, End}
 use Rattle.sd_cert.specs.declared.refusal.Spot.{Spot}
 use Rattle.sd_cert.specs.Certificates.{step_lines, how_lines, proved_lines, pair_lines, certificate_lines}
-use Rattle.sd_cert.specs.Accepts.{state_of, Ascend, FitsPairs}
+use Rattle.sd_cert.specs.Accepts.{Ascend, FitsPairs}
 use Rattle.sd_cert.proofs.Listing.{fits-length}
-use Rattle.sd_cert.specs.Refusals.{unless, or_next, same_bytes, has_state, candidate_count, first_spot, first_refusal}
+use Rattle.sd_cert.specs.Refusals.{unless, or_next, same_bytes, same_state, has_state, candidate_count, first_spot, first_refusal}
 
 -- ---- tests
 
@@ -54,25 +54,15 @@ are-bytes xs ys h = (slice_eq-Decides Decides-eqb xs ys (same_bytes xs ys) refl)
 
 -- ---- states
 
-state-is : (s : PairHeader) (state : CertState) → has_state (Some s) state ≡ true → state ≡ state_of s.refused
-state-is s Open h = go s.refused h
-  where
-    go : (b : Bool) → elim b [ true ↦ false | false ↦ true ] ≡ true → Open ≡ state_of b
-    go true k = absurd (cc)
-    go false k = refl
-state-is s Refused h = ap state_of (sym h)
+state-is : (s t : CertState) → same_state s t ≡ true → t ≡ s
+state-is Open Open h = refl
+state-is Refused Refused h = refl
+state-is _ _ h = absurd (cc)
 
-is-state : (s : PairHeader) (state : CertState) → state ≡ state_of s.refused → has_state (Some s) state ≡ true
-is-state s Open h = go s.refused h
-  where
-    go : (b : Bool) → Open ≡ state_of b → elim b [ true ↦ false | false ↦ true ] ≡ true
-    go true k = absurd (cc)
-    go false k = refl
-is-state s Refused h = go s.refused h
-  where
-    go : (b : Bool) → Refused ≡ state_of b → b ≡ true
-    go true k = refl
-    go false k = absurd (cc)
+is-state : (s t : CertState) → t ≡ s → same_state s t ≡ true
+is-state Open Open h = refl
+is-state Refused Refused h = refl
+is-state _ _ h = absurd (cc)
 
 found-at : (xs : List PairHeader) (i : ℕ) (x : PairHeader) (ys : List PairHeader) → drop i xs ≡ x ∷ ys → (slice_get xs i ≡ Some x) × (drop (suc i) xs ≡ ys)
 found-at [] zero x ys h = absurd (cc)
@@ -137,7 +127,7 @@ module _ (headers : List PairHeader) (d : Digests) where
       let left = entries-ascend i 0 p.proved (pair_lines (i + 1) ps ++ End ∷ []) (sym (ap (first_refusal headers d (at-spot i 0)) (below i p ps)) ∙ parts.1) in
       let test : has_state (Some s) p.state ≡ true = sym (ap (λ o. has_state o p.state) found.0) ∙ unless-none _ (OtherPair i) parts.0 in (
         record {
-          state = state-is s p.state test;
+          state = state-is s.state p.state test;
           numbers = subst (λ (o : Option PairHeader). Ascend 0 (candidate_count o) (proved_of p.proved)) found.0 left.0;
         },
         pairs-fit (at-spot i left.1.0) (i + 1) ss ps (ap (λ k. drop k headers) (add-one i) ∙ found.1) (omega arith) left.1.1,
@@ -150,7 +140,7 @@ module _ (headers : List PairHeader) (d : Digests) where
   pairs-pass spot i (s ∷ ss) [] e f = absurd f
   pairs-pass spot i (s ∷ ss) (p ∷ ps) e f =
       let found = found-at headers i s ss e in
-      let test : has_state (slice_get headers i) p.state ≡ true = ap (λ o. has_state o p.state) found.0 ∙ is-state s p.state f.0.state in
+      let test : has_state (slice_get headers i) p.state ≡ true = ap (λ o. has_state o p.state) found.0 ∙ is-state s.state p.state f.0.state in
       let numbers = subst (λ (o : Option PairHeader). Ascend 0 (candidate_count o) (proved_of p.proved)) (sym found.0) f.0.numbers in
       none-next _ (OtherPair i) _ test
       (ap (first_refusal headers d (at-spot i 0)) (below i p ps)

@@ -10,7 +10,7 @@ use Rattle.sd_product.specs.Inductive.{proved_of, live_from, IsInductive}
 use Rattle.sd_cert.specs.declared.header.PairHeader.{PairHeader}
 use Rattle.sd_cert.specs.declared.digest.Digests.{Digests}
 use Rattle.sd_cert.specs.declared.certificate.CertPair.{CertPair}
-use Rattle.sd_cert.specs.Accepts.{Ascend, FitsPairs, numbered_from, proofs_from, Accepts}
+use Rattle.sd_cert.specs.Accepts.{Ascend, FitsPairs, entry_from, proofs_from, Accepts}
 use Rattle.sd_cert.specs.Headers.{count_of}
 use Rattle.sd_cert.specs.Written.{IsWritten}
 
@@ -23,7 +23,7 @@ ascend-least least bound (x ∷ xs) y ys a = let more = ascend-least (x.candidat
 
 -- Where the numbers of all ascend, so do those of the entries, with the first one as 0, and those of the rest, if the entries are
 -- below the end and the rest isn't.
-pub split-ascends : (first end bound least : ℕ) (es rest : List Proved) → Ascend (first + least) bound (proved_of (map (numbered_from first) es ++ rest)) → AllByRecursion (λ e. first + e.candidate < end) es → ((c : ℕ) (ks : List ℕ) → proved_of rest ≡ c ∷ ks → end ≤ c) → Ascend least (end - first) (proved_of es) × Ascend end bound (proved_of rest)
+pub split-ascends : (first end bound least : ℕ) (es rest : List Proved) → Ascend (first + least) bound (proved_of (map (entry_from first) es ++ rest)) → AllByRecursion (λ e. first + e.candidate < end) es → ((c : ℕ) (ks : List ℕ) → proved_of rest ≡ c ∷ ks → end ≤ c) → Ascend least (end - first) (proved_of es) × Ascend end bound (proved_of rest)
 split-ascends first end bound least [] rest a b stop = (tt, raise (proved_of rest) stop a)
   where
     raise : (ks : List ℕ) → ((c : ℕ) (more : List ℕ) → ks ≡ c ∷ more → end ≤ c) → Ascend (first + least) bound ks → Ascend end bound ks
@@ -31,7 +31,7 @@ split-ascends first end bound least [] rest a b stop = (tt, raise (proved_of res
     raise (k ∷ ks) stop a = (stop k ks refl, a.1, a.2)
 split-ascends first end bound least (e ∷ es) rest a b stop =
     let next : first + e.candidate + 1 ≡ first + (e.candidate + 1) = omega arith in
-    let more = split-ascends first end bound (e.candidate + 1) es rest (subst (λ n. Ascend n bound (proved_of (map (numbered_from first) es ++ rest))) next a.2) b.1 stop in
+    let more = split-ascends first end bound (e.candidate + 1) es rest (subst (λ n. Ascend n bound (proved_of (map (entry_from first) es ++ rest))) next a.2) b.1 stop in
     ((omega (arith, a.0), omega (arith, b.0), more.0), more.1)
 
 -- the first of several
@@ -41,13 +41,13 @@ cut-first (y ∷ ys) x h e =
     let size : suc (length ys) - 1 ≡ length ys = omega arith in
     ap (λ z. z ∷ ys) (sym e) ∙ ap (λ zs. x ∷ zs) (sym (ap (λ n. take n ys) size ∙ take_all (length ys) ys (omega arith)))
 
-module _ (first : ℕ) (entries next_entries : List Proved) (e next : Proved) (left rest : List Proved) (pushed : next_entries ≡ entries ++ e ∷ []) (same : numbered_from first e ≡ next) (cut : left ≡ next ∷ rest) where
-  pub all-more : (proofs : List Proved) → map (numbered_from first) entries ++ left ≡ proofs → map (numbered_from first) next_entries ++ rest ≡ proofs
+module _ (first : ℕ) (entries next_entries : List Proved) (e next : Proved) (left rest : List Proved) (pushed : next_entries ≡ entries ++ e ∷ []) (same : entry_from first e ≡ next) (cut : left ≡ next ∷ rest) where
+  pub all-more : (proofs : List Proved) → map (entry_from first) entries ++ left ≡ proofs → map (entry_from first) next_entries ++ rest ≡ proofs
   all-more proofs h =
-      ap (λ es. map (numbered_from first) es ++ rest) pushed
-      ∙ ap (λ es. es ++ rest) (map-append (numbered_from first) entries (e ∷ []) ∙ ap (λ p. map (numbered_from first) entries ++ p ∷ []) same)
-      ∙ append_assoc (map (numbered_from first) entries) (next ∷ []) rest
-      ∙ ap (λ ps. map (numbered_from first) entries ++ ps) (sym cut) ∙ h
+      ap (λ es. map (entry_from first) es ++ rest) pushed
+      ∙ ap (λ es. es ++ rest) (map-append (entry_from first) entries (e ∷ []) ∙ ap (λ p. map (entry_from first) entries ++ p ∷ []) same)
+      ∙ append_assoc (map (entry_from first) entries) (next ∷ []) rest
+      ∙ ap (λ ps. map (entry_from first) entries ++ ps) (sym cut) ∙ h
 
   pub below-more : (end : ℕ) → next.candidate < end → AllByRecursion (λ e. first + e.candidate < end) entries → AllByRecursion (λ e. first + e.candidate < end) next_entries
   below-more end below all =

@@ -24,10 +24,14 @@ or_next (Some e) next = Some e
 abbrev pub same_bytes : List ℕ → List ℕ → Bool
 same_bytes xs ys = pointwise (λ x y. x == y) xs ys
 
+abbrev pub same_state : CertState → CertState → Bool
+same_state Open Open = true
+same_state Refused Refused = true
+same_state _ _ = false
+
 abbrev pub has_state : Option PairHeader → CertState → Bool
 has_state None state = false
-has_state (Some s) Open = elim s.refused [ true ↦ false | false ↦ true ]
-has_state (Some s) Refused = s.refused
+has_state (Some s) state = same_state s.state state
 
 abbrev pub candidate_count : Option PairHeader → ℕ
 candidate_count None = 0

@@ -1,24 +1,28 @@
 //! The headers of pairs.
 ghost use Rattle.std.specs.Prelude.{◌≡◌, ◌<◌, ◌^◌, IfOk, length};
-ghost use Rattle.sd_cert.specs.Headers.{is_refused, headers_of};
+ghost use Rattle.sd_cert.specs.Headers.{state_of, headers_of};
 
+use crate::line::CertState;
 use sd_base::NoMemory;
 use sd_match::PairState;
 use sd_product::Work;
 use std::alloc::Global;
 
-/// The header of a pair, which the pair of a certificate must fit: whether it is refused, and how many candidates it
-/// has.
+/// The header of a pair, which the pair of a certificate must fit: its state, and how many candidates it has.
 #[derive(Clone, Copy, Debug, PartialEq, Eq)]
 pub struct PairHeader {
-    pub refused: bool,
+    pub state: CertState,
     pub candidates: u32,
 }
 
-fn is_refused(state: &PairState) -> bool
-    ensures { result ≡ is_refused state.now }
+/// What a certificate says of a pair with this state.
+fn state_of(state: &PairState) -> CertState
+    ensures { result ≡ state_of state.now }
 {
-    !matches!(state, PairState::Open)
+    match state {
+        PairState::Open => CertState::Open,
+        _ => CertState::Refused,
+    }
 }
 
 /// The headers of all pairs. More candidates than a table can have are out of memory.
@@ -33,7 +37,7 @@ pub fn headers_of(alloc: Global, work: &Work) -> Result<Vec<PairHeader>, NoMemor
             return Err(NoMemory);
         };
         headers.push(PairHeader {
-            refused: is_refused(&pairs.pair(i).state),
+            state: state_of(&pairs.pair(i).state),
             candidates,
         })?;
     }

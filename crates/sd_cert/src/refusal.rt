@@ -27,8 +27,8 @@ fn has_state(headers: &[PairHeader], pair: u32, state: CertState) -> bool
 {
     match headers.get(pair as usize) {
         Some(found) => match state {
-            CertState::Open => !found.refused,
-            CertState::Refused => found.refused,
+            CertState::Open => matches!(found.state, CertState::Open),
+            CertState::Refused => matches!(found.state, CertState::Refused),
         },
         None => false,
     }

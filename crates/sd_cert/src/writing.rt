@@ -2,7 +2,7 @@
 ghost use Rattle.std.specs.Prelude.{◌≡◌, ◌≤◌, ◌<◌, ◌^◌, ◌+◌, ◌-◌, ◌++◌, ℕ, map, length, IfOk};
 ghost use Rattle.sd_product.specs.Inductive.{proved_of};
 ghost use Rattle.sd_product.specs.Work.{claims_in};
-ghost use Rattle.sd_cert.specs.Accepts.{state_of, Ascend, numbered_from};
+ghost use Rattle.sd_cert.specs.Accepts.{Ascend, entry_from};
 ghost use Rattle.sd_cert.specs.Headers.{headers_of, count_of};
 ghost use Rattle.sd_cert.specs.Written.{IsCertificateOf, IsWritten};
 
@@ -10,7 +10,6 @@ use crate::certificate::{CertPair, Certificate};
 use crate::copying::copy_steps;
 use crate::digest::Digests;
 use crate::header::{PairHeader, headers_of};
-use crate::line::CertState;
 use crate::spelling::spell_certificate;
 use sd_base::NoMemory;
 use sd_kernel::{How, Proof, Proved};
@@ -21,7 +20,7 @@ use std::alloc::Global;
 /// The entry as it stands in its pair, whose first candidate has this number.
 fn entry_of(alloc: Global, proved: &Proved, first: u32) -> Result<Proved, NoMemory>
     requires { first ≤ proved.now.candidate }
-    ensures { IfOk result (λ entry. numbered_from first entry ≡ proved.now) }
+    ensures { IfOk result (λ entry. entry_from first entry ≡ proved.now) }
 {
     let How::Steps(proof) = &proved.how;
     let steps = copy_steps(alloc, proof.steps.as_slice())?;
@@ -40,7 +39,7 @@ fn entries_of(
 ) -> Result<(Items<Proved>, &[Proved]), NoMemory>
     requires order { first ≤ end }
     requires ascend { (bound : ℕ) × Ascend first bound (proved_of proofs.now) }
-    ensures all { IfOk result (λ r. map (numbered_from first) r.0 ++ r.1.now ≡ proofs.now) }
+    ensures all { IfOk result (λ r. map (entry_from first) r.0 ++ r.1.now ≡ proofs.now) }
     ensures ascend { IfOk result (λ r. (bound : ℕ) → Ascend first bound (proved_of proofs.now) →
         Ascend 0 (end - first) (proved_of r.0) × Ascend end bound (proved_of r.1.now)) }
 {
@@ -54,16 +53,6 @@ fn entries_of(
         left = rest;
     }
     Ok((entries, left))
-}
-
-fn state_of(header: PairHeader) -> CertState
-    ensures { result ≡ state_of header.refused }
-{
-    if header.refused {
-        CertState::Refused
-    } else {
-        CertState::Open
-    }
 }
 
 /// The number below the candidates of a pair.
@@ -94,7 +83,7 @@ pub(crate) fn certificate_of(
         let end = end_of(*header, first)?;
         let (proved, rest) = entries_of(alloc, left, first, end)?;
         claims.push(CertPair {
-            state: state_of(*header),
+            state: header.state,
             proved,
         })?;
         first = end;
