@@ -22,15 +22,15 @@ use Rattle.sd_cert.specs.declared.line.CertState.{CertState}
 use Rattle.sd_cert.specs.declared.line.CertState.TheVariants.{Open, Refused}
 use Rattle.sd_cert.specs.declared.line.Line.{Line}
 use Rattle.sd_cert.specs.declared.line.Line.TheVariants.{Row, End}
-use Rattle.sd_cert.specs.declared.refusal.Spot.{Spot}
+use Rattle.sd_cert.specs.declared.refusal.Position.{Position}
 use Rattle.sd_cert.specs.Certificates.{step_lines, how_lines, proved_lines, pair_lines, certificate_lines}
 use Rattle.sd_cert.specs.Accepts.{Ascend, FitsPairs}
 use Rattle.sd_cert.proofs.Listing.{fits-length}
-use Rattle.sd_cert.specs.Refusals.{unless, or_next, same_bytes, same_state, has_state, candidate_count, first_spot, first_refusal}
+use Rattle.sd_cert.specs.Refusals.{fault_unless, or_next, same_bytes, same_state, has_state, candidate_count, first_position, first_refusal}
 
 -- ---- tests
 
-unless-none : (b : Bool) (e : CertError) → unless b e ≡ None → b ≡ true
+unless-none : (b : Bool) (e : CertError) → fault_unless b e ≡ None → b ≡ true
 unless-none true e h = refl
 unless-none false e h = absurd (cc)
 
@@ -38,7 +38,7 @@ pub next-none : (a b : Option CertError) → or_next a b ≡ None → (a ≡ Non
 next-none None b h = (refl, h)
 next-none (Some e) b h = absurd (cc)
 
-none-next : (b : Bool) (e : CertError) (next : Option CertError) → b ≡ true → next ≡ None → or_next (unless b e) next ≡ None
+none-next : (b : Bool) (e : CertError) (next : Option CertError) → b ≡ true → next ≡ None → or_next (fault_unless b e) next ≡ None
 none-next true e next h k = k
 none-next false e next h k = absurd (cc)
 
@@ -70,85 +70,85 @@ found-at [] (suc i) x ys h = absurd (cc)
 found-at (y ∷ xs) zero x ys h = (let e : y ≡ x = cc in cc, let e : xs ≡ ys = cc in e)
 found-at (y ∷ xs) (suc i) x ys h = found-at xs i x ys h
 
-at-spot : ℕ → ℕ → Spot
-at-spot i least = record { pair = i; least = least }
+at-position : ℕ → ℕ → Position
+at-position i least = record { pair = i; least = least }
 
 module _ (headers : List PairHeader) (d : Digests) where
-  rows-pass : (spot : Spot) (rows : List RowLine) (ls : List Line) → first_refusal headers d spot (map Row rows ++ ls) ≡ first_refusal headers d spot ls
-  rows-pass spot [] ls = refl
-  rows-pass spot (r ∷ rows) ls = rows-pass spot rows ls
+  rows-pass : (position : Position) (rows : List RowLine) (ls : List Line) → first_refusal headers d position (map Row rows ++ ls) ≡ first_refusal headers d position ls
+  rows-pass position [] ls = refl
+  rows-pass position (r ∷ rows) ls = rows-pass position rows ls
 
-  step-pass : (spot : Spot) (s : Step) (ls : List Line) → first_refusal headers d spot (step_lines s ++ ls) ≡ first_refusal headers d spot ls
-  step-pass spot (RowsStep rows) ls = rows-pass spot rows ls
-  step-pass spot _ ls = refl
+  step-pass : (position : Position) (s : Step) (ls : List Line) → first_refusal headers d position (step_lines s ++ ls) ≡ first_refusal headers d position ls
+  step-pass position (RowsStep rows) ls = rows-pass position rows ls
+  step-pass position _ ls = refl
 
-  steps-pass : (spot : Spot) (ss : List Step) (ls : List Line) → first_refusal headers d spot (flat_map step_lines ss ++ ls) ≡ first_refusal headers d spot ls
-  steps-pass spot [] ls = refl
-  steps-pass spot (s ∷ ss) ls =
-      ap (first_refusal headers d spot) (append_assoc (step_lines s) (flat_map step_lines ss) ls) ∙ step-pass spot s (flat_map step_lines ss ++ ls)
-      ∙ steps-pass spot ss ls
+  steps-pass : (position : Position) (ss : List Step) (ls : List Line) → first_refusal headers d position (flat_map step_lines ss ++ ls) ≡ first_refusal headers d position ls
+  steps-pass position [] ls = refl
+  steps-pass position (s ∷ ss) ls =
+      ap (first_refusal headers d position) (append_assoc (step_lines s) (flat_map step_lines ss) ls) ∙ step-pass position s (flat_map step_lines ss ++ ls)
+      ∙ steps-pass position ss ls
 
-  how-pass : (spot : Spot) (h : How) (ls : List Line) → first_refusal headers d spot (how_lines h ++ ls) ≡ first_refusal headers d spot ls
-  how-pass spot (Steps p) ls = steps-pass spot p.steps ls
+  how-pass : (position : Position) (h : How) (ls : List Line) → first_refusal headers d position (how_lines h ++ ls) ≡ first_refusal headers d position ls
+  how-pass position (Steps p) ls = steps-pass position p.steps ls
 
   -- ---- entries
 
-  entries-ascend : (i least : ℕ) (ps : List Proved) (ls : List Line) → first_refusal headers d (at-spot i least) (flat_map proved_lines ps ++ ls) ≡ None → Ascend least (candidate_count (slice_get headers i)) (proved_of ps) × ((m : ℕ) × (first_refusal headers d (at-spot i m) ls ≡ None))
-  unfolding at-spot
+  entries-ascend : (i least : ℕ) (ps : List Proved) (ls : List Line) → first_refusal headers d (at-position i least) (flat_map proved_lines ps ++ ls) ≡ None → Ascend least (candidate_count (slice_get headers i)) (proved_of ps) × ((m : ℕ) × (first_refusal headers d (at-position i m) ls ≡ None))
+  unfolding at-position
   entries-ascend i least [] ls h = (tt, (least, h))
   entries-ascend i least (p ∷ ps) ls h =
       let others = flat_map proved_lines ps ++ ls in
-      let parts = next-none _ _ (sym (ap (first_refusal headers d (at-spot i least)) (append_assoc (proved_lines p) (flat_map proved_lines ps) ls)) ∙ h) in
+      let parts = next-none _ _ (sym (ap (first_refusal headers d (at-position i least)) (append_assoc (proved_lines p) (flat_map proved_lines ps) ls)) ∙ h) in
       let tests = both-true (nat_le least p.candidate) (nat_lt p.candidate (candidate_count (slice_get headers i))) (unless-none _ (OtherPair i) parts.0) in
-      let more = entries-ascend i (p.candidate + 1) ps ls (sym (how-pass (at-spot i (p.candidate + 1)) p.how others) ∙ parts.1) in
+      let more = entries-ascend i (p.candidate + 1) ps ls (sym (how-pass (at-position i (p.candidate + 1)) p.how others) ∙ parts.1) in
       ((leb-true _ _ tests.0, ltb-true _ _ tests.1, more.0), more.1)
 
-  entries-pass : (i least : ℕ) (ps : List Proved) (ls : List Line) → Ascend least (candidate_count (slice_get headers i)) (proved_of ps) → ((m : ℕ) → first_refusal headers d (at-spot i m) ls ≡ None) → first_refusal headers d (at-spot i least) (flat_map proved_lines ps ++ ls) ≡ None
-  unfolding at-spot
+  entries-pass : (i least : ℕ) (ps : List Proved) (ls : List Line) → Ascend least (candidate_count (slice_get headers i)) (proved_of ps) → ((m : ℕ) → first_refusal headers d (at-position i m) ls ≡ None) → first_refusal headers d (at-position i least) (flat_map proved_lines ps ++ ls) ≡ None
+  unfolding at-position
   entries-pass i least [] ls a h = h least
   entries-pass i least (p ∷ ps) ls a h =
       let others = flat_map proved_lines ps ++ ls in
-      ap (first_refusal headers d (at-spot i least)) (append_assoc (proved_lines p) (flat_map proved_lines ps) ls)
-      ∙ none-next _ (OtherPair i) _ (both_true (le-leb _ _ a.0) (lt-ltb _ _ a.1)) (how-pass (at-spot i (p.candidate + 1)) p.how others ∙ entries-pass i (p.candidate + 1) ps ls a.2 h)
+      ap (first_refusal headers d (at-position i least)) (append_assoc (proved_lines p) (flat_map proved_lines ps) ls)
+      ∙ none-next _ (OtherPair i) _ (both_true (le-leb _ _ a.0) (lt-ltb _ _ a.1)) (how-pass (at-position i (p.candidate + 1)) p.how others ∙ entries-pass i (p.candidate + 1) ps ls a.2 h)
 
   -- ---- pairs
 
   below : (i : ℕ) (p : CertPair) (ps : List CertPair) → (flat_map proved_lines p.proved ++ pair_lines (i + 1) ps) ++ End ∷ [] ≡ flat_map proved_lines p.proved ++ (pair_lines (i + 1) ps ++ End ∷ [])
   below i p ps = append_assoc (flat_map proved_lines p.proved) (pair_lines (i + 1) ps) (End ∷ [])
 
-  pairs-fit : (spot : Spot) (i : ℕ) (ss : List PairHeader) (ps : List CertPair) → drop i headers ≡ ss → length ss ≡ length ps → first_refusal headers d spot (pair_lines i ps ++ End ∷ []) ≡ None → FitsPairs ss ps
-  unfolding at-spot
-  pairs-fit spot i [] [] e n h = tt
-  pairs-fit spot i [] (p ∷ ps) e n h = absurd (omega arith)
-  pairs-fit spot i (s ∷ ss) [] e n h = absurd (omega arith)
-  pairs-fit spot i (s ∷ ss) (p ∷ ps) e n h =
+  pairs-fit : (position : Position) (i : ℕ) (ss : List PairHeader) (ps : List CertPair) → drop i headers ≡ ss → length ss ≡ length ps → first_refusal headers d position (pair_lines i ps ++ End ∷ []) ≡ None → FitsPairs ss ps
+  unfolding at-position
+  pairs-fit position i [] [] e n h = tt
+  pairs-fit position i [] (p ∷ ps) e n h = absurd (omega arith)
+  pairs-fit position i (s ∷ ss) [] e n h = absurd (omega arith)
+  pairs-fit position i (s ∷ ss) (p ∷ ps) e n h =
       let found = found-at headers i s ss e in
       let parts = next-none _ _ h in
-      let left = entries-ascend i 0 p.proved (pair_lines (i + 1) ps ++ End ∷ []) (sym (ap (first_refusal headers d (at-spot i 0)) (below i p ps)) ∙ parts.1) in
+      let left = entries-ascend i 0 p.proved (pair_lines (i + 1) ps ++ End ∷ []) (sym (ap (first_refusal headers d (at-position i 0)) (below i p ps)) ∙ parts.1) in
       let test : has_state (Some s) p.state ≡ true = sym (ap (λ o. has_state o p.state) found.0) ∙ unless-none _ (OtherPair i) parts.0 in (
         record {
           state = state-is s.state p.state test;
           numbers = subst (λ (o : Option PairHeader). Ascend 0 (candidate_count o) (proved_of p.proved)) found.0 left.0;
         },
-        pairs-fit (at-spot i left.1.0) (i + 1) ss ps (ap (λ k. drop k headers) (add-one i) ∙ found.1) (omega arith) left.1.1,
+        pairs-fit (at-position i left.1.0) (i + 1) ss ps (ap (λ k. drop k headers) (add-one i) ∙ found.1) (omega arith) left.1.1,
       )
 
-  pairs-pass : (spot : Spot) (i : ℕ) (ss : List PairHeader) (ps : List CertPair) → drop i headers ≡ ss → FitsPairs ss ps → first_refusal headers d spot (pair_lines i ps ++ End ∷ []) ≡ None
-  unfolding at-spot
-  pairs-pass spot i [] [] e f = refl
-  pairs-pass spot i [] (p ∷ ps) e f = absurd f
-  pairs-pass spot i (s ∷ ss) [] e f = absurd f
-  pairs-pass spot i (s ∷ ss) (p ∷ ps) e f =
+  pairs-pass : (position : Position) (i : ℕ) (ss : List PairHeader) (ps : List CertPair) → drop i headers ≡ ss → FitsPairs ss ps → first_refusal headers d position (pair_lines i ps ++ End ∷ []) ≡ None
+  unfolding at-position
+  pairs-pass position i [] [] e f = refl
+  pairs-pass position i [] (p ∷ ps) e f = absurd f
+  pairs-pass position i (s ∷ ss) [] e f = absurd f
+  pairs-pass position i (s ∷ ss) (p ∷ ps) e f =
       let found = found-at headers i s ss e in
       let test : has_state (slice_get headers i) p.state ≡ true = ap (λ o. has_state o p.state) found.0 ∙ is-state s.state p.state f.0.state in
       let numbers = subst (λ (o : Option PairHeader). Ascend 0 (candidate_count o) (proved_of p.proved)) (sym found.0) f.0.numbers in
       none-next _ (OtherPair i) _ test
-      (ap (first_refusal headers d (at-spot i 0)) (below i p ps)
-      ∙ entries-pass i 0 p.proved (pair_lines (i + 1) ps ++ End ∷ []) numbers (λ m. pairs-pass (at-spot i m) (i + 1) ss ps (ap (λ k. drop k headers) (add-one i) ∙ found.1) f.1))
+      (ap (first_refusal headers d (at-position i 0)) (below i p ps)
+      ∙ entries-pass i 0 p.proved (pair_lines (i + 1) ps ++ End ∷ []) numbers (λ m. pairs-pass (at-position i m) (i + 1) ss ps (ap (λ k. drop k headers) (add-one i) ∙ found.1) f.1))
 
   -- ---- certificates
 
-  pub certificate-fits : (c : Certificate) → first_refusal headers d first_spot (certificate_lines c) ≡ None → (c.digests ≡ d) × FitsPairs headers c.pairs
+  pub certificate-fits : (c : Certificate) → first_refusal headers d first_position (certificate_lines c) ≡ None → (c.digests ≡ d) × FitsPairs headers c.pairs
   certificate-fits c h =
       let old = next-none _ _ h in
       let new = next-none _ _ old.1 in
@@ -159,13 +159,13 @@ module _ (headers : List PairHeader) (d : Digests) where
       let same_settings : c.digests.settings ≡ d.settings = bytes-are _ _ (unless-none _ OtherSettings settings.0) in
       let same_count : length c.pairs ≡ length headers = eqb-true _ _ (unless-none _ (OtherPair (min (length c.pairs) (length headers))) count.0) in (
         λ i. record { old = same_old i; new = same_new i; settings = same_settings i },
-        pairs-fit first_spot 0 headers c.pairs refl (sym same_count) count.1,
+        pairs-fit first_position 0 headers c.pairs refl (sym same_count) count.1,
       )
 
-  pub certificate-passes : (c : Certificate) → c.digests ≡ d → FitsPairs headers c.pairs → first_refusal headers d first_spot (certificate_lines c) ≡ None
+  pub certificate-passes : (c : Certificate) → c.digests ≡ d → FitsPairs headers c.pairs → first_refusal headers d first_position (certificate_lines c) ≡ None
   certificate-passes c e f =
       none-next _ OtherOld _ (are-bytes _ _ (ap (λ (x : Digests). x.old) e))
       (none-next _ OtherNew _ (are-bytes _ _ (ap (λ (x : Digests). x.new) e))
       (none-next _ OtherSettings _ (are-bytes _ _ (ap (λ (x : Digests). x.settings) e))
       (none-next _ (OtherPair (min (length c.pairs) (length headers))) _ (eq-eqb _ _ (sym (fits-length headers c.pairs f)))
-      (pairs-pass first_spot 0 headers c.pairs refl f))))
+      (pairs-pass first_position 0 headers c.pairs refl f))))

@@ -21,13 +21,13 @@ use Rattle.sd_cert.specs.declared.fault.CertError.{CertError}
 use Rattle.sd_cert.specs.declared.fault.CertError.TheVariants.{NoMemory, Version as OtherVersion, Line as BadLine, OtherOld, OtherNew, OtherSettings, Pair as OtherPair, Step as BadStep}
 use Rattle.sd_cert.specs.declared.line.Line.{Line}
 use Rattle.sd_cert.specs.declared.line.Line.TheVariants.{Version, Old, New, Settings, Pairs, Pair, Candidate, Step as StepLine, Rows, Row, End}
-use Rattle.sd_cert.specs.declared.refusal.Spot.{Spot}
+use Rattle.sd_cert.specs.declared.refusal.Position.{Position}
 use Rattle.sd_cert.specs.Lines.{line_text, IsLine}
 use Rattle.sd_cert.specs.Text.{lines_text, BeginsWithoutLine, HasLines}
 use Rattle.sd_cert.specs.Phases.{Phase, at_version, complete, after_lines}
 use Rattle.sd_cert.specs.Certificates.{certificate_lines, certificate_text, IsCertificate}
 use Rattle.sd_cert.specs.Faults.{IsFault}
-use Rattle.sd_cert.specs.Refusals.{unless, or_next, refusal, spot_after, first_spot, first_refusal, refusal_or, first_fault}
+use Rattle.sd_cert.specs.Refusals.{fault_unless, or_next, refusal, position_after, first_position, first_refusal, refusal_or, first_fault}
 use Rattle.sd_cert.specs.BadSteps.{verdict_fault, how_fault, entry_fault, entries_fault, pairs_fault}
 use Rattle.sd_cert.specs.Headers.{headers_of}
 use Rattle.sd_cert.specs.Tables.{table_of}
@@ -89,39 +89,39 @@ IsOfWork OtherSettings = Unit {0}
 IsOfWork (OtherPair i) = Unit {0}
 IsOfWork _ = ⊥
 
-unless-work : (b : Bool) (o e : CertError) → IsOfWork o → unless b o ≡ Some e → IsOfWork e
+unless-work : (b : Bool) (o e : CertError) → IsOfWork o → fault_unless b o ≡ Some e → IsOfWork e
 unless-work true o e f h = absurd (cc)
 unless-work false o e f h = subst IsOfWork (same_Some o e h) f
 
-refusal-work : (headers : List PairHeader) (d : Digests) (spot : Spot) (l : Line) (e : CertError) → refusal headers d spot l ≡ Some e → IsOfWork e
+refusal-work : (headers : List PairHeader) (d : Digests) (position : Position) (l : Line) (e : CertError) → refusal headers d position l ≡ Some e → IsOfWork e
 unfolding IsOfWork
-refusal-work headers d spot (Version n) e h = absurd (cc)
-refusal-work headers d spot (Old o) e h = unless-work _ OtherOld e tt h
-refusal-work headers d spot (New o) e h = unless-work _ OtherNew e tt h
-refusal-work headers d spot (Settings o) e h = unless-work _ OtherSettings e tt h
-refusal-work headers d spot (Pairs n) e h = unless-work _ (OtherPair _) e tt h
-refusal-work headers d spot (Pair i s) e h = unless-work _ (OtherPair i) e tt h
-refusal-work headers d spot (Candidate k) e h = unless-work _ (OtherPair _) e tt h
-refusal-work headers d spot (StepLine s) e h = absurd (cc)
-refusal-work headers d spot (Rows n) e h = absurd (cc)
-refusal-work headers d spot (Row r) e h = absurd (cc)
-refusal-work headers d spot End e h = absurd (cc)
+refusal-work headers d position (Version n) e h = absurd (cc)
+refusal-work headers d position (Old o) e h = unless-work _ OtherOld e tt h
+refusal-work headers d position (New o) e h = unless-work _ OtherNew e tt h
+refusal-work headers d position (Settings o) e h = unless-work _ OtherSettings e tt h
+refusal-work headers d position (Pairs n) e h = unless-work _ (OtherPair _) e tt h
+refusal-work headers d position (Pair i s) e h = unless-work _ (OtherPair i) e tt h
+refusal-work headers d position (Candidate k) e h = unless-work _ (OtherPair _) e tt h
+refusal-work headers d position (StepLine s) e h = absurd (cc)
+refusal-work headers d position (Rows n) e h = absurd (cc)
+refusal-work headers d position (Row r) e h = absurd (cc)
+refusal-work headers d position End e h = absurd (cc)
 
 -- the lines up to the first that is refused
-record Split (headers : List PairHeader) (d : Digests) (spot : Spot) (lines : List Line) (e : CertError) : Type 0 where
+record Split (headers : List PairHeader) (d : Digests) (position : Position) (lines : List Line) (e : CertError) : Type 0 where
   front : List Line
   line : Line
   after : List Line
   whole : lines ≡ front ++ line ∷ after
-  passed : first_refusal headers d spot front ≡ None
-  refused : first_refusal headers d spot (front ++ line ∷ []) ≡ Some e
+  passed : first_refusal headers d position front ≡ None
+  refused : first_refusal headers d position (front ++ line ∷ []) ≡ Some e
   work : IsOfWork e
 
-split-refused : (headers : List PairHeader) (d : Digests) (spot : Spot) (ls : List Line) (e : CertError) → first_refusal headers d spot ls ≡ Some e → Split headers d spot ls e
-split-refused headers d spot [] e h = absurd (cc)
-split-refused headers d spot (l ∷ ls) e h = go (refusal headers d spot l) refl (split-refused headers d (spot_after spot l) ls e) h
+split-refused : (headers : List PairHeader) (d : Digests) (position : Position) (ls : List Line) (e : CertError) → first_refusal headers d position ls ≡ Some e → Split headers d position ls e
+split-refused headers d position [] e h = absurd (cc)
+split-refused headers d position (l ∷ ls) e h = go (refusal headers d position l) refl (split-refused headers d (position_after position l) ls e) h
   where
-    go : (o : Option CertError) → refusal headers d spot l ≡ o → (first_refusal headers d (spot_after spot l) ls ≡ Some e → Split headers d (spot_after spot l) ls e) → or_next o (first_refusal headers d (spot_after spot l) ls) ≡ Some e → Split headers d spot (l ∷ ls) e
+    go : (o : Option CertError) → refusal headers d position l ≡ o → (first_refusal headers d (position_after position l) ls ≡ Some e → Split headers d (position_after position l) ls e) → or_next o (first_refusal headers d (position_after position l) ls) ≡ Some e → Split headers d position (l ∷ ls) e
     go None is others k =
         let more = others k in
         record {
@@ -129,8 +129,8 @@ split-refused headers d spot (l ∷ ls) e h = go (refusal headers d spot l) refl
           line = more.line;
           after = more.after;
           whole = ap (λ t. l ∷ t) more.whole;
-          passed = ap (λ o. or_next o (first_refusal headers d (spot_after spot l) more.front)) is ∙ more.passed;
-          refused = ap (λ o. or_next o (first_refusal headers d (spot_after spot l) (more.front ++ more.line ∷ []))) is ∙ more.refused;
+          passed = ap (λ o. or_next o (first_refusal headers d (position_after position l) more.front)) is ∙ more.passed;
+          refused = ap (λ o. or_next o (first_refusal headers d (position_after position l) (more.front ++ more.line ∷ []))) is ∙ more.refused;
           work = more.work;
         }
     go (Some x) is others k = record {
@@ -140,7 +140,7 @@ split-refused headers d spot (l ∷ ls) e h = go (refusal headers d spot l) refl
       whole = refl;
       passed = refl;
       refused = ap (λ o. or_next o None) is ∙ k;
-      work = refusal-work headers d spot l e (is ∙ k);
+      work = refusal-work headers d position l e (is ∙ k);
     }
 
 front-stands : (p q : Phase) (xs ys : List Line) → after_lines p (xs ++ ys) ≡ Some q → (r : Phase) × (after_lines p xs ≡ Some r)
@@ -159,9 +159,9 @@ work-fault h d text (OtherPair i) f r = r
 work-fault h d text _ f r = absurd f
 
 module _ (h : Held) (d : Digests) (text : List ℕ) where
-  refused-fault : (lines : List Line) (rest : List ℕ) (phase : Phase) (e : CertError) → AllByRecursion IsLine lines → text ≡ lines_text lines ++ rest → after_lines at_version lines ≡ Some phase → first_refusal (headers_of h) d first_spot lines ≡ Some e → IsReplayFault h d text e
+  refused-fault : (lines : List Line) (rest : List ℕ) (phase : Phase) (e : CertError) → AllByRecursion IsLine lines → text ≡ lines_text lines ++ rest → after_lines at_version lines ≡ Some phase → first_refusal (headers_of h) d first_position lines ≡ Some e → IsReplayFault h d text e
   refused-fault lines rest phase e fit whole stand f =
-      let s = split-refused (headers_of h) d first_spot lines e f in
+      let s = split-refused (headers_of h) d first_position lines e f in
       let upto = s.front ++ s.line ∷ [] in
       let parts : lines ≡ upto ++ s.after = s.whole ∙ sym (append_assoc s.front (s.line ∷ []) s.after) in
       let stands = front-stands at_version phase upto s.after (ap (after_lines at_version) (sym parts) ∙ stand) in
@@ -211,14 +211,14 @@ module _ (h : Held) (d : Digests) (text : List ℕ) (lines : List Line) (rest : 
       let count : length ls ≡ n - 1 = omega arith in
       prefix-of ls lines others rest f has.fit has.stop (sym w ∙ has.whole) ∙ ap (λ k. take k lines) count
 
-  line-fault : (n : ℕ) → IsFault text (BadLine n) → (o : Option CertError) → first_refusal (headers_of h) d first_spot (take (n - 1) lines) ≡ o → IsReplayFault h d text (refusal_or o (BadLine n))
-  line-fault n fault None is = (fault, λ ls others f w e. ap (first_refusal (headers_of h) d first_spot) (before-is n ls others f w e) ∙ is)
+  line-fault : (n : ℕ) → IsFault text (BadLine n) → (o : Option CertError) → first_refusal (headers_of h) d first_position (take (n - 1) lines) ≡ o → IsReplayFault h d text (refusal_or o (BadLine n))
+  line-fault n fault None is = (fault, λ ls others f w e. ap (first_refusal (headers_of h) d first_position) (before-is n ls others f w e) ∙ is)
   line-fault n fault (Some e) is =
       let at = fault.0 in
-      refused-fault h d text at.lines at.rest at.phase e at.fit at.whole at.before (ap (first_refusal (headers_of h) d first_spot) (before-is n at.lines at.rest at.fit at.whole at.number) ∙ is)
+      refused-fault h d text at.lines at.rest at.phase e at.fit at.whole at.before (ap (first_refusal (headers_of h) d first_position) (before-is n at.lines at.rest at.fit at.whole at.number) ∙ is)
 
   pub reading-fault : (fault : CertError) → IsFault text fault → IsReplayFault h d text (first_fault (headers_of h) d lines fault)
   reading-fault NoMemory f = tt
   reading-fault (OtherVersion v) f = f
-  reading-fault (BadLine n) f = line-fault n f (first_refusal (headers_of h) d first_spot (take (n - 1) lines)) refl
+  reading-fault (BadLine n) f = line-fault n f (first_refusal (headers_of h) d first_position (take (n - 1) lines)) refl
   reading-fault _ f = absurd f

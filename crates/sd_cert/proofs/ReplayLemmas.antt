@@ -10,7 +10,7 @@ use Rattle.sd_cert.specs.declared.fault.CertError.TheVariants.{NoMemory}
 use Rattle.sd_cert.specs.declared.line.Line.{Line}
 use Rattle.sd_cert.specs.Certificates.{certificate_lines, certificate_text, IsCertificate}
 use Rattle.sd_cert.specs.Accepts.{FitsPairs, Accepts}
-use Rattle.sd_cert.specs.Refusals.{first_spot, first_refusal}
+use Rattle.sd_cert.specs.Refusals.{first_position, first_refusal}
 use Rattle.sd_cert.specs.BadSteps.{step_fault}
 use Rattle.sd_cert.specs.ReplayFaults.{IsCertificateFault}
 use Rattle.sd_cert.specs.Headers.{headers_of}
@@ -30,7 +30,7 @@ module _ (h : Held) (d : Digests) (text : List ℕ) where
       go : IsCertificateFault h d c e → ⊥
       go (inl m) = other m
       go (inr (inl r)) =
-          absurd (let k = certificate-passes (headers_of h) d a.certificate a.same_digests a.fits in let j = ap (λ (x : Certificate). first_refusal (headers_of h) d first_spot (certificate_lines x)) same in cc)
+          absurd (let k = certificate-passes (headers_of h) d a.certificate a.same_digests a.fits in let j = ap (λ (x : Certificate). first_refusal (headers_of h) d first_position (certificate_lines x)) same in cc)
       go (inr (inr r)) =
           absurd (let k = accepted-passes h d text t a in let j = ap (λ (x : Certificate). step_fault h x.pairs) same in let i = r.2 in cc)
 
@@ -44,6 +44,6 @@ pub accept-fault : (h : Held) (d : Digests) (c : Certificate) (e : CertError) �
 accept-fault h d c e same fits (inl m) = inl m
 accept-fault h d c e same fits (inr s) = inr (inr (same, fits, s))
 
-pub passes-fits : (h : Held) (d : Digests) (c : Certificate) (headers : List PairHeader) (lines : List Line) → headers ≡ headers_of h → lines ≡ certificate_lines c → None ≡ first_refusal headers d first_spot lines → (c.digests ≡ d) × FitsPairs (headers_of h) c.pairs
+pub passes-fits : (h : Held) (d : Digests) (c : Certificate) (headers : List PairHeader) (lines : List Line) → headers ≡ headers_of h → lines ≡ certificate_lines c → None ≡ first_refusal headers d first_position lines → (c.digests ≡ d) × FitsPairs (headers_of h) c.pairs
 passes-fits h d c headers lines own are none =
-    certificate-fits (headers_of h) d c (ap (first_refusal (headers_of h) d first_spot) (sym are) ∙ ap (λ (hs : List PairHeader). first_refusal hs d first_spot lines) (sym own) ∙ sym none)
+    certificate-fits (headers_of h) d c (ap (first_refusal (headers_of h) d first_position) (sym are) ∙ ap (λ (hs : List PairHeader). first_refusal hs d first_position lines) (sym own) ∙ sym none)

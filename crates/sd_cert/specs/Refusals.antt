@@ -11,11 +11,11 @@ use Rattle.sd_cert.specs.declared.line.CertState.{CertState}
 use Rattle.sd_cert.specs.declared.line.CertState.TheVariants.{Open, Refused}
 use Rattle.sd_cert.specs.declared.line.Line.{Line}
 use Rattle.sd_cert.specs.declared.line.Line.TheVariants.{Old, New, Settings, Pairs, Pair, Candidate}
-use Rattle.sd_cert.specs.declared.refusal.Spot.{Spot}
+use Rattle.sd_cert.specs.declared.refusal.Position.{Position}
 
-abbrev pub unless : Bool → CertError → Option CertError
-unless true e = None
-unless false e = Some e
+abbrev pub fault_unless : Bool → CertError → Option CertError
+fault_unless true e = None
+fault_unless false e = Some e
 
 abbrev pub or_next : Option CertError → Option CertError → Option CertError
 or_next None next = next
@@ -38,30 +38,31 @@ candidate_count None = 0
 candidate_count (Some s) = s.candidates
 
 -- where the next line stands
-abbrev pub spot_after : Spot → Line → Spot
-spot_after spot (Pair i state) = record { pair = i; least = 0 }
-spot_after spot (Candidate k) = record { pair = spot.pair; least = k + 1 }
-spot_after spot _ = spot
+abbrev pub position_after : Position → Line → Position
+position_after position (Pair i state) = record { pair = i; least = 0 }
+position_after position (Candidate k) = record { pair = position.pair; least = k + 1 }
+position_after position _ = position
 
 -- why a line that stands there is refused
-abbrev pub refusal : List PairHeader → Digests → Spot → Line → Option CertError
-refusal headers digests spot (Old old) = unless (same_bytes old digests.old) OtherOld
-refusal headers digests spot (New new) = unless (same_bytes new digests.new) OtherNew
-refusal headers digests spot (Settings settings) = unless (same_bytes settings digests.settings) OtherSettings
-refusal headers digests spot (Pairs n) = unless (n == length headers) (OtherPair (min n (length headers)))
-refusal headers digests spot (Pair i state) = unless (has_state (slice_get headers i) state) (OtherPair i)
-refusal headers digests spot (Candidate k) =
-    unless (nat_le spot.least k && nat_lt k (candidate_count (slice_get headers spot.pair))) (OtherPair spot.pair)
-refusal headers digests spot _ = None
+abbrev pub refusal : List PairHeader → Digests → Position → Line → Option CertError
+refusal headers digests position (Old old) = fault_unless (same_bytes old digests.old) OtherOld
+refusal headers digests position (New new) = fault_unless (same_bytes new digests.new) OtherNew
+refusal headers digests position (Settings settings) = fault_unless (same_bytes settings digests.settings) OtherSettings
+refusal headers digests position (Pairs n) = fault_unless (n == length headers) (OtherPair (min n (length headers)))
+refusal headers digests position (Pair i state) = fault_unless (has_state (slice_get headers i) state) (OtherPair i)
+refusal headers digests position (Candidate k) =
+    fault_unless (nat_le position.least k && nat_lt k (candidate_count (slice_get headers position.pair)))
+    (OtherPair position.pair)
+refusal headers digests position _ = None
 
-abbrev pub first_spot : Spot
-first_spot = record { pair = 0; least = 0 }
+abbrev pub first_position : Position
+first_position = record { pair = 0; least = 0 }
 
 -- why the first line that is refused is refused
-abbrev pub first_refusal : List PairHeader → Digests → Spot → List Line → Option CertError
-first_refusal headers digests spot [] = None
-first_refusal headers digests spot (l ∷ ls) =
-    or_next (refusal headers digests spot l) (first_refusal headers digests (spot_after spot l) ls)
+abbrev pub first_refusal : List PairHeader → Digests → Position → List Line → Option CertError
+first_refusal headers digests position [] = None
+first_refusal headers digests position (l ∷ ls) =
+    or_next (refusal headers digests position l) (first_refusal headers digests (position_after position l) ls)
 
 abbrev pub refusal_or : Option CertError → CertError → CertError
 refusal_or None e = e
@@ -70,5 +71,5 @@ refusal_or (Some first) e = first
 -- why a line before the bad one is refused, or else why the bad one is bad
 abbrev pub first_fault : List PairHeader → Digests → List Line → CertError → CertError
 first_fault headers digests lines (BadLine n) =
-    refusal_or (first_refusal headers digests first_spot (take (n - 1) lines)) (BadLine n)
+    refusal_or (first_refusal headers digests first_position (take (n - 1) lines)) (BadLine n)
 first_fault headers digests lines e = e

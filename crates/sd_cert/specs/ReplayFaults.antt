@@ -14,7 +14,7 @@ use Rattle.sd_cert.specs.Certificates.{certificate_lines, certificate_text, IsCe
 use Rattle.sd_cert.specs.Phases.{Phase, at_version, after_lines}
 use Rattle.sd_cert.specs.Faults.{IsFault}
 use Rattle.sd_cert.specs.Accepts.{FitsPairs}
-use Rattle.sd_cert.specs.Refusals.{first_spot, first_refusal}
+use Rattle.sd_cert.specs.Refusals.{first_position, first_refusal}
 use Rattle.sd_cert.specs.BadSteps.{step_fault}
 use Rattle.sd_cert.specs.Headers.{headers_of}
 
@@ -27,14 +27,14 @@ pub record IsRefused (headers : List PairHeader) (digests : Digests) (text : Lis
   pub fit : AllByRecursion IsLine (front ++ line ∷ [])
   pub whole : text ≡ lines_text (front ++ line ∷ []) ++ rest
   pub stand : after_lines at_version (front ++ line ∷ []) ≡ Some phase
-  pub passed : first_refusal headers digests first_spot front ≡ None
-  pub refused : first_refusal headers digests first_spot (front ++ line ∷ []) ≡ Some e
+  pub passed : first_refusal headers digests first_position front ≡ None
+  pub refused : first_refusal headers digests first_position (front ++ line ∷ []) ≡ Some e
 
 -- none of the lines before the one with this number is refused
 abbrev pub PassBefore : List PairHeader → Digests → List ℕ → ℕ → Type 0
 PassBefore headers digests text n =
     (lines : List Line) (rest : List ℕ) → AllByRecursion IsLine lines → text ≡ lines_text lines ++ rest →
-    n ≡ length lines + 1 → first_refusal headers digests first_spot lines ≡ None
+    n ≡ length lines + 1 → first_refusal headers digests first_position lines ≡ None
 
 -- The text is that of a certificate that fits the digests and the pairs, and the error names its first bad step.
 pub record HasBadStep (h : Held) (digests : Digests) (text : List ℕ) (e : CertError) : Type 0 where
@@ -57,5 +57,5 @@ IsReplayFault h digests text e = IsRefused (headers_of h) digests text e
 abbrev pub IsCertificateFault : Held → Digests → Certificate → CertError → Type 0
 IsCertificateFault h digests c e =
     (e ≡ NoMemory)
-    ⊎ ((first_refusal (headers_of h) digests first_spot (certificate_lines c) ≡ Some e)
+    ⊎ ((first_refusal (headers_of h) digests first_position (certificate_lines c) ≡ Some e)
     ⊎ ((c.digests ≡ digests) × FitsPairs (headers_of h) c.pairs × (step_fault h c.pairs ≡ Some e)))

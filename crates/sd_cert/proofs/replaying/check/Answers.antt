@@ -6,7 +6,7 @@ use Rattle.sd_cert.specs.declared.header.PairHeader.{PairHeader}
 use Rattle.sd_cert.specs.declared.fault.CertError.TheVariants.{NoMemory}
 use Rattle.sd_cert.specs.BadSteps.{step_fault}
 use Rattle.sd_cert.specs.Certificates.{certificate_lines}
-use Rattle.sd_cert.specs.Refusals.{first_spot, first_refusal}
+use Rattle.sd_cert.specs.Refusals.{first_position, first_refusal}
 use Rattle.sd_cert.specs.ReplayFaults.{IsCertificateFault}
 use Rattle.sd_cert.proofs.ReplayLemmas.{any-ok, accept-fault, passes-fits}
 use Rattle.sd_cert.proofs.replaying.check.Goals as goal
@@ -15,8 +15,8 @@ pub returns-in-Some-clause-fault : goal.returns-in-Some-clause-fault
 returns-in-Some-clause-fault c =
     inr
     (inl
-    (ap (λ (ss : List PairHeader). first_refusal ss c.args.digests.now first_spot (certificate_lines c.args.certificate.now)) (sym c.requires.headers)
-    ∙ ap (first_refusal c.args.headers.now c.args.digests.now first_spot) (sym c.requires.lines) ∙ sym c.in-Some.ensures))
+    (ap (λ (ss : List PairHeader). first_refusal ss c.args.digests.now first_position (certificate_lines c.args.certificate.now)) (sym c.requires.headers)
+    ∙ ap (first_refusal c.args.headers.now c.args.digests.now first_position) (sym c.requires.lines) ∙ sym c.in-Some.ensures))
 
 pub accept-requires : goal.accept-requires
 accept-requires c = (passes-fits c.args.work.now c.args.digests.now c.args.certificate.now c.args.headers.now c.args.lines.now c.requires.headers c.requires.lines c.in-None.ensures).1
