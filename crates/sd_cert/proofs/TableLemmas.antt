@@ -14,7 +14,7 @@ use Rattle.sd_cert.specs.BadSteps.{pairs_fault, step_fault}
 use Rattle.sd_cert.specs.Headers.{headers_of, count_of}
 use Rattle.sd_cert.specs.Tables.{is_listed, table_from, table_of}
 use Rattle.sd_cert.proofs.HeaderLemmas.{count-in, count-queries}
-use Rattle.sd_cert.proofs.JudgeLemmas.{pairs-proved, proved-pairs}
+use Rattle.sd_cert.proofs.JudgeLemmas.{pairs-exact}
 
 -- ---- numbers of a table
 
@@ -46,18 +46,20 @@ listed-table headers claims table size live =
 
 -- ---- the table under which entries are judged
 
--- what is accepted has no bad step
-pub accepted-passes : (h : Held) (d : Digests) (text : List ℕ) (table : List Bool) (a : Accepts h d text table) → step_fault h a.certificate.pairs ≡ None
-accepted-passes h d text table a =
-    let pairs = a.certificate.pairs in
-    let own : table ≡ table_of (headers_of h) pairs = listed-table (headers_of h) pairs table (a.size ∙ sym (count-in h)) a.inductive.numbers in
-    ap (λ (t : List Bool). pairs_fault (queries_under h t) 0 6 (headers_of h) pairs) (sym own)
-    ∙ proved-pairs (queries_under h table) 0 6 (headers_of h) pairs (count-queries h table) a.fits a.inductive.proved
+module _ (h : Held) (d : Digests) (text : List ℕ) (table : List Bool) (a : Accepts h d text table) where
+  pub accepted-table : table ≡ table_of (headers_of h) a.certificate.pairs
+  accepted-table = listed-table (headers_of h) a.certificate.pairs table (a.size ∙ sym (count-in h)) a.inductive.numbers
+
+  -- what is accepted has no bad step
+  pub accepted-passes : step_fault h a.certificate.pairs ≡ None
+  accepted-passes =
+      ap (λ (t : List Bool). pairs_fault (queries_under h t) 0 6 (headers_of h) a.certificate.pairs) (sym accepted-table)
+      ∙ (pairs-exact (queries_under h table) 0 6 (headers_of h) a.certificate.pairs (count-queries h table) a.fits).1 a.inductive.proved
 
 module _ (h : Held) (claims : List CertPair) (table : List Bool) (size : length table ≡ length (claims_in h)) (live : proved_of (proofs_from 0 (headers_of h) claims) ≡ live_from 0 table) where
   -- entries without a bad step are proofs
   pub passes-inductive : FitsPairs (headers_of h) claims → pairs_fault (queries_under h table) 0 6 (headers_of h) claims ≡ None → IsInductive (queries_under h table) table (proofs_from 0 (headers_of h) claims)
-  passes-inductive fits none = record { numbers = live; proved = pairs-proved (queries_under h table) 0 6 (headers_of h) claims (count-queries h table) fits none }
+  passes-inductive fits none = record { numbers = live; proved = (pairs-exact (queries_under h table) 0 6 (headers_of h) claims (count-queries h table) fits).0 none }
 
   -- the first bad step under this table is that of the certificate
   pub own-fault : (e : CertError) → (e ≡ NoMemory) ⊎ (pairs_fault (queries_under h table) 0 6 (headers_of h) claims ≡ Some e) → (e ≡ NoMemory) ⊎ (step_fault h claims ≡ Some e)
