@@ -23,7 +23,7 @@ use Rattle.sd_cert.specs.Text.{lines_text, HasLines}
 use Rattle.sd_cert.specs.Certificates.{step_lines, how_lines, proved_lines, pair_lines, certificate_lines, certificate_text, IsCertificate}
 use Rattle.sd_cert.specs.Phases.{at_version, in_pairs, complete, after_lines}
 use Rattle.sd_cert.specs.Faults.{StopsAt, IsFault}
-use Rattle.sd_cert.proofs.FaultLemmas.{after_lines-append}
+use Rattle.sd_cert.proofs.FaultLemmas.{after_lines-append, front-of}
 use Rattle.sd_cert.proofs.TextLemmas.{no_feed, first_line-unique}
 use Rattle.sd_cert.proofs.OneLine.{line_text-injective}
 use Rattle.sd_cert.proofs.OneCertificate.{one_certificate}
@@ -70,26 +70,16 @@ pub certificate-end : (c : Certificate) → after_lines at_version (certificate_
 unfolding Ends
 certificate-end c = pairs-end (length c.pairs) 0 c.pairs (omega arith) false
 
--- lines in front of other lines are a front of them
-pub front-of : (ls ms : List Line) (rest : List ℕ) → AllByRecursion IsLine ls → AllByRecursion IsLine ms → lines_text ls ++ rest ≡ lines_text ms → (more : List Line) × (ms ≡ ls ++ more) × (rest ≡ lines_text more) × AllByRecursion IsLine more
-front-of [] ms rest f g e = (ms, refl, e, g)
-front-of (l ∷ ls) [] rest f g e = absurd (omega (arith, ap length e, length-append (line_text l ++ 10 ∷ lines_text ls) rest, length-append (line_text l) (10 ∷ lines_text ls)))
-front-of (l ∷ ls) (m ∷ ms) rest f g e =
-    let parts = first_line-unique (line_text l) (lines_text ls ++ rest) (line_text m) (lines_text ms) (no_feed l f.0) (no_feed m g.0) (sym (append_assoc (line_text l) (10 ∷ lines_text ls) rest) ∙ e)
-    in let same : l ≡ m = line_text-injective l m f.0 g.0 parts.0
-    in let others = front-of ls ms rest f.1 g.1 parts.1
-    in (others.0, (let r = others.1 in cc), others.2, others.3)
-
 -- the text of a certificate stops nowhere
 no_stop : (c : Certificate) → IsCertificate c → (n : ℕ) → StopsAt (certificate_text c) n → ⊥
 no_stop c f n at =
-    let parts = front-of at.lines (certificate_lines c) at.rest at.fit f (sym at.whole)
+    let parts = front-of at.lines (certificate_lines c) at.rest [] at.fit f (λ l more g e. absurd (omega (arith, ap length e, length-append (line_text l) (10 ∷ more)))) (sym at.whole ∙ sym (append-nil (certificate_text c)))
     in let left : after_lines at.phase parts.0 ≡ Some complete = sym (after_lines-append at_version at.lines parts.0 ∙ ap (option_and_then (λ q. after_lines q parts.0)) at.before) ∙ ap (after_lines at_version) (sym parts.1) ∙ certificate-end c
     in go parts.0 parts.2 parts.3 left
   where
-    go : (more : List Line) → at.rest ≡ lines_text more → AllByRecursion IsLine more → after_lines at.phase more ≡ Some complete → ⊥
+    go : (more : List Line) → at.rest ≡ lines_text more ++ [] → AllByRecursion IsLine more → after_lines at.phase more ≡ Some complete → ⊥
     go [] e f k = at.unfinished (same_Some at.phase complete k) e
-    go (l ∷ ls) e f k = absurd (let s = at.stuck l (lines_text ls) f.0 e in let j = ap (option_and_then (λ q. after_lines q ls)) s in cc)
+    go (l ∷ ls) e f k = absurd (let s = at.stuck l (lines_text ls ++ []) f.0 (e ∙ append_assoc (line_text l) (10 ∷ lines_text ls) []) in let j = ap (option_and_then (λ q. after_lines q ls)) s in cc)
 
 pub no_fault : (text : List ℕ) (c : Certificate) (e : CertError) → IsCertificate c → text ≡ certificate_text c → IsFault text e → e ≡ NoMemory
 no_fault text c NoMemory f t h = refl

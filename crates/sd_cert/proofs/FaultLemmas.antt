@@ -15,7 +15,7 @@ use Rattle.sd_cert.specs.declared.fault.CertError.TheVariants.{NoMemory, Version
 use Rattle.sd_cert.specs.declared.line.Line.{Line}
 use Rattle.sd_cert.specs.declared.line.Line.TheVariants.{Version}
 use Rattle.sd_cert.specs.Lines.{line_text, IsLine}
-use Rattle.sd_cert.specs.Text.{lines_text, HasLines}
+use Rattle.sd_cert.specs.Text.{lines_text, BeginsWithoutLine, HasLines}
 use Rattle.sd_cert.specs.Phases.{Phase, at_version, at_old, complete, after_line, after_lines}
 use Rattle.sd_cert.specs.Prefixes.{prefix_lines, phase_of, IsExtension}
 use Rattle.sd_cert.specs.Faults.{StopsAt, HasVersion, IsFault, IsStuckAt, IsLineFault, IsPlaceFault}
@@ -89,12 +89,22 @@ pub not_complete : (reading : Prefix) → ((c : Certificate) → reading ≡ pre
 not_complete (prefix.Complete c) n e = n c refl
 not_complete _ n e = absurd (cc)
 
+-- lines in front of a text are a front of its lines
+pub front-of : (ls ms : List Line) (rest others : List ℕ) → AllByRecursion IsLine ls → AllByRecursion IsLine ms → BeginsWithoutLine others → lines_text ls ++ rest ≡ lines_text ms ++ others → (more : List Line) × (ms ≡ ls ++ more) × (rest ≡ lines_text more ++ others) × AllByRecursion IsLine more
+front-of [] ms rest others f g stop e = (ms, refl, e, g)
+front-of (l ∷ ls) [] rest others f g stop e = absurd (stop l (lines_text ls ++ rest) f.0 (sym e ∙ append_assoc (line_text l) (10 ∷ lines_text ls) rest))
+front-of (l ∷ ls) (m ∷ ms) rest others f g stop e =
+    let parts = first_line-unique (line_text l) (lines_text ls ++ rest) (line_text m) (lines_text ms ++ others) (no_feed l f.0) (no_feed m g.0)
+    (sym (append_assoc (line_text l) (10 ∷ lines_text ls) rest) ∙ e ∙ append_assoc (line_text m) (10 ∷ lines_text ms) others) in
+    let same : l ≡ m = line_text-injective l m f.0 g.0 parts.0 in
+    let more = front-of ls ms rest others f.1 g.1 stop parts.1 in
+    (more.0, (let r = more.1 in cc), more.2, more.3)
+
 version_is_first : (text : List ℕ) (lines : List Line) (rest : List ℕ) → HasLines text lines rest → (v : ℕ) → HasVersion text v → (after : List Line) × (lines ≡ Version v ∷ after)
-version_is_first text [] rest has v version = absurd (has.stop (Version v) version.more version.fits (sym has.whole ∙ version.line))
-version_is_first text (l ∷ ls) rest has v version =
-    let parts = first_line-unique (line_text l) (lines_text ls ++ rest) (line_text (Version v)) version.more (no_feed l has.fit.0) (no_feed (Version v) version.fits)
-    (sym (append_assoc (line_text l) (10 ∷ lines_text ls) rest) ∙ sym has.whole ∙ version.line)
-    in (ls, ap (λ m. m ∷ ls) (line_text-injective l (Version v) has.fit.0 version.fits parts.0))
+version_is_first text lines rest has v version =
+    let parts = front-of (Version v ∷ []) lines version.more rest (version.fits, tt) has.fit has.stop
+    (append_assoc (line_text (Version v)) (10 ∷ []) version.more ∙ sym version.line ∙ has.whole) in
+    (parts.0, parts.1)
 
 pub end_fault : (text : List ℕ) (lines : List Line) (rest : List ℕ) (reading : Prefix) → HasLines text lines rest → after_lines at_version lines ≡ Some (phase_of reading) → (phase_of reading ≡ complete → rest ≡ [] → ⊥) → IsFault text (BadLine (length lines + 1))
 end_fault text lines rest reading has phase unfinished = (

@@ -46,23 +46,15 @@ both-true : (a b : Bool) → (a && b) ≡ true → (a ≡ true) × (b ≡ true)
 both-true true b h = (refl, h)
 both-true false b h = absurd (cc)
 
-bytes-are : (xs ys : List ℕ) → same_bytes xs ys ≡ true → xs ≡ ys
-bytes-are xs ys h = (slice_eq-Decides Decides-eqb xs ys (same_bytes xs ys) refl).0 h
-
-are-bytes : (xs ys : List ℕ) → xs ≡ ys → same_bytes xs ys ≡ true
-are-bytes xs ys h = (slice_eq-Decides Decides-eqb xs ys (same_bytes xs ys) refl).1 h
+bytes-exact : (xs ys : List ℕ) → (same_bytes xs ys ≡ true → xs ≡ ys) × (xs ≡ ys → same_bytes xs ys ≡ true)
+bytes-exact xs ys = slice_eq-Decides Decides-eqb xs ys (same_bytes xs ys) refl
 
 -- ---- states
 
-state-is : (s t : CertState) → same_state s t ≡ true → t ≡ s
-state-is Open Open h = refl
-state-is Refused Refused h = refl
-state-is _ _ h = absurd (cc)
-
-is-state : (s t : CertState) → t ≡ s → same_state s t ≡ true
-is-state Open Open h = refl
-is-state Refused Refused h = refl
-is-state _ _ h = absurd (cc)
+state-exact : (s t : CertState) → (same_state s t ≡ true → t ≡ s) × (t ≡ s → same_state s t ≡ true)
+state-exact Open Open = (λ h. refl, λ h. refl)
+state-exact Refused Refused = (λ h. refl, λ h. refl)
+state-exact _ _ = (λ h. absurd (cc), λ h. absurd (cc))
 
 found-at : (xs : List PairHeader) (i : ℕ) (x : PairHeader) (ys : List PairHeader) → drop i xs ≡ x ∷ ys → (slice_get xs i ≡ Some x) × (drop (suc i) xs ≡ ys)
 found-at [] zero x ys h = absurd (cc)
@@ -127,7 +119,7 @@ module _ (headers : List PairHeader) (d : Digests) where
       let left = entries-ascend i 0 p.proved (pair_lines (i + 1) ps ++ End ∷ []) (sym (ap (first_refusal headers d (at-position i 0)) (below i p ps)) ∙ parts.1) in
       let test : has_state (Some s) p.state ≡ true = sym (ap (λ o. has_state o p.state) found.0) ∙ unless-none _ (OtherPair i) parts.0 in (
         record {
-          state = state-is s.state p.state test;
+          state = (state-exact s.state p.state).0 test;
           numbers = subst (λ (o : Option PairHeader). Ascend 0 (candidate_count o) (proved_of p.proved)) found.0 left.0;
         },
         pairs-fit (at-position i left.1.0) (i + 1) ss ps (ap (λ k. drop k headers) (add-one i) ∙ found.1) (omega arith) left.1.1,
@@ -140,7 +132,7 @@ module _ (headers : List PairHeader) (d : Digests) where
   pairs-pass position i (s ∷ ss) [] e f = absurd f
   pairs-pass position i (s ∷ ss) (p ∷ ps) e f =
       let found = found-at headers i s ss e in
-      let test : has_state (slice_get headers i) p.state ≡ true = ap (λ o. has_state o p.state) found.0 ∙ is-state s.state p.state f.0.state in
+      let test : has_state (slice_get headers i) p.state ≡ true = ap (λ o. has_state o p.state) found.0 ∙ (state-exact s.state p.state).1 f.0.state in
       let numbers = subst (λ (o : Option PairHeader). Ascend 0 (candidate_count o) (proved_of p.proved)) (sym found.0) f.0.numbers in
       none-next _ (OtherPair i) _ test
       (ap (first_refusal headers d (at-position i 0)) (below i p ps)
@@ -154,9 +146,9 @@ module _ (headers : List PairHeader) (d : Digests) where
       let new = next-none _ _ old.1 in
       let settings = next-none _ _ new.1 in
       let count = next-none _ _ settings.1 in
-      let same_old : c.digests.old ≡ d.old = bytes-are _ _ (unless-none _ OtherOld old.0) in
-      let same_new : c.digests.new ≡ d.new = bytes-are _ _ (unless-none _ OtherNew new.0) in
-      let same_settings : c.digests.settings ≡ d.settings = bytes-are _ _ (unless-none _ OtherSettings settings.0) in
+      let same_old : c.digests.old ≡ d.old = (bytes-exact _ _).0 (unless-none _ OtherOld old.0) in
+      let same_new : c.digests.new ≡ d.new = (bytes-exact _ _).0 (unless-none _ OtherNew new.0) in
+      let same_settings : c.digests.settings ≡ d.settings = (bytes-exact _ _).0 (unless-none _ OtherSettings settings.0) in
       let same_count : length c.pairs ≡ length headers = eqb-true _ _ (unless-none _ (OtherPair (min (length c.pairs) (length headers))) count.0) in (
         λ i. record { old = same_old i; new = same_new i; settings = same_settings i },
         pairs-fit first_position 0 headers c.pairs refl (sym same_count) count.1,
@@ -164,8 +156,8 @@ module _ (headers : List PairHeader) (d : Digests) where
 
   pub certificate-passes : (c : Certificate) → c.digests ≡ d → FitsPairs headers c.pairs → first_refusal headers d first_position (certificate_lines c) ≡ None
   certificate-passes c e f =
-      none-next _ OtherOld _ (are-bytes _ _ (ap (λ (x : Digests). x.old) e))
-      (none-next _ OtherNew _ (are-bytes _ _ (ap (λ (x : Digests). x.new) e))
-      (none-next _ OtherSettings _ (are-bytes _ _ (ap (λ (x : Digests). x.settings) e))
+      none-next _ OtherOld _ ((bytes-exact _ _).1 (ap (λ (x : Digests). x.old) e))
+      (none-next _ OtherNew _ ((bytes-exact _ _).1 (ap (λ (x : Digests). x.new) e))
+      (none-next _ OtherSettings _ ((bytes-exact _ _).1 (ap (λ (x : Digests). x.settings) e))
       (none-next _ (OtherPair (min (length c.pairs) (length headers))) _ (eq-eqb _ _ (sym (fits-length headers c.pairs f)))
       (pairs-pass first_position 0 headers c.pairs refl f))))

@@ -4,6 +4,7 @@ use Rattle.std.specs.Prelude.{Option, Some, None}
 use Rattle.std.specs.Option.{option_and_then}
 use Rattle.std.specs.List.{AllByRecursion}
 use Rattle.std.proofs.lemmas.List.{append-nil}
+use Rattle.std.proofs.Math.Seq.{take-append_seam}
 use Rattle.std.proofs.lemmas.Option.{same_Some}
 use Rattle.sd_term.specs.Tree.{Tree}
 use Rattle.sd_kernel.specs.Proof.{verdict}
@@ -35,7 +36,7 @@ use Rattle.sd_cert.specs.ReplayFaults.{IsRefused, HasBadStep, IsReplayFault, IsC
 use Rattle.sd_cert.proofs.TextLemmas.{no_feed, first_line-unique, lines_text-append}
 use Rattle.sd_cert.proofs.OneLine.{line_text-injective}
 use Rattle.sd_cert.proofs.AcceptLemmas.{certificate-end}
-use Rattle.sd_cert.proofs.FaultLemmas.{after_lines-append}
+use Rattle.sd_cert.proofs.FaultLemmas.{after_lines-append, front-of}
 use Rattle.sd_base.proofs.Lists.{all-front}
 
 -- ---- bad steps
@@ -194,22 +195,12 @@ module _ (h : Held) (d : Digests) (text : List ℕ) where
 
 -- ---- lines that were read
 
--- lines in front of a text are a front of those that were read
-prefix-of : (ls ms : List Line) (rest others : List ℕ) → AllByRecursion IsLine ls → AllByRecursion IsLine ms → BeginsWithoutLine others → lines_text ls ++ rest ≡ lines_text ms ++ others → ls ≡ take (length ls) ms
-prefix-of [] ms rest others f g stop e = refl
-prefix-of (l ∷ ls) [] rest others f g stop e = absurd (stop l (lines_text ls ++ rest) f.0 (sym e ∙ append_assoc (line_text l) (10 ∷ lines_text ls) rest))
-prefix-of (l ∷ ls) (m ∷ ms) rest others f g stop e =
-    let parts = first_line-unique (line_text l) (lines_text ls ++ rest) (line_text m) (lines_text ms ++ others) (no_feed l f.0) (no_feed m g.0)
-    (sym (append_assoc (line_text l) (10 ∷ lines_text ls) rest) ∙ e ∙ append_assoc (line_text m) (10 ∷ lines_text ms) others) in
-    let same : l ≡ m = line_text-injective l m f.0 g.0 parts.0 in
-    let more : ls ≡ take (length ls) ms = prefix-of ls ms rest others f.1 g.1 stop parts.1 in
-    λ i. same i ∷ more i
-
 module _ (h : Held) (d : Digests) (text : List ℕ) (lines : List Line) (rest : List ℕ) (has : HasLines text lines rest) where
   before-is : (n : ℕ) (ls : List Line) (others : List ℕ) → AllByRecursion IsLine ls → text ≡ lines_text ls ++ others → n ≡ length ls + 1 → ls ≡ take (n - 1) lines
   before-is n ls others f w e =
       let count : length ls ≡ n - 1 = omega arith in
-      prefix-of ls lines others rest f has.fit has.stop (sym w ∙ has.whole) ∙ ap (λ k. take k lines) count
+      let parts = front-of ls lines others rest f has.fit has.stop (sym w ∙ has.whole) in
+      sym (take-append_seam ls parts.0) ∙ ap (take (length ls)) (sym parts.1) ∙ ap (λ k. take k lines) count
 
   line-fault : (n : ℕ) → IsFault text (BadLine n) → (o : Option CertError) → first_refusal (headers_of h) d first_position (take (n - 1) lines) ≡ o → IsReplayFault h d text (refusal_or o (BadLine n))
   line-fault n fault None is = (fault, λ ls others f w e. ap (first_refusal (headers_of h) d first_position) (before-is n ls others f w e) ∙ is)
