@@ -1,7 +1,6 @@
 -- The lines of a certificate tell the certificate.
 use Rattle.std.proofs.Common.{◌≡◌, ℕ, ◌+◌, List, [], ◌∷◌, ◌++◌, map, length, refl, sym, ap, ◌∙◌, append_assoc}
 use Rattle.std.specs.List.{flat_map}
-use Rattle.std.proofs.lemmas.List.{append-nil}
 use Rattle.sd_kernel.specs.declared.Step.{Step}
 use Rattle.sd_kernel.specs.declared.Step.TheVariants.{Rows as RowsStep}
 use Rattle.sd_kernel.specs.declared.RowLine.{RowLine}

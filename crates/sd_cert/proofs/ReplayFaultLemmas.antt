@@ -23,8 +23,8 @@ use Rattle.sd_cert.specs.declared.fault.CertError.TheVariants.{NoMemory, Version
 use Rattle.sd_cert.specs.declared.line.Line.{Line}
 use Rattle.sd_cert.specs.declared.line.Line.TheVariants.{Version, Old, New, Settings, Pairs, Pair, Candidate, Step as StepLine, Rows, Row, End}
 use Rattle.sd_cert.specs.declared.refusal.Position.{Position}
-use Rattle.sd_cert.specs.Lines.{line_text, IsLine}
-use Rattle.sd_cert.specs.Text.{lines_text, BeginsWithoutLine, HasLines}
+use Rattle.sd_cert.specs.Lines.{IsLine}
+use Rattle.sd_cert.specs.Text.{lines_text, HasLines}
 use Rattle.sd_cert.specs.Phases.{Phase, at_version, complete, after_lines}
 use Rattle.sd_cert.specs.Certificates.{certificate_lines, certificate_text, IsCertificate}
 use Rattle.sd_cert.specs.Faults.{IsFault}
@@ -33,8 +33,7 @@ use Rattle.sd_cert.specs.BadSteps.{verdict_fault, how_fault, entry_fault, entrie
 use Rattle.sd_cert.specs.Headers.{headers_of}
 use Rattle.sd_cert.specs.Tables.{table_of}
 use Rattle.sd_cert.specs.ReplayFaults.{IsRefused, HasBadStep, IsReplayFault, IsCertificateFault}
-use Rattle.sd_cert.proofs.TextLemmas.{no_feed, first_line-unique, lines_text-append}
-use Rattle.sd_cert.proofs.OneLine.{line_text-injective}
+use Rattle.sd_cert.proofs.TextLemmas.{lines_text-append}
 use Rattle.sd_cert.proofs.AcceptLemmas.{certificate-end}
 use Rattle.sd_cert.proofs.FaultLemmas.{after_lines-append, front-of}
 use Rattle.sd_base.proofs.Lists.{all-front}
