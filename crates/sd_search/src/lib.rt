@@ -4,6 +4,7 @@
 mod atoms;
 mod choice;
 mod descent;
+mod guessed;
 mod leaf;
 mod progress;
 mod search;

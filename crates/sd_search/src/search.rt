@@ -6,6 +6,7 @@ ghost use Rattle.sd_cube.specs.Spent.{IsSpent};
 ghost use Rattle.sd_search.specs.Terms.{AllTruthValued};
 ghost use Rattle.sd_search.specs.Outcome.{IfRefuted, IfOpen, IfSpent, closings};
 
+use crate::guessed::guessed_proof;
 use crate::progress::Search;
 use sd_base::NoMemory;
 use sd_kernel::{Proof, Verdict};
@@ -24,10 +25,10 @@ pub enum Outcome {
     Spent(Items<Cube>),
 }
 
-/// Looks for a proof that no valuation makes all facts of a query true. It splits on atoms, each at most once on a branch, and
-/// closes a branch as soon as a fact is false in it, elimination refutes its rows, or its equalities clash (Davis, Logemann
-/// and Loveland 1962; Nelson and Oppen 1979). At most `leaves` branches are closed. A search of 2^32 - 1 steps or more is out of
-/// memory, and so is a query of 2^32 facts or more.
+/// Looks for a proof that no valuation makes all facts of a query true. A guess comes first: where the kernel accepts it, that is the
+/// answer. Else an exact search splits on atoms, each at most once on a branch, and closes a branch as soon as a fact is false in
+/// it, elimination refutes its rows, or its equalities clash (Davis, Logemann and Loveland 1962; Nelson and Oppen 1979). At most
+/// `leaves` branches are closed. A search of 2^32 - 1 steps or more is out of memory, and so is a query of 2^32 facts or more.
 pub fn refute(alloc: Global, query: &Query, leaves: u32) -> Result<Outcome, NoMemory>
     requires leaves { 1 ≤ leaves }
     requires truths { AllTruthValued query.now }
@@ -37,6 +38,9 @@ pub fn refute(alloc: Global, query: &Query, leaves: u32) -> Result<Outcome, NoMe
     ensures cube { IfOk result (λ r. IfOpen r (λ cube. IsOpenCube query.now cube)) }
     ensures spent { IfOk result (λ r. IfSpent r (λ cubes. IsSpent query.now cubes leaves)) }
 {
+    if let Some(proof) = guessed_proof(alloc, query, leaves)? {
+        return Ok(Outcome::Refuted(proof));
+    }
     let mut search = Search::new(alloc, query)?;
     'branches: while search.walk.is_open() {
         if search.steps.len() >= u32::MAX as usize {
