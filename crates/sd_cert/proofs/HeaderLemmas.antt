@@ -7,51 +7,51 @@ use Rattle.std.proofs.lemmas.Option.{get_or_from_slice_get, same_Some, slice_get
 use Rattle.std.specs.Option.{option_map}
 use Rattle.sd_match.specs.declared.pair.Pair.{Pair}
 use Rattle.sd_cand.specs.declared.candidate.Candidate.{Candidate}
-use Rattle.sd_cand.specs.Candidates.{candidates_of}
 use Rattle.sd_product.specs.Query.{Claimed, query_of}
-use Rattle.sd_product.specs.Work.{Held, infallibles_in, work_of, claims_of, claims_in, pairs_in, queries_under}
+use Rattle.sd_product.specs.Work.{PairedPrograms, candidates_in_pair, infallibles_in, work_of, claims_of, claims_in, pairs_in, queries_of}
 use Rattle.sd_cert.specs.declared.line.CertState.{CertState}
 use Rattle.sd_cert.specs.declared.header.PairHeader.{PairHeader}
 use Rattle.sd_cert.specs.Headers.{state_of, header_of, headers_of, count_of}
 
--- ---- one header more
+module _ (h : PairedPrograms) where
+  -- ---- one header more
 
-pub header-made : (pairs : List Pair) (i : ℕ) (p : Pair) (candidates : List Candidate) (state : CertState) (count : ℕ) → slice_get pairs i ≡ Some p → slice_get (map candidates_of pairs) i ≡ Some candidates → state ≡ state_of p.state → count ≡ length candidates → ◌≡◌ {A = PairHeader} (record { state = state; candidates = count }) (header_of p)
-header-made pairs i p candidates state count found listed said size =
-    let same : candidates ≡ candidates_of p = same_Some candidates (candidates_of p) (sym listed ∙ slice_get-map candidates_of pairs i ∙ ap (option_map candidates_of) found) in
-    ap (λ s. record { state = s; candidates = count }) said ∙ ap (λ n. record { state = state_of p.state; candidates = n }) (size ∙ ap length same)
+  pub header-made : (pairs : List Pair) (i : ℕ) (p : Pair) (candidates : List Candidate) (state : CertState) (count : ℕ) → slice_get pairs i ≡ Some p → slice_get (map (candidates_in_pair h) pairs) i ≡ Some candidates → state ≡ state_of p.state → count ≡ length candidates → ◌≡◌ {A = PairHeader} (record { state = state; candidates = count }) (header_of h p)
+  header-made pairs i p candidates state count found listed said size =
+      let same : candidates ≡ candidates_in_pair h p = same_Some candidates (candidates_in_pair h p) (sym listed ∙ slice_get-map (candidates_in_pair h) pairs i ∙ ap (option_map (candidates_in_pair h)) found) in
+      ap (λ s. record { state = s; candidates = count }) said ∙ ap (λ n. record { state = state_of p.state; candidates = n }) (size ∙ ap length same)
 
-pub header-pushed : (pairs : List Pair) (i : ℕ) (p : Pair) (before after : List PairHeader) (s : PairHeader) → i < length pairs → slice_get pairs i ≡ Some p → s ≡ header_of p → before ≡ map header_of (take i pairs) → after ≡ before ++ s ∷ [] → after ≡ map header_of (take (i + 1) pairs)
-header-pushed pairs i p before after s within found is made pushed =
-    let more : take (i + 1) pairs ≡ take i pairs ++ p ∷ [] = take-at pairs i p within (sym (get_or_from_slice_get pairs i p p found)) in
-    pushed ∙ ap (λ ss. ss ++ s ∷ []) made ∙ ap (λ x. map header_of (take i pairs) ++ x ∷ []) is
-    ∙ sym (map-append header_of (take i pairs) (p ∷ [])) ∙ ap (map header_of) (sym more)
+  pub header-pushed : (pairs : List Pair) (i : ℕ) (p : Pair) (before after : List PairHeader) (s : PairHeader) → i < length pairs → slice_get pairs i ≡ Some p → s ≡ header_of h p → before ≡ map (header_of h) (take i pairs) → after ≡ before ++ s ∷ [] → after ≡ map (header_of h) (take (i + 1) pairs)
+  header-pushed pairs i p before after s within found is made pushed =
+      let more : take (i + 1) pairs ≡ take i pairs ++ p ∷ [] = take-at pairs i p within (sym (get_or_from_slice_get pairs i p p found)) in
+      pushed ∙ ap (λ ss. ss ++ s ∷ []) made ∙ ap (λ x. map (header_of h) (take i pairs) ++ x ∷ []) is
+      ∙ sym (map-append (header_of h) (take i pairs) (p ∷ [])) ∙ ap (map (header_of h)) (sym more)
 
--- ---- the candidates of all pairs
+  -- ---- the candidates of all pairs
 
-headers-count : (pairs : List Pair) → count_of (map header_of pairs) ≡ length (claims_of pairs)
-headers-count [] = refl
-headers-count (p ∷ ps) =
-    let claim : Candidate → Claimed = λ c. record { pair = p; candidate = c } in
-    omega (arith, headers-count ps, length-append (map claim (candidates_of p)) (claims_of ps), length-map (candidates_of p) claim)
+  headers-count : (pairs : List Pair) → count_of (map (header_of h) pairs) ≡ length (claims_of h pairs)
+  headers-count [] = refl
+  headers-count (p ∷ ps) =
+      let claim : Candidate → Claimed = λ c. record { pair = p; candidate = c } in
+      omega (arith, headers-count ps, length-append (map claim (candidates_in_pair h p)) (claims_of h ps), length-map (candidates_in_pair h p) claim)
 
--- the candidates of the pairs before one, and of those from it on
-pub before-count : (pairs : List Pair) (i : ℕ) → length (claims_of (take i pairs)) + count_of (drop i (map header_of pairs)) ≡ length (claims_of pairs)
-before-count pairs zero = omega (arith, headers-count pairs)
-before-count [] (suc i) = refl
-before-count (p ∷ ps) (suc i) =
-    let claim : Candidate → Claimed = λ c. record { pair = p; candidate = c } in
-    omega (arith, before-count ps i, length-append (map claim (candidates_of p)) (claims_of ps), length-append (map claim (candidates_of p)) (claims_of (take i ps)))
+  -- the candidates of the pairs before one, and of those from it on
+  pub before-count : (pairs : List Pair) (i : ℕ) → length (claims_of h (take i pairs)) + count_of (drop i (map (header_of h) pairs)) ≡ length (claims_of h pairs)
+  before-count pairs zero = omega (arith, headers-count pairs)
+  before-count [] (suc i) = refl
+  before-count (p ∷ ps) (suc i) =
+      let claim : Candidate → Claimed = λ c. record { pair = p; candidate = c } in
+      omega (arith, before-count ps i, length-append (map claim (candidates_in_pair h p)) (claims_of h ps), length-append (map claim (candidates_in_pair h p)) (claims_of h (take i ps)))
 
-pub count-in : (h : Held) → count_of (headers_of h) ≡ length (claims_in h)
-count-in h = headers-count (pairs_in h)
+pub count-in : (h : PairedPrograms) → count_of (headers_of h) ≡ length (claims_in h)
+count-in h = headers-count h (pairs_in h)
 
-queries-count : (h : Held) (table : List Bool) → length (queries_under h table) ≡ length (claims_in h)
-queries-count h table = length-map (claims_in h) (query_of (work_of h.old h.new) (infallibles_in h) table)
+queries-count : (h : PairedPrograms) (table : List Bool) → length (queries_of h table) ≡ length (claims_in h)
+queries-count h table = length-map (claims_in h) (query_of (work_of h) (infallibles_in h) table)
 
-pub count-own : (h : Held) (headers : List PairHeader) → headers ≡ headers_of h → count_of headers ≡ length (claims_in h)
+pub count-own : (h : PairedPrograms) (headers : List PairHeader) → headers ≡ headers_of h → count_of headers ≡ length (claims_in h)
 count-own h headers own = ap count_of own ∙ count-in h
 
 -- the numbers of the pairs are those of their queries
-pub count-queries : (h : Held) (table : List Bool) → 0 + count_of (headers_of h) ≡ length (queries_under h table)
+pub count-queries : (h : PairedPrograms) (table : List Bool) → 0 + count_of (headers_of h) ≡ length (queries_of h table)
 count-queries h table = omega (arith, count-in h, queries-count h table)

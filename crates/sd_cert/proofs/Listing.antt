@@ -9,7 +9,7 @@ use Rattle.sd_kernel.specs.declared.Proved.{Proved}
 use Rattle.sd_cert.specs.declared.header.PairHeader.{PairHeader}
 use Rattle.sd_product.specs.Bodies.{count_before}
 use Rattle.sd_product.specs.Inductive.{proved_of, live_from}
-use Rattle.sd_product.specs.Work.{Held, pairs_in}
+use Rattle.sd_product.specs.Work.{PairedPrograms, pairs_in}
 use Rattle.sd_cert.specs.declared.line.CertState.TheVariants.{Open}
 use Rattle.sd_cert.specs.declared.certificate.CertPair.{CertPair}
 use Rattle.sd_cert.specs.declared.fault.CertError.{CertError}
@@ -101,16 +101,16 @@ fits-at d s (t ∷ ss) (q ∷ ps) (suc i) p f h k e = fits-at d s ss ps i p f.1 
 none : PairHeader
 none = record { state = Open; candidates = 0 }
 
-module _ (h : Held) (claims : List CertPair) (fits : FitsPairs (headers_of h) claims) where
+module _ (h : PairedPrograms) (claims : List CertPair) (fits : FitsPairs (headers_of h) claims) where
   pub claims-count : length (pairs_in h) ≡ length claims
-  claims-count = sym (length-map (pairs_in h) header_of) ∙ fits-length (headers_of h) claims fits
+  claims-count = sym (length-map (pairs_in h) (header_of h)) ∙ fits-length (headers_of h) claims fits
 
   module _ (i : ℕ) (p : CertPair) (within : i < length (pairs_in h)) (claim : p ≡ get_or claims i p) where
     own : PairHeader
     own = get_or (headers_of h) i none
 
     inside : i < length (headers_of h)
-    inside = omega (arith, length-map (pairs_in h) header_of)
+    inside = omega (arith, length-map (pairs_in h) (header_of h))
 
     headers-here : drop i (headers_of h) ≡ own ∷ drop (i + 1) (headers_of h)
     unfolding own
@@ -120,7 +120,7 @@ module _ (h : Held) (claims : List CertPair) (fits : FitsPairs (headers_of h) cl
     claims-here = drop-at claims i p (omega (arith, claims-count)) claim
 
     next : count_before h i + own.candidates ≡ count_before h (i + 1)
-    next = omega (arith, before-count (pairs_in h) i, before-count (pairs_in h) (i + 1), ap count_of headers-here)
+    next = omega (arith, before-count h (pairs_in h) i, before-count h (pairs_in h) (i + 1), ap count_of headers-here)
 
     pub ascend-own : Ascend 0 (count_before h (i + 1) - count_before h i) (proved_of p.proved)
     unfolding own

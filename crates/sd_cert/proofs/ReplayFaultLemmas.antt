@@ -13,7 +13,7 @@ use Rattle.sd_kernel.specs.declared.step.Verdict.TheVariants.{Accepted, Rejected
 use Rattle.sd_kernel.specs.declared.How.{How}
 use Rattle.sd_kernel.specs.declared.How.TheVariants.{Steps}
 use Rattle.sd_kernel.specs.declared.Proved.{Proved}
-use Rattle.sd_product.specs.Work.{Held, queries_under}
+use Rattle.sd_product.specs.Work.{PairedPrograms, queries_of}
 use Rattle.sd_cert.specs.declared.header.PairHeader.{PairHeader}
 use Rattle.sd_cert.specs.declared.digest.Digests.{Digests}
 use Rattle.sd_cert.specs.declared.certificate.CertPair.{CertPair}
@@ -74,7 +74,7 @@ pairs-steps queries (s ∷ ss) [] first line = tt
 pairs-steps queries (s ∷ ss) (p ∷ ps) first line =
     next-steps (entries_fault queries first (line + 1) p.proved) _ (entries-steps queries first p.proved (line + 1)) (pairs-steps queries ss ps _ _)
 
-step-fault : (h : Held) (d : Digests) (text : List ℕ) (e : CertError) → IsOfSteps (Some e) → HasBadStep h d text e → IsReplayFault h d text e
+step-fault : (h : PairedPrograms) (d : Digests) (text : List ℕ) (e : CertError) → IsOfSteps (Some e) → HasBadStep h d text e → IsReplayFault h d text e
 unfolding IsOfSteps IsOfStep
 step-fault h d text (BadStep n cause) f s = s
 step-fault h d text _ f s = absurd f
@@ -150,7 +150,7 @@ front-stands p q xs ys h = go (after_lines p xs) refl (sym (after_lines-append p
     go None is k = absurd (cc)
     go (Some r) is k = (r, is)
 
-work-fault : (h : Held) (d : Digests) (text : List ℕ) (e : CertError) → IsOfWork e → IsRefused (headers_of h) d text e → IsReplayFault h d text e
+work-fault : (h : PairedPrograms) (d : Digests) (text : List ℕ) (e : CertError) → IsOfWork e → IsRefused (headers_of h) d text e → IsReplayFault h d text e
 unfolding IsOfWork
 work-fault h d text OtherOld f r = r
 work-fault h d text OtherNew f r = r
@@ -158,7 +158,7 @@ work-fault h d text OtherSettings f r = r
 work-fault h d text (OtherPair i) f r = r
 work-fault h d text _ f r = absurd f
 
-module _ (h : Held) (d : Digests) (text : List ℕ) where
+module _ (h : PairedPrograms) (d : Digests) (text : List ℕ) where
   refused-fault : (lines : List Line) (rest : List ℕ) (phase : Phase) (e : CertError) → AllByRecursion IsLine lines → text ≡ lines_text lines ++ rest → after_lines at_version lines ≡ Some phase → first_refusal (headers_of h) d first_position lines ≡ Some e → IsReplayFault h d text e
   refused-fault lines rest phase e fit whole stand f =
       let s = split-refused (headers_of h) d first_position lines e f in
@@ -183,7 +183,7 @@ module _ (h : Held) (d : Digests) (text : List ℕ) where
   certificate-fault c e f t (inl m) = subst (λ (x : CertError). IsReplayFault h d text x) (sym m) tt
   certificate-fault c e f t (inr (inl r)) = refused-fault (certificate_lines c) [] complete e f (t ∙ sym (append-nil (certificate_text c))) (certificate-end c) r
   certificate-fault c e f t (inr (inr s)) =
-      step-fault h d text e (subst IsOfSteps s.2 (pairs-steps (queries_under h (table_of (headers_of h) c.pairs)) (headers_of h) c.pairs 0 6)) record {
+      step-fault h d text e (subst IsOfSteps s.2 (pairs-steps (queries_of h (table_of (headers_of h) c.pairs)) (headers_of h) c.pairs 0 6)) record {
         certificate = c;
         form = f;
         whole = t;
@@ -194,7 +194,7 @@ module _ (h : Held) (d : Digests) (text : List ℕ) where
 
 -- ---- lines that were read
 
-module _ (h : Held) (d : Digests) (text : List ℕ) (lines : List Line) (rest : List ℕ) (has : HasLines text lines rest) where
+module _ (h : PairedPrograms) (d : Digests) (text : List ℕ) (lines : List Line) (rest : List ℕ) (has : HasLines text lines rest) where
   before-is : (n : ℕ) (ls : List Line) (others : List ℕ) → AllByRecursion IsLine ls → text ≡ lines_text ls ++ others → n ≡ length ls + 1 → ls ≡ take (n - 1) lines
   before-is n ls others f w e =
       let count : length ls ≡ n - 1 = omega arith in

@@ -2,7 +2,7 @@
 use Rattle.std.proofs.Common.{◌≡◌, ℕ, zero, suc, ◌<◌, Bool, true, false, List, [], ◌∷◌, length, refl, sym, ap, ◌∙◌, arith, eq-eqb, inl, inr}
 use Rattle.std.specs.Prelude.{Some, None, ◌||◌, ◌⊎◌}
 use Rattle.std.proofs.lemmas.Bool.{ne_eqb}
-use Rattle.sd_product.specs.Work.{Held, claims_in, queries_under}
+use Rattle.sd_product.specs.Work.{PairedPrograms, claims_in, queries_of}
 use Rattle.sd_product.specs.Inductive.{proved_of, live_from, IsInductive}
 use Rattle.sd_cert.specs.declared.header.PairHeader.{PairHeader}
 use Rattle.sd_cert.specs.declared.digest.Digests.{Digests}
@@ -46,23 +46,23 @@ listed-table headers claims table size live =
 
 -- ---- the table under which entries are judged
 
-module _ (h : Held) (d : Digests) (text : List ℕ) (table : List Bool) (a : Accepts h d text table) where
+module _ (h : PairedPrograms) (d : Digests) (text : List ℕ) (table : List Bool) (a : Accepts h d text table) where
   pub accepted-table : table ≡ table_of (headers_of h) a.certificate.pairs
   accepted-table = listed-table (headers_of h) a.certificate.pairs table (a.size ∙ sym (count-in h)) a.inductive.numbers
 
   -- what is accepted has no bad step
   pub accepted-passes : step_fault h a.certificate.pairs ≡ None
   accepted-passes =
-      ap (λ (t : List Bool). pairs_fault (queries_under h t) 0 6 (headers_of h) a.certificate.pairs) (sym accepted-table)
-      ∙ (pairs-exact (queries_under h table) 0 6 (headers_of h) a.certificate.pairs (count-queries h table) a.fits).1 a.inductive.proved
+      ap (λ (t : List Bool). pairs_fault (queries_of h t) 0 6 (headers_of h) a.certificate.pairs) (sym accepted-table)
+      ∙ (pairs-exact (queries_of h table) 0 6 (headers_of h) a.certificate.pairs (count-queries h table) a.fits).1 a.inductive.proved
 
-module _ (h : Held) (claims : List CertPair) (table : List Bool) (size : length table ≡ length (claims_in h)) (live : proved_of (proofs_from 0 (headers_of h) claims) ≡ live_from 0 table) where
+module _ (h : PairedPrograms) (claims : List CertPair) (table : List Bool) (size : length table ≡ length (claims_in h)) (live : proved_of (proofs_from 0 (headers_of h) claims) ≡ live_from 0 table) where
   -- entries without a bad step are proofs
-  pub passes-inductive : FitsPairs (headers_of h) claims → pairs_fault (queries_under h table) 0 6 (headers_of h) claims ≡ None → IsInductive (queries_under h table) table (proofs_from 0 (headers_of h) claims)
-  passes-inductive fits none = record { numbers = live; proved = (pairs-exact (queries_under h table) 0 6 (headers_of h) claims (count-queries h table) fits).0 none }
+  pub passes-inductive : FitsPairs (headers_of h) claims → pairs_fault (queries_of h table) 0 6 (headers_of h) claims ≡ None → IsInductive h table (proofs_from 0 (headers_of h) claims)
+  passes-inductive fits none = record { numbers = live; proved = (pairs-exact (queries_of h table) 0 6 (headers_of h) claims (count-queries h table) fits).0 none }
 
   -- the first bad step under this table is that of the certificate
-  pub own-fault : (e : CertError) → (e ≡ NoMemory) ⊎ (pairs_fault (queries_under h table) 0 6 (headers_of h) claims ≡ Some e) → (e ≡ NoMemory) ⊎ (step_fault h claims ≡ Some e)
+  pub own-fault : (e : CertError) → (e ≡ NoMemory) ⊎ (pairs_fault (queries_of h table) 0 6 (headers_of h) claims ≡ Some e) → (e ≡ NoMemory) ⊎ (step_fault h claims ≡ Some e)
   own-fault e (inl m) = inl m
   own-fault e (inr f) =
-      inr (ap (λ (t : List Bool). pairs_fault (queries_under h t) 0 6 (headers_of h) claims) (sym (listed-table (headers_of h) claims table (size ∙ sym (count-in h)) live)) ∙ f)
+      inr (ap (λ (t : List Bool). pairs_fault (queries_of h t) 0 6 (headers_of h) claims) (sym (listed-table (headers_of h) claims table (size ∙ sym (count-in h)) live)) ∙ f)

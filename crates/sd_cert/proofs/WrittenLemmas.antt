@@ -5,8 +5,8 @@ use Rattle.sd_base.proofs.Lists.{all-push}
 use Rattle.std.proofs.lemmas.List.{map-append, append-nil, take_all, drop_all}
 use Rattle.sd_term.specs.Tree.{Tree}
 use Rattle.sd_kernel.specs.declared.Proved.{Proved}
-use Rattle.sd_product.specs.Work.{Held, claims_in, queries_under}
-use Rattle.sd_product.specs.Inductive.{proved_of, live_from, IsInductive}
+use Rattle.sd_product.specs.Work.{PairedPrograms, claims_in}
+use Rattle.sd_product.specs.Inductive.{proved_of, live_from, AreProved, IsInductive}
 use Rattle.sd_cert.specs.declared.header.PairHeader.{PairHeader}
 use Rattle.sd_cert.specs.declared.digest.Digests.{Digests}
 use Rattle.sd_cert.specs.declared.certificate.CertPair.{CertPair}
@@ -107,12 +107,12 @@ live-ascends n (false ∷ bs) =
     weaken-least n (suc n) (n + suc (length bs)) (live_from (suc n) bs) (omega arith) (subst (λ m. Ascend (suc n) m (live_from (suc n) bs)) e (live-ascends (suc n) bs))
 
 -- the proofs of a table ascend
-pub inductive-ascends : (queries : List (List Tree)) (count : ℕ) (table : List Bool) (proofs : List Proved) → length table ≡ count → IsInductive queries table proofs → Ascend 0 count (proved_of proofs)
+pub inductive-ascends : (queries : List (List Tree)) (count : ℕ) (table : List Bool) (proofs : List Proved) → length table ≡ count → AreProved queries table proofs → Ascend 0 count (proved_of proofs)
 inductive-ascends queries count table proofs size i =
     let e : 0 + length table ≡ count = omega (arith, size) in
     subst (λ (ks : List ℕ). Ascend 0 count ks) (sym i.numbers) (subst (λ n. Ascend 0 n (live_from 0 table)) e (live-ascends 0 table))
 
-pub written-accepted : (h : Held) (digests : Digests) (proofs : List Proved) (bytes : List ℕ) (table : List Bool) → IsWritten h digests proofs bytes → length table ≡ length (claims_in h) → IsInductive (queries_under h table) table proofs → Accepts h digests bytes table
+pub written-accepted : (h : PairedPrograms) (digests : Digests) (proofs : List Proved) (bytes : List ℕ) (table : List Bool) → IsWritten h digests proofs bytes → length table ≡ length (claims_in h) → IsInductive h table proofs → Accepts h digests bytes table
 written-accepted h digests proofs bytes table w size i = record {
   certificate = w.certificate;
   form = w.form;
@@ -120,5 +120,5 @@ written-accepted h digests proofs bytes table w size i = record {
   same_digests = w.«of».same_digests;
   fits = w.«of».fits;
   size = size;
-  inductive = subst (λ (ps : List Proved). IsInductive (queries_under h table) table ps) (sym w.«of».entries) i;
+  inductive = subst (λ (ps : List Proved). IsInductive h table ps) (sym w.«of».entries) i;
 }

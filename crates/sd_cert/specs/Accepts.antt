@@ -1,7 +1,7 @@
 -- Which bytes are accepted as a certificate of two programs, and with which table.
 use Rattle.std.specs.Prelude.{◌≡◌, ℕ, ◌+◌, ◌<◌, ◌≤◌, Bool, List, [], ◌∷◌, ◌++◌, map, length}
 use Rattle.sd_kernel.specs.declared.Proved.{Proved}
-use Rattle.sd_product.specs.Work.{Held, claims_in, queries_under}
+use Rattle.sd_product.specs.Work.{PairedPrograms, claims_in}
 use Rattle.sd_product.specs.Inductive.{proved_of, IsInductive}
 use Rattle.sd_cert.specs.declared.digest.Digests.{Digests}
 use Rattle.sd_cert.specs.declared.certificate.CertPair.{CertPair}
@@ -36,11 +36,11 @@ proofs_from n _ _ = []
 
 -- The bytes spell a certificate with these digests and the pair lines of these programs, whose entries are proofs of
 -- the live candidates of the table, under the table itself.
-pub record Accepts (h : Held) (digests : Digests) (bytes : List ℕ) (table : List Bool) : Type 0 where
+pub record Accepts (work : PairedPrograms) (digests : Digests) (bytes : List ℕ) (table : List Bool) : Type 0 where
   pub certificate : Certificate
   pub form : IsCertificate certificate
   pub text : bytes ≡ certificate_text certificate
   pub same_digests : certificate.digests ≡ digests
-  pub fits : FitsPairs (headers_of h) certificate.pairs
-  pub size : length table ≡ length (claims_in h)
-  pub inductive : IsInductive (queries_under h table) table (proofs_from 0 (headers_of h) certificate.pairs)
+  pub fits : FitsPairs (headers_of work) certificate.pairs
+  pub size : length table ≡ length (claims_in work)
+  pub inductive : IsInductive work table (proofs_from 0 (headers_of work) certificate.pairs)

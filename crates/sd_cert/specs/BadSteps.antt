@@ -9,7 +9,7 @@ use Rattle.sd_kernel.specs.declared.step.Verdict.TheVariants.{Accepted, Rejected
 use Rattle.sd_kernel.specs.declared.How.{How}
 use Rattle.sd_kernel.specs.declared.How.TheVariants.{Steps}
 use Rattle.sd_kernel.specs.declared.Proved.{Proved}
-use Rattle.sd_product.specs.Work.{Held, queries_under}
+use Rattle.sd_product.specs.Work.{PairedPrograms, queries_of}
 use Rattle.sd_cert.specs.declared.header.PairHeader.{PairHeader}
 use Rattle.sd_cert.specs.declared.certificate.CertPair.{CertPair}
 use Rattle.sd_cert.specs.declared.fault.CertError.{CertError}
@@ -46,8 +46,8 @@ pairs_fault queries first line (s ∷ ss) (p ∷ ps) =
 pairs_fault queries first line _ _ = None
 
 -- The first bad step of a certificate with these pairs, under its own table. The first pair stands at line 6.
-abbrev pub step_fault : Held → List CertPair → Option CertError
-step_fault h pairs = pairs_fault (queries_under h (table_of (headers_of h) pairs)) 0 6 (headers_of h) pairs
+abbrev pub step_fault : PairedPrograms → List CertPair → Option CertError
+step_fault work pairs = pairs_fault (queries_of work (table_of (headers_of work) pairs)) 0 6 (headers_of work) pairs
 
 -- the result names the fault, if there is one, but for out of memory
 abbrev pub HasFault : {A : Type 0} → Option CertError → Result A CertError → Type 0

@@ -3,8 +3,7 @@ use Rattle.std.specs.Prelude.{ℕ, ◌+◌, List, [], ◌∷◌, map, length}
 use Rattle.sd_match.specs.declared.pair.PairState.{PairState}
 use Rattle.sd_match.specs.declared.pair.PairState.TheVariants.{Open}
 use Rattle.sd_match.specs.declared.pair.Pair.{Pair}
-use Rattle.sd_cand.specs.Candidates.{candidates_of}
-use Rattle.sd_product.specs.Work.{Held, pairs_in}
+use Rattle.sd_product.specs.Work.{PairedPrograms, pairs_in, candidates_in_pair}
 use Rattle.sd_cert.specs.declared.line.CertState.{CertState}
 use Rattle.sd_cert.specs.declared.line.CertState.TheVariants as said
 use Rattle.sd_cert.specs.declared.header.PairHeader.{PairHeader}
@@ -15,11 +14,11 @@ state_of Open = said.Open
 state_of _ = said.Refused
 
 -- the state of a pair, and how many candidates it has
-abbrev pub header_of : Pair → PairHeader
-header_of pair = record { state = state_of pair.state; candidates = length (candidates_of pair) }
+abbrev pub header_of : PairedPrograms → Pair → PairHeader
+header_of work pair = record { state = state_of pair.state; candidates = length (candidates_in_pair work pair) }
 
-abbrev pub headers_of : Held → List PairHeader
-headers_of h = map header_of (pairs_in h)
+abbrev pub headers_of : PairedPrograms → List PairHeader
+headers_of work = map (header_of work) (pairs_in work)
 
 -- how many candidates all pairs have
 abbrev pub count_of : List PairHeader → ℕ

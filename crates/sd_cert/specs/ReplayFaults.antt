@@ -1,7 +1,7 @@
 -- Why bytes are not accepted as a certificate of two programs.
 use Rattle.std.specs.Prelude.{◌≡◌, ℕ, ◌+◌, List, [], ◌∷◌, ◌++◌, length, Some, None, ◌⊎◌}
 use Rattle.std.specs.List.{AllByRecursion}
-use Rattle.sd_product.specs.Work.{Held}
+use Rattle.sd_product.specs.Work.{PairedPrograms}
 use Rattle.sd_cert.specs.declared.header.PairHeader.{PairHeader}
 use Rattle.sd_cert.specs.declared.digest.Digests.{Digests}
 use Rattle.sd_cert.specs.declared.certificate.Certificate.{Certificate}
@@ -37,25 +37,25 @@ PassBefore headers digests text n =
     n ≡ length lines + 1 → first_refusal headers digests first_position lines ≡ None
 
 -- The text is that of a certificate that fits the digests and the pairs, and the error names its first bad step.
-pub record HasBadStep (h : Held) (digests : Digests) (text : List ℕ) (e : CertError) : Type 0 where
+pub record HasBadStep (work : PairedPrograms) (digests : Digests) (text : List ℕ) (e : CertError) : Type 0 where
   pub certificate : Certificate
   pub form : IsCertificate certificate
   pub whole : text ≡ certificate_text certificate
   pub same_digests : certificate.digests ≡ digests
-  pub fits : FitsPairs (headers_of h) certificate.pairs
-  pub step : step_fault h certificate.pairs ≡ Some e
+  pub fits : FitsPairs (headers_of work) certificate.pairs
+  pub step : step_fault work certificate.pairs ≡ Some e
 
-abbrev pub IsReplayFault : Held → Digests → List ℕ → CertError → Type 0
-IsReplayFault h digests text NoMemory = Unit {0}
-IsReplayFault h digests text (Version version) = IsFault text (Version version)
-IsReplayFault h digests text (BadLine n) = IsFault text (BadLine n) × PassBefore (headers_of h) digests text n
-IsReplayFault h digests text (BadStep n cause) = HasBadStep h digests text (BadStep n cause)
-IsReplayFault h digests text e = IsRefused (headers_of h) digests text e
+abbrev pub IsReplayFault : PairedPrograms → Digests → List ℕ → CertError → Type 0
+IsReplayFault work digests text NoMemory = Unit {0}
+IsReplayFault work digests text (Version version) = IsFault text (Version version)
+IsReplayFault work digests text (BadLine n) = IsFault text (BadLine n) × PassBefore (headers_of work) digests text n
+IsReplayFault work digests text (BadStep n cause) = HasBadStep work digests text (BadStep n cause)
+IsReplayFault work digests text e = IsRefused (headers_of work) digests text e
 
 -- ---- the same of a certificate that was read
 
-abbrev pub IsCertificateFault : Held → Digests → Certificate → CertError → Type 0
-IsCertificateFault h digests c e =
+abbrev pub IsCertificateFault : PairedPrograms → Digests → Certificate → CertError → Type 0
+IsCertificateFault work digests c e =
     (e ≡ NoMemory)
-    ⊎ ((first_refusal (headers_of h) digests first_position (certificate_lines c) ≡ Some e)
-    ⊎ ((c.digests ≡ digests) × FitsPairs (headers_of h) c.pairs × (step_fault h c.pairs ≡ Some e)))
+    ⊎ ((first_refusal (headers_of work) digests first_position (certificate_lines c) ≡ Some e)
+    ⊎ ((c.digests ≡ digests) × FitsPairs (headers_of work) c.pairs × (step_fault work c.pairs ≡ Some e)))

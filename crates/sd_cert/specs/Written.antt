@@ -4,7 +4,7 @@ use Rattle.sd_kernel.specs.declared.Proved.{Proved}
 use Rattle.sd_cert.specs.declared.header.PairHeader.{PairHeader}
 use Rattle.sd_cert.specs.declared.digest.Digests.{Digests}
 use Rattle.sd_cert.specs.declared.certificate.Certificate.{Certificate}
-use Rattle.sd_product.specs.Work.{Held, claims_in, queries_under}
+use Rattle.sd_product.specs.Work.{PairedPrograms, claims_in}
 use Rattle.sd_product.specs.Inductive.{IsInductive}
 use Rattle.sd_cert.specs.Accepts.{FitsPairs, proofs_from, Accepts}
 use Rattle.sd_cert.specs.Certificates.{certificate_text, IsCertificate}
@@ -18,15 +18,15 @@ pub record IsCertificateOf (headers : List PairHeader) (digests : Digests) (proo
   pub entries : proofs_from 0 headers c.pairs ≡ proofs
 
 -- the bytes are the text of that of two programs
-pub record IsWritten (h : Held) (digests : Digests) (proofs : List Proved) (bytes : List ℕ) : Type 0 where
+pub record IsWritten (work : PairedPrograms) (digests : Digests) (proofs : List Proved) (bytes : List ℕ) : Type 0 where
   pub certificate : Certificate
   pub form : IsCertificate certificate
   pub text : bytes ≡ certificate_text certificate
-  pub «of» : IsCertificateOf (headers_of h) digests proofs certificate
+  pub «of» : IsCertificateOf (headers_of work) digests proofs certificate
 
 -- The bytes that are written of the proofs of a table are accepted with this table.
 abbrev pub WrittenIsAccepted : Type 0
 WrittenIsAccepted =
-    (h : Held) (digests : Digests) (proofs : List Proved) (bytes : List ℕ) (table : List Bool) →
-    IsWritten h digests proofs bytes → length table ≡ length (claims_in h) →
-    IsInductive (queries_under h table) table proofs → Accepts h digests bytes table
+    (work : PairedPrograms) (digests : Digests) (proofs : List Proved) (bytes : List ℕ) (table : List Bool) →
+    IsWritten work digests proofs bytes → length table ≡ length (claims_in work) →
+    IsInductive work table proofs → Accepts work digests bytes table

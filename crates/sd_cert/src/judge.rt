@@ -3,7 +3,7 @@ ghost use Rattle.std.specs.Prelude.{◌≡◌, ◌<◌, ◌+◌, ◌-◌, ◌^�
 ghost use Rattle.std.specs.List.{flat_map, AllByRecursion};
 ghost use Rattle.sd_product.specs.Bodies.{IsAbout, count_before};
 ghost use Rattle.sd_product.specs.Inductive.{proved_of};
-ghost use Rattle.sd_product.specs.Work.{claims_in, pairs_in, queries_under};
+ghost use Rattle.sd_product.specs.Work.{claims_in, pairs_in, queries_of};
 ghost use Rattle.sd_cert.specs.Accepts.{FitsPairs, Ascend};
 ghost use Rattle.sd_cert.specs.Certificates.{proved_lines};
 ghost use Rattle.sd_cert.specs.BadSteps.{how_fault, entries_fault, pairs_fault, HasFault};
@@ -30,7 +30,7 @@ fn judge_entry(
     requires about { IsAbout bodies.now.work candidate bodies.now.pair }
     requires size { length table.now ≡ length (claims_in bodies.now.work) }
     ensures { HasFault (how_fault (line + 1)
-        (slice_index_or (queries_under bodies.now.work table.now) candidate []) how.now) result }
+        (slice_index_or (queries_of bodies.now.work table.now) candidate []) how.now) result }
 {
     let facts = bodies.query(alloc, table, candidate)?;
     let How::Steps(proof) = how;
@@ -58,7 +58,7 @@ fn judge_entries(
         (λ p. IsAbout bodies.now.work (first + p.candidate) bodies.now.pair) entries.now }
     requires size { length table.now ≡ length (claims_in bodies.now.work) }
     requires small { length table.now < 2 ^ 32 }
-    ensures fault { HasFault (entries_fault (queries_under bodies.now.work table.now) first line entries.now) result }
+    ensures fault { HasFault (entries_fault (queries_of bodies.now.work table.now) first line entries.now) result }
     ensures line { IfOk result (λ l. l ≡ line + length (flat_map proved_lines entries.now)) }
 {
     let mut at = line;
@@ -84,7 +84,7 @@ fn judge_pair(
     requires ascend { Ascend 0 (count_before work.now (pair + 1) - count_before work.now pair) (proved_of entries.now) }
     requires size { length table.now ≡ length (claims_in work.now) }
     requires small { length table.now < 2 ^ 32 }
-    ensures fault { HasFault (entries_fault (queries_under work.now table.now) (count_before work.now pair) (line + 1)
+    ensures fault { HasFault (entries_fault (queries_of work.now table.now) (count_before work.now pair) (line + 1)
         entries.now) result }
     ensures line { IfOk result (λ l. l ≡ line + 1 + length (flat_map proved_lines entries.now)) }
 {
@@ -108,7 +108,7 @@ pub(crate) fn judge_pairs(
     requires fits { FitsPairs (headers_of work.now) claims.now }
     requires size { length table.now ≡ length (claims_in work.now) }
     requires small { length table.now < 2 ^ 32 }
-    ensures { HasFault (pairs_fault (queries_under work.now table.now) 0 line (headers_of work.now) claims.now) result }
+    ensures { HasFault (pairs_fault (queries_of work.now table.now) 0 line (headers_of work.now) claims.now) result }
 {
     let mut at = line;
     'pairs: for pair in 0..work.pairs().len() {

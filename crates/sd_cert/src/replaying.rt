@@ -1,6 +1,6 @@
 //! Certificates against the programs and digests that they are of.
 ghost use Rattle.std.specs.Prelude.{◌≡◌, ◌≢◌, ◌⊎◌, ◌-◌, ◌<◌, ◌^◌, None, Some, Bool, List, IfOk, IfErr, length, take};
-ghost use Rattle.sd_product.specs.Work.{claims_in, queries_under};
+ghost use Rattle.sd_product.specs.Work.{claims_in, queries_of};
 ghost use Rattle.sd_product.specs.Inductive.{IsInductive};
 ghost use Rattle.sd_cert.specs.declared.fault.CertError.TheVariants.{NoMemory as Memory};
 ghost use Rattle.sd_cert.specs.Accepts.{Accepts, FitsPairs, proofs_from};
@@ -35,7 +35,7 @@ pub struct Replayed {
 fn accept(alloc: Global, work: &Work, certificate: &Certificate) -> Result<Replayed, CertError>
     requires { FitsPairs (headers_of work.now) certificate.now.pairs }
     ensures size { IfOk result (λ r. length r.table ≡ length (claims_in work.now)) }
-    ensures inductive { IfOk result (λ r. IsInductive (queries_under work.now r.table) r.table
+    ensures inductive { IfOk result (λ r. IsInductive work.now r.table
         (proofs_from 0 (headers_of work.now) certificate.now.pairs)) }
     ensures fault { IfErr result (λ e. (e ≡ Memory) ⊎ (step_fault work.now certificate.now.pairs ≡ Some e)) }
 {
@@ -93,7 +93,7 @@ fn check(
     ensures digests { IfOk result (λ _. certificate.now.digests ≡ digests.now) }
     ensures fits { IfOk result (λ _. FitsPairs (headers_of work.now) certificate.now.pairs) }
     ensures size { IfOk result (λ r. length r.table ≡ length (claims_in work.now)) }
-    ensures inductive { IfOk result (λ r. IsInductive (queries_under work.now r.table) r.table
+    ensures inductive { IfOk result (λ r. IsInductive work.now r.table
         (proofs_from 0 (headers_of work.now) certificate.now.pairs)) }
     ensures fault { IfErr result (IsCertificateFault work.now digests.now certificate.now) }
 {

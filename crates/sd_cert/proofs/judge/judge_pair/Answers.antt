@@ -2,7 +2,7 @@
 use Rattle.std.proofs.Common.{ℕ, ◌+◌, ◌-◌, sym, subst, arith}
 use Rattle.std.specs.List.{AllByRecursion}
 use Rattle.sd_product.specs.Bodies.{PairOf, IsAbout, count_before}
-use Rattle.sd_product.specs.Work.{queries_under}
+use Rattle.sd_product.specs.Work.{queries_of}
 use Rattle.sd_cert.specs.BadSteps.{HasFault, entries_fault}
 use Rattle.sd_cert.proofs.Listing.{ascend-all}
 use Rattle.sd_cert.proofs.judge.judge_pair.Goals as goal
@@ -21,6 +21,6 @@ returns-clause-fault c =
     let h = c.args.work.now in
     let table = c.args.table.now in
     let entries = c.args.entries.now in
-    subst (λ (n : ℕ). HasFault (entries_fault (queries_under h table) n (c.args.line + 1) entries) c.judge_entries.result) c.numbers_of-first.ensures.first
-    (subst (λ (n : ℕ). HasFault (entries_fault (queries_under h table) c.numbers_of-first.result.0 n entries) c.judge_entries.result) c.in_ok-below.ensures
-    (subst (λ (b : PairOf). HasFault (entries_fault (queries_under b.work table) c.numbers_of-first.result.0 c.in_ok-below.below entries) c.judge_entries.result) c.in_ok-bodies.ensures c.judge_entries.ensures.fault))
+    subst (λ (n : ℕ). HasFault (entries_fault (queries_of h table) n (c.args.line + 1) entries) c.judge_entries.result) c.numbers_of-first.ensures.first
+    (subst (λ (n : ℕ). HasFault (entries_fault (queries_of h table) c.numbers_of-first.result.0 n entries) c.judge_entries.result) c.in_ok-below.ensures
+    (subst (λ (b : PairOf). HasFault (entries_fault (queries_of b.work table) c.numbers_of-first.result.0 c.in_ok-below.below entries) c.judge_entries.result) c.in_ok-bodies.ensures c.judge_entries.ensures.fault))

@@ -2,7 +2,6 @@
 use Rattle.std.proofs.Common.{◌≡◌, List, sym, subst}
 use Rattle.std.specs.Prelude.{Some, ◌⊎◌}
 use Rattle.std.proofs.lemmas.Result.{err_from_is_err_and}
-use Rattle.sd_product.specs.Work.{queries_under}
 use Rattle.sd_product.specs.Inductive.{IsInductive}
 use Rattle.sd_cert.specs.declared.certificate.CertPair.{CertPair}
 use Rattle.sd_cert.specs.declared.fault.CertError.TheVariants.{NoMemory}
@@ -16,7 +15,7 @@ pub returns-clause-inductive : goal.returns-clause-inductive
 returns-clause-inductive c =
     let h = c.args.work.now in
     let table = c.in_ok-table.table in
-    subst (λ (ps : List CertPair). IsInductive (queries_under h table) table (proofs_from 0 (headers_of h) ps)) c.as_slice-pairs.ensures
+    subst (λ (ps : List CertPair). IsInductive h table (proofs_from 0 (headers_of h) ps)) c.as_slice-pairs.ensures
     (passes-inductive h c.as_slice-pairs.result.now table c.in_ok-table.ensures.size c.in_ok-table.ensures.live (subst (λ (ps : List CertPair). FitsPairs (headers_of h) ps) (sym c.as_slice-pairs.ensures) c.requires) c.in_ok-judge_pairs.ensures)
 
 pub returns-in_err-judge_pairs-clause-fault : goal.returns-in_err-judge_pairs-clause-fault
