@@ -26,24 +26,24 @@ fn clear_until(table: &mut LiveTable, from: u32, to: u32)
 }
 
 /// Leaves of a pair, whose candidates are numbered from `first` on, the listed candidates live. All candidates below
-/// `decided` are decided, and in the end those below the answer are.
+/// `frontier` are decided, and in the end those below the answer are.
 fn list_entries(
     table: &mut LiveTable,
     entries: &[Proved],
     first: u32,
     count: u32,
-    decided: u32,
+    frontier: u32,
 ) -> u32
     requires ascend { Ascend 0 count (proved_of entries.now) }
-    requires order { decided ≤ first }
+    requires order { frontier ≤ first }
     requires within { first + count ≤ length table.old }
     requires fits { first + count < 2 ^ 32 }
     ensures size { length table.new ≡ length table.old }
     ensures order { result ≤ first + count }
-    ensures decided { (numbers : List ℕ) → IsDecided table.old decided numbers →
+    ensures decided { (numbers : List ℕ) → IsDecided table.old frontier numbers →
         IsDecided table.new result (numbers ++ map (λ k. first + k) (proved_of entries.now)) }
 {
-    let mut next = decided;
+    let mut next = frontier;
     for entry in entries {
         let number = first + entry.candidate;
         clear_until(table, next, number);
@@ -66,18 +66,18 @@ pub(crate) fn list_live(
 {
     let total = work.count();
     let mut table = LiveTable::full(alloc, total)?;
-    let mut decided = 0u32;
+    let mut frontier = 0u32;
     'pairs: for pair in 0..work.pairs().len() {
         let (first, end) = work.numbers_of(pair);
         let claim = &claims[pair as usize];
-        decided = list_entries(
+        frontier = list_entries(
             &mut table,
             claim.proved.as_slice(),
             first,
             end - first,
-            decided,
+            frontier,
         );
     }
-    clear_until(&mut table, decided, total);
+    clear_until(&mut table, frontier, total);
     Ok(table)
 }

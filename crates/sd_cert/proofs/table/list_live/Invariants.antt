@@ -10,6 +10,6 @@ use Rattle.sd_cert.proofs.table.list_live.Given as goal
 abbrev pub invariant-pairs : goal.invariant-pairs
 invariant-pairs l = record {
   size : length l.table ≡ l.total;
-  below : l.decided ≤ count_before l.work l.pair;
-  listed : (numbers : List ℕ) × IsDecided l.table l.decided numbers × (numbers ++ proved_of (proofs_from (count_before l.work l.pair) (drop l.pair (headers_of l.work)) (drop l.pair l.claims)) ≡ proved_of (proofs_from 0 (headers_of l.work) l.claims));
+  below : l.frontier ≤ count_before l.work l.pair;
+  entries : (numbers : List ℕ) × IsDecided l.table l.frontier numbers × (numbers ++ proved_of (proofs_from (count_before l.work l.pair) (drop l.pair (headers_of l.work)) (drop l.pair l.claims)) ≡ proved_of (proofs_from 0 (headers_of l.work) l.claims));
 }
