@@ -25,7 +25,7 @@ fn state_of(state: &PairState) -> CertState
     }
 }
 
-/// The headers of all pairs. More candidates than a table can have are out of memory.
+/// The headers of all pairs.
 pub fn headers_of(alloc: Global, work: &Work) -> Result<Vec<PairHeader>, NoMemory>
     ensures headers { IfOk result (λ headers. headers.items ≡ headers_of work.now) }
     ensures count { IfOk result (λ headers. length headers.items < 2 ^ 32) }
@@ -33,12 +33,10 @@ pub fn headers_of(alloc: Global, work: &Work) -> Result<Vec<PairHeader>, NoMemor
     let pairs = work.pairs();
     let mut headers = Vec::new(alloc);
     for i in 0..pairs.len() {
-        let Ok(candidates) = u32::try_from(work.candidates_of(i).len()) else {
-            return Err(NoMemory);
-        };
+        let (first, end) = work.numbers_of(i);
         headers.push(PairHeader {
             state: state_of(&pairs.pair(i).state),
-            candidates,
+            candidates: end - first,
         })?;
     }
     Ok(headers)

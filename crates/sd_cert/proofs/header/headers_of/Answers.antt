@@ -12,5 +12,5 @@ loop-i-preserved c =
     let within : c.loop-i.i < length pairs = omega (arith, ap length c.pairs-pairs.ensures, c.len-i-end.ensures, c.loop-i-test.true) in
     let found : slice_get pairs c.loop-i.i ≡ Some c.pair.result.now = subst (λ (ps : List Pair). slice_get ps c.loop-i.i ≡ Some c.pair.result.now) c.pairs-pairs.ensures c.pair.ensures in
     header-pushed c.args.work.now pairs c.loop-i.i c.pair.result.now c.loop-i.headers.items c.push.new.self.items _ within found
-    (header-made c.args.work.now pairs c.loop-i.i c.pair.result.now c.candidates_of.result.now c.state_of.result c.in-Ok.candidates found c.candidates_of.ensures c.state_of.ensures c.in-Ok.ensures.1)
+    (header-made c.args.work.now c.loop-i.i c.pair.result.now c.state_of.result c.numbers_of-first.result.0 c.numbers_of-first.result.1 found within c.state_of.ensures c.numbers_of-first.ensures.first c.numbers_of-first.ensures.end)
     c.loop-i.invariant c.in_ok-push.ensures.items
