@@ -15,7 +15,7 @@ use Rattle.sd_cert.specs.declared.line.Line.TheVariants.{Version, Old, New, Sett
 use Rattle.sd_cert.specs.Fields.{IsDigest, AreNumbers, numbers_text}
 use Rattle.sd_cert.specs.Keywords.{front_of, keyword_in, keywords}
 use Rattle.sd_cert.specs.Lines.{line_text, IsLine, state_text}
-use Rattle.sd_cert.specs.Numbered.{numbered}
+use Rattle.sd_cert.specs.NumberLines.{word_and_numbers}
 use Rattle.sd_cert.proofs.NumberLemmas.{small-numbers}
 
 -- ---- words
@@ -61,7 +61,7 @@ form_of (Old d) = Some (word.Old, digest d)
 form_of (New d) = Some (word.New, digest d)
 form_of (Settings d) = Some (word.Settings, digest d)
 form_of (Pair i s) = Some (word.Pair, pair i s)
-form_of l = with_numbers (numbered l)
+form_of l = with_numbers (word_and_numbers l)
 
 abbrev pub word_of : Form → Option Keyword
 word_of None = None
@@ -71,7 +71,7 @@ abbrev pub form_text : Form → List ℕ
 form_text None = codes "end"
 form_text (Some f) = front_of f.0 ++ fields_text f.1
 
-abbrev IsForm : Form → Type 0
+abbrev pub IsForm : Form → Type 0
 IsForm None = Unit {0}
 IsForm (Some f) = AreFields f.1
 
@@ -81,7 +81,7 @@ text-of_form (StepLine (RowsStep rows)) h = absurd h
 text-of_form (Row (Fact k)) h = refl
 text-of_form _ h = refl
 
-form-fits : (l : Line) → IsLine l → IsForm (form_of l)
+pub form-fits : (l : Line) → IsLine l → IsForm (form_of l)
 form-fits (Version n) h = (h, tt)
 form-fits (Pairs n) h = (h, tt)
 form-fits (Candidate k) h = (omega arith, tt)

@@ -1,5 +1,4 @@
 pub mod FieldLemmas
-pub mod AllLemmas
 pub mod ByteLemmas
 pub mod NumberLemmas
 pub mod FormLemmas
@@ -7,13 +6,13 @@ pub mod LineLemmas
 pub mod TextLemmas
 pub mod OneLine
 pub mod OneCertificate
-pub mod DraftLemmas
+pub mod PrefixLemmas
 pub mod FaultLemmas
 pub mod AcceptLemmas
 pub mod Listing
 pub mod RefusalLemmas
 pub mod JudgeLemmas
-pub mod ShapeLemmas
+pub mod HeaderLemmas
 pub mod TableLemmas
 pub mod ReplayLemmas
 pub mod ReplayFaultLemmas

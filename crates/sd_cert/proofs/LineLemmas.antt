@@ -1,6 +1,6 @@
 -- A line is read as what its spelling came from.
 use Rattle.std.proofs.Common.{◌≡◌, ℕ, suc, ◌+◌, ◌^◌, ◌<◌, List, [], ◌∷◌, ◌++◌, length, get_or, drop, refl, sym, ap, ◌∙◌, subst, arith, add-one}
-use Rattle.std.specs.Prelude.{Option, Some, None, IfSome, Result, Ok, Err, IfOk, codes}
+use Rattle.std.specs.Prelude.{Option, Some, None, IfSome, codes}
 use Rattle.std.proofs.lemmas.Option.{some_pair_parts, same_Some, none-some}
 use Rattle.std.proofs.lemmas.List.{append_cancel_right}
 use Rattle.std.specs.Option.{option_map}
@@ -16,7 +16,7 @@ use Rattle.sd_cert.specs.declared.line.Line.TheVariants.{Old, New, Settings, Pai
 use Rattle.sd_cert.specs.Fields.{IsReadAs, IsDigest, AreNumbers, numbers_text, after_front}
 use Rattle.sd_cert.specs.Keywords.{front_of, with_rest, keyword_in, keywords}
 use Rattle.sd_cert.specs.Lines.{line_text, IsLine, pair_fields, IsPairField, state_text}
-use Rattle.sd_cert.specs.Numbered.{numbered}
+use Rattle.sd_cert.specs.NumberLines.{word_and_numbers}
 use Rattle.sd_cert.proofs.FieldLemmas.{after_front-some}
 use Rattle.sd_cert.proofs.FormLemmas.{Fields, digest, pair, numbers, fields_text, AreFields, with_numbers, form_of, word_of, form_text, text-of_form, line_with, of_digests, kind, kind_of, shows}
 
@@ -115,22 +115,22 @@ pair_line_is fields r =
 
 -- ---- lines of numbers
 
-form-numbered : (l : Line) (k : Keyword) (ns : List ℕ) → numbered l ≡ Some (k, ns) → form_of l ≡ Some (k, numbers ns)
-form-numbered (Old d) k ns e = absurd (cc)
-form-numbered (New d) k ns e = absurd (cc)
-form-numbered (Settings d) k ns e = absurd (cc)
-form-numbered (Pair i s) k ns e = absurd (cc)
-form-numbered _ k ns e = ap with_numbers e
+form-numbers : (l : Line) (k : Keyword) (ns : List ℕ) → word_and_numbers l ≡ Some (k, ns) → form_of l ≡ Some (k, numbers ns)
+form-numbers (Old d) k ns e = absurd (cc)
+form-numbers (New d) k ns e = absurd (cc)
+form-numbers (Settings d) k ns e = absurd (cc)
+form-numbers (Pair i s) k ns e = absurd (cc)
+form-numbers _ k ns e = ap with_numbers e
 
 module _ (k : Keyword) (old : k ≡ word.Old → ⊥) (new : k ≡ word.New → ⊥) (settings : k ≡ word.Settings → ⊥) (no_pair : k ≡ word.Pair → ⊥) where
-  numbered-form : (l : Line) (f : Fields) → form_of l ≡ Some (k, f) → (ns : List ℕ) × (f ≡ numbers ns) × (numbered l ≡ Some (k, ns))
+  numbered-form : (l : Line) (f : Fields) → form_of l ≡ Some (k, f) → (ns : List ℕ) × (f ≡ numbers ns) × (word_and_numbers l ≡ Some (k, ns))
   numbered-form (Old d) f e = absurd (old (sym (same_Some word.Old k (ap word_of e))))
   numbered-form (New d) f e = absurd (new (sym (same_Some word.New k (ap word_of e))))
   numbered-form (Settings d) f e = absurd (settings (sym (same_Some word.Settings k (ap word_of e))))
   numbered-form (Pair i s) f e = absurd (no_pair (sym (same_Some word.Pair k (ap word_of e))))
-  numbered-form l f e = go (numbered l) refl e
+  numbered-form l f e = go (word_and_numbers l) refl e
     where
-      go : (o : Option (Keyword × List ℕ)) → numbered l ≡ o → with_numbers o ≡ Some (k, f) → (ns : List ℕ) × (f ≡ numbers ns) × (numbered l ≡ Some (k, ns))
+      go : (o : Option (Keyword × List ℕ)) → word_and_numbers l ≡ o → with_numbers o ≡ Some (k, f) → (ns : List ℕ) × (f ≡ numbers ns) × (word_and_numbers l ≡ Some (k, ns))
       go None is h = absurd (cc)
       go (Some (j, ns)) is h =
           let parts = some_pair_parts j k (numbers ns) f h
@@ -138,7 +138,7 @@ module _ (k : Keyword) (old : k ≡ word.Old → ⊥) (new : k ≡ word.New → 
 
   module _ (fields : List ℕ) (r : Option (List ℕ)) (read : IsReadAs numbers_text AreNumbers fields r) where
     -- the numbers of a line with this word are those that were read
-    read-numbers : (l : Line) → IsLine l → front_of k ++ fields ≡ line_text l → (ns : List ℕ) × (r ≡ Some ns) × (numbered l ≡ Some (k, ns))
+    read-numbers : (l : Line) → IsLine l → front_of k ++ fields ≡ line_text l → (ns : List ℕ) × (r ≡ Some ns) × (word_and_numbers l ≡ Some (k, ns))
     read-numbers l h e =
         let s = shows k fields l h e in
         let parts = numbered-form l s.shown s.form in
@@ -147,18 +147,12 @@ module _ (k : Keyword) (old : k ≡ word.Old → ⊥) (new : k ≡ word.New → 
     pub no_numbers : r ≡ None → IsReadAs line_text IsLine (front_of k ++ fields) None
     no_numbers is = (tt, λ l h e. let p = read-numbers l h e in absurd (none-some p.0 (sym is ∙ p.1)))
 
-    pub numbers_are : (ns : List ℕ) (o : Option Line) → r ≡ Some ns → IsReadAs numbered IsLine (Some (k, ns)) o → IsReadAs line_text IsLine (front_of k ++ fields) o
+    pub numbers_are : (ns : List ℕ) (o : Option Line) → r ≡ Some ns → IsReadAs word_and_numbers IsLine (Some (k, ns)) o → IsReadAs line_text IsLine (front_of k ++ fields) o
     numbers_are ns o is line = (found o line.0, λ l h e. let p = read-numbers l h e in line.1 l h (ap (λ (ms : List ℕ). Some (k, ms)) (same_Some ns p.0 (sym is ∙ p.1)) ∙ sym p.2))
       where
         spelled : (AreNumbers ns) × (fields ≡ numbers_text ns)
         spelled = subst (λ (x : Option (List ℕ)). IfSome x (λ ms. (AreNumbers ms) × (fields ≡ numbers_text ms))) is read.0
 
-        found : (p : Option Line) → IfSome p (λ l. IsLine l × (Some (k, ns) ≡ numbered l)) → IfSome p (λ l. IsLine l × (front_of k ++ fields ≡ line_text l))
+        found : (p : Option Line) → IfSome p (λ l. IsLine l × (Some (k, ns) ≡ word_and_numbers l)) → IfSome p (λ l. IsLine l × (front_of k ++ fields ≡ line_text l))
         found None h = tt
-        found (Some l) h = (h.0, ap (λ t. front_of k ++ t) spelled.1 ∙ sym (ap form_text (form-numbered l k ns (sym h.1))) ∙ sym (text-of_form l h.0))
-
--- ---- results
-
-pub each-ok : {A E : Type 0} (P Q : A → Type 0) (r : Result A E) → ((x : A) → P x → Q x) → IfOk r P → IfOk r Q
-each-ok P Q (Ok x) f h = f x h
-each-ok P Q (Err e) f h = tt
+        found (Some l) h = (h.0, ap (λ t. front_of k ++ t) spelled.1 ∙ sym (ap form_text (form-numbers l k ns (sym h.1))) ∙ sym (text-of_form l h.0))

@@ -1,16 +1,26 @@
 -- A table that is decided number by number lists the entries.
-use Rattle.std.proofs.Common.{◌≡◌, ℕ, zero, suc, ◌+◌, ◌<◌, ◌≤◌, Bool, true, false, List, [], ◌∷◌, ◌++◌, map, length, get_or, set, take, drop, refl, sym, ap, ◌∙◌, subst, arith, append_assoc}
-use Rattle.std.specs.Prelude.{None}
-use Rattle.sd_cert.specs.BadSteps.{pairs_fault}
-use Rattle.std.proofs.lemmas.List.{map-append, append-nil, take_more, take_more_set, drop_more, take_all, drop_all, get_or-set_other, length-take-le}
+use Rattle.std.proofs.Common.{◌≡◌, ℕ, zero, suc, ◌+◌, ◌-◌, ◌<◌, ◌≤◌, Bool, true, false, List, [], ◌∷◌, ◌++◌, map, length, get_or, set, take, drop, refl, sym, ap, ◌∙◌, subst, arith, append_assoc, inl, inr}
+use Rattle.std.specs.Prelude.{Option, Some, None, ◌⊎◌}
+use Rattle.std.specs.List.{AllByRecursion, flat_map}
+use Rattle.std.proofs.lemmas.List.{map-append, append-nil, length-map, take_more, take_more_set, drop_more, take_all, drop_all, get_or-set_other, length-take-le}
+use Rattle.sd_base.proofs.Lists.{drop-at, take-at}
 use Rattle.sd_term.specs.Tree.{Tree}
 use Rattle.sd_kernel.specs.declared.Proved.{Proved}
-use Rattle.sd_cert.specs.declared.shape.Shape.{Shape}
+use Rattle.sd_cert.specs.declared.header.PairHeader.{PairHeader}
+use Rattle.sd_product.specs.Bodies.{count_before}
 use Rattle.sd_product.specs.Inductive.{proved_of, live_from}
+use Rattle.sd_product.specs.Work.{PairedPrograms, pairs_in}
+use Rattle.sd_cert.specs.declared.line.CertState.TheVariants.{Open}
 use Rattle.sd_cert.specs.declared.certificate.CertPair.{CertPair}
-use Rattle.sd_cert.specs.Accepts.{Ascend, FitsPair, FitsPairs, numbered_from, proofs_from}
-use Rattle.sd_cert.specs.Shapes.{count_of}
+use Rattle.sd_cert.specs.declared.fault.CertError.{CertError}
+use Rattle.sd_cert.specs.declared.fault.CertError.TheVariants.{NoMemory}
+use Rattle.sd_cert.specs.Accepts.{Ascend, FitsPair, FitsPairs, entry_from, proofs_from}
+use Rattle.sd_cert.specs.BadSteps.{entries_fault, pairs_fault}
+use Rattle.sd_cert.specs.Certificates.{proved_lines}
+use Rattle.sd_cert.specs.Headers.{header_of, headers_of, count_of}
+use Rattle.sd_cert.specs.Refusals.{or_next}
 use Rattle.sd_cert.specs.Tables.{IsDecided}
+use Rattle.sd_cert.proofs.HeaderLemmas.{before-count}
 
 -- ---- decided numbers
 
@@ -49,29 +59,21 @@ decide-all table n numbers size d = ap (live_from 0) (sym (take_all n table (ome
 
 -- ---- the entries of a pair
 
-pub ascend-below : (least bound : ℕ) (ps : List Proved) (i : ℕ) (p : Proved) → Ascend least bound (proved_of ps) → i < length ps → p ≡ get_or ps i p → p.candidate < bound
-ascend-below least bound [] i p a h e = absurd (omega arith)
-ascend-below least bound (q ∷ ps) zero p a h e = subst (λ (r : Proved). r.candidate < bound) (sym e) a.1
-ascend-below least bound (q ∷ ps) (suc i) p a h e = ascend-below (q.candidate + 1) bound ps i p a.2 (omega arith) e
-
-pub ascend-weaker : (least bound more : ℕ) (ks : List ℕ) → bound ≤ more → Ascend least bound ks → Ascend least more ks
-ascend-weaker least bound more [] h a = tt
-ascend-weaker least bound more (k ∷ ks) h a = (a.0, omega (arith, a.1), ascend-weaker (k + 1) bound more ks h a.2)
+pub ascend-all : (P : ℕ → Type 0) (first least bound : ℕ) (ps : List Proved) → Ascend least bound (proved_of ps) → ((n : ℕ) → first ≤ n → n < first + bound → P n) → AllByRecursion (λ p. P (first + p.candidate)) ps
+ascend-all P first least bound [] a own = tt
+ascend-all P first least bound (p ∷ ps) a own =
+    (own (first + p.candidate) (omega arith) (omega (arith, a.1)), ascend-all P first (p.candidate + 1) bound ps a.2 own)
 
 module _ (entries : List Proved) (i : ℕ) (e : Proved) (within : i < length entries) (is : e ≡ get_or entries i e) where
-  here : drop i entries ≡ e ∷ drop (i + 1) entries
-  here = drop_more entries i e within ∙ ap (λ x. x ∷ drop (i + 1) entries) (sym is)
-
   pub ascend-step : (least bound : ℕ) → Ascend least bound (proved_of (drop i entries)) → (least ≤ e.candidate) × (e.candidate < bound) × Ascend (e.candidate + 1) bound (proved_of (drop (i + 1) entries))
-  ascend-step least bound a = subst (λ (ps : List Proved). Ascend least bound (proved_of ps)) here a
+  ascend-step least bound a = subst (λ (ps : List Proved). Ascend least bound (proved_of ps)) (drop-at entries i e within is) a
 
   pub listed-more : (numbers : List ℕ) (first : ℕ) → (numbers ++ map (λ k. first + k) (proved_of (take i entries))) ++ (first + e.candidate) ∷ [] ≡ numbers ++ map (λ k. first + k) (proved_of (take (i + 1) entries))
   listed-more numbers first =
-      let more : take (i + 1) entries ≡ take i entries ++ e ∷ [] = take_more entries i e within ∙ ap (λ x. take i entries ++ x ∷ []) (sym is)
-      in append_assoc numbers (map (λ k. first + k) (proved_of (take i entries))) ((first + e.candidate) ∷ [])
+      append_assoc numbers (map (λ k. first + k) (proved_of (take i entries))) ((first + e.candidate) ∷ [])
       ∙ ap (λ t. numbers ++ t)
       (sym
-      (ap (λ ps. map (λ k. first + k) (proved_of ps)) more
+      (ap (λ ps. map (λ k. first + k) (proved_of ps)) (take-at entries i e within is)
       ∙ ap (λ ks. map (λ k. first + k) ks) (map-append (λ (p : Proved). p.candidate) (take i entries) (e ∷ []))
       ∙ map-append (λ k. first + k) (proved_of (take i entries)) (e.candidate ∷ [])))
 
@@ -80,61 +82,102 @@ listed-all entries i first numbers h = ap (λ ps. numbers ++ map (λ k. first + 
 
 -- ---- the pairs
 
-numbers-from : (n : ℕ) (ps : List Proved) → proved_of (map (numbered_from n) ps) ≡ map (λ k. n + k) (proved_of ps)
+numbers-from : (n : ℕ) (ps : List Proved) → proved_of (map (entry_from n) ps) ≡ map (λ k. n + k) (proved_of ps)
 numbers-from n [] = refl
 numbers-from n (p ∷ ps) = ap (λ ks. (n + p.candidate) ∷ ks) (numbers-from n ps)
 
--- the shape at a place
-abbrev pub shape-at : List Shape → ℕ → Shape
-shape-at shapes i = get_or shapes i (record { refused = false; candidates = 0 })
-
-module _ (shapes : List Shape) (claims : List CertPair) (i : ℕ) (p : CertPair) (within : i < length shapes) (claimed : i < length claims) (claim : p ≡ get_or claims i p) where
-  pub shapes-here : drop i shapes ≡ shape-at shapes i ∷ drop (i + 1) shapes
-  shapes-here = drop_more shapes i (record { refused = false; candidates = 0 }) within
-
-  pub claims-here : drop i claims ≡ p ∷ drop (i + 1) claims
-  claims-here = drop_more claims i p claimed ∙ ap (λ x. x ∷ drop (i + 1) claims) (sym claim)
-
-  pub fits-step : FitsPairs (drop i shapes) (drop i claims) → FitsPair (shape-at shapes i) p × FitsPairs (drop (i + 1) shapes) (drop (i + 1) claims)
-  fits-step fits =
-      subst (λ (cs : List CertPair). FitsPairs (shape-at shapes i ∷ drop (i + 1) shapes) cs) claims-here
-      (subst (λ (ss : List Shape). FitsPairs ss (drop i claims)) shapes-here fits)
-
-  pub count-step : (first total : ℕ) → first + count_of (drop i shapes) ≡ total → (first + (shape-at shapes i).candidates) + count_of (drop (i + 1) shapes) ≡ total
-  count-step first total h = omega (arith, h, ap count_of shapes-here)
-
-  pub numbers-step : (numbers all : List ℕ) (first : ℕ) → numbers ++ proved_of (proofs_from first (drop i shapes) (drop i claims)) ≡ all → (numbers ++ map (λ k. first + k) (proved_of p.proved)) ++ proved_of (proofs_from (first + (shape-at shapes i).candidates) (drop (i + 1) shapes) (drop (i + 1) claims)) ≡ all
-  numbers-step numbers all first h =
-      let others = proofs_from (first + (shape-at shapes i).candidates) (drop (i + 1) shapes) (drop (i + 1) claims)
-      in append_assoc numbers (map (λ k. first + k) (proved_of p.proved)) (proved_of others)
-      ∙ ap (λ t. numbers ++ t)
-      (sym
-      (ap (λ ss. proved_of (proofs_from first ss (drop i claims))) shapes-here
-      ∙ ap (λ cs. proved_of (proofs_from first (shape-at shapes i ∷ drop (i + 1) shapes) cs)) claims-here
-      ∙ map-append (λ (q : Proved). q.candidate) (map (numbered_from first) p.proved) others
-      ∙ ap (λ ks. ks ++ proved_of others) (numbers-from first p.proved)))
-      ∙ h
-
-no-claims : (n : ℕ) (ss : List Shape) → proofs_from n ss [] ≡ []
-no-claims n [] = refl
-no-claims n (s ∷ ss) = refl
-
-pub numbers-all : (shapes : List Shape) (claims : List CertPair) (i first : ℕ) (numbers all : List ℕ) → length claims ≤ i → numbers ++ proved_of (proofs_from first (drop i shapes) (drop i claims)) ≡ all → all ≡ numbers
-numbers-all shapes claims i first numbers all h e =
-    sym e ∙ ap (λ cs. numbers ++ proved_of (proofs_from first (drop i shapes) cs)) (drop_all i claims h)
-    ∙ ap (λ ps. numbers ++ proved_of ps) (no-claims first (drop i shapes)) ∙ append-nil numbers
-
-pub fits-length : (ss : List Shape) (ps : List CertPair) → FitsPairs ss ps → length ss ≡ length ps
+pub fits-length : (ss : List PairHeader) (ps : List CertPair) → FitsPairs ss ps → length ss ≡ length ps
 fits-length [] [] f = refl
 fits-length (s ∷ ss) (p ∷ ps) f = ap suc (fits-length ss ps f.1)
 fits-length [] (p ∷ ps) f = absurd f
 fits-length (s ∷ ss) [] f = absurd f
 
--- ---- the lines of the pairs
+fits-at : (d s : PairHeader) (ss : List PairHeader) (ps : List CertPair) (i : ℕ) (p : CertPair) → FitsPairs ss ps → i < length ss → s ≡ get_or ss i d → p ≡ get_or ps i p → FitsPair s p
+fits-at d s [] ps i p f h k e = absurd (omega arith)
+fits-at d s (t ∷ ss) [] i p f h k e = absurd f
+fits-at d s (t ∷ ss) (q ∷ ps) zero p f h k e = rw (k, e) f.0
+fits-at d s (t ∷ ss) (q ∷ ps) (suc i) p f h k e = fits-at d s ss ps i p f.1 (omega arith) k e
 
-no-claims-fault : (queries : List (List Tree)) (first line : ℕ) (ss : List Shape) → pairs_fault queries first line ss [] ≡ None
-no-claims-fault queries first line [] = refl
-no-claims-fault queries first line (s ∷ ss) = refl
+none : PairHeader
+none = record { state = Open; candidates = 0 }
 
-pub no-fault-left : (queries : List (List Tree)) (first line : ℕ) (ss : List Shape) (claims : List CertPair) (i : ℕ) → length claims ≤ i → pairs_fault queries first line ss (drop i claims) ≡ None
-no-fault-left queries first line ss claims i h = ap (pairs_fault queries first line ss) (drop_all i claims h) ∙ no-claims-fault queries first line ss
+module _ (h : PairedPrograms) (claims : List CertPair) (fits : FitsPairs (headers_of h) claims) where
+  pub claims-count : length (pairs_in h) ≡ length claims
+  claims-count = sym (length-map (pairs_in h) (header_of h)) ∙ fits-length (headers_of h) claims fits
+
+  module _ (i : ℕ) (p : CertPair) (within : i < length (pairs_in h)) (claim : p ≡ get_or claims i p) where
+    own : PairHeader
+    own = get_or (headers_of h) i none
+
+    inside : i < length (headers_of h)
+    inside = omega (arith, length-map (pairs_in h) (header_of h))
+
+    headers-here : drop i (headers_of h) ≡ own ∷ drop (i + 1) (headers_of h)
+    unfolding own
+    headers-here = drop_more (headers_of h) i none inside
+
+    claims-here : drop i claims ≡ p ∷ drop (i + 1) claims
+    claims-here = drop-at claims i p (omega (arith, claims-count)) claim
+
+    next : count_before h i + own.candidates ≡ count_before h (i + 1)
+    next = omega (arith, before-count h (pairs_in h) i, before-count h (pairs_in h) (i + 1), ap count_of headers-here)
+
+    pub ascend-own : Ascend 0 (count_before h (i + 1) - count_before h i) (proved_of p.proved)
+    unfolding own
+    ascend-own =
+        let size : own.candidates ≡ count_before h (i + 1) - count_before h i = omega (arith, next) in
+        subst (λ (n : ℕ). Ascend 0 n (proved_of p.proved)) size (fits-at none own (headers_of h) claims i p fits inside refl claim).numbers
+
+    pub numbers-step : (numbers all : List ℕ) (first : ℕ) → first ≡ count_before h i → numbers ++ proved_of (proofs_from (count_before h i) (drop i (headers_of h)) (drop i claims)) ≡ all
+        → (numbers ++ map (λ k. first + k) (proved_of p.proved)) ++ proved_of (proofs_from (count_before h (i + 1)) (drop (i + 1) (headers_of h)) (drop (i + 1) claims)) ≡ all
+    numbers-step numbers all first begins e =
+        let others = proofs_from (count_before h (i + 1)) (drop (i + 1) (headers_of h)) (drop (i + 1) claims) in
+        append_assoc numbers (map (λ k. first + k) (proved_of p.proved)) (proved_of others)
+        ∙ ap (λ t. numbers ++ t)
+        (sym
+        (ap (λ ss. proved_of (proofs_from (count_before h i) ss (drop i claims))) headers-here
+        ∙ ap (λ cs. proved_of (proofs_from (count_before h i) (own ∷ drop (i + 1) (headers_of h)) cs)) claims-here
+        ∙ ap (λ n. proved_of (map (entry_from (count_before h i)) p.proved ++ proofs_from n (drop (i + 1) (headers_of h)) (drop (i + 1) claims))) next
+        ∙ map-append (λ (q : Proved). q.candidate) (map (entry_from (count_before h i)) p.proved) others
+        ∙ ap (λ ks. ks ++ proved_of others) (numbers-from (count_before h i) p.proved ∙ ap (λ n. map (λ k. n + k) (proved_of p.proved)) (sym begins))))
+        ∙ e
+
+    -- ---- the first bad step of the pairs from this one on
+
+    module _ (queries : List (List Tree)) (all : Option CertError) (line : ℕ) (proved : List Proved) (are : proved ≡ p.proved) (left : all ≡ pairs_fault queries (count_before h i) line (drop i (headers_of h)) (drop i claims)) where
+      others : Option CertError
+      others = pairs_fault queries (count_before h (i + 1)) (line + 1 + length (flat_map proved_lines proved)) (drop (i + 1) (headers_of h)) (drop (i + 1) claims)
+
+      fault-step : all ≡ or_next (entries_fault queries (count_before h i) (line + 1) proved) others
+      unfolding others
+      fault-step =
+          left ∙ ap (λ ss. pairs_fault queries (count_before h i) line ss (drop i claims)) headers-here
+          ∙ ap (λ cs. pairs_fault queries (count_before h i) line (own ∷ drop (i + 1) (headers_of h)) cs) claims-here
+          ∙ ap (λ n. or_next (entries_fault queries (count_before h i) (line + 1) p.proved) (pairs_fault queries n (line + 1 + length (flat_map proved_lines p.proved)) (drop (i + 1) (headers_of h)) (drop (i + 1) claims))) next
+          ∙ ap (λ ps. or_next (entries_fault queries (count_before h i) (line + 1) ps) (pairs_fault queries (count_before h (i + 1)) (line + 1 + length (flat_map proved_lines ps)) (drop (i + 1) (headers_of h)) (drop (i + 1) claims))) (sym are)
+
+      pub fault-here : (e : CertError) → (e ≡ NoMemory) ⊎ (entries_fault queries (count_before h i) (line + 1) proved ≡ Some e) → (e ≡ NoMemory) ⊎ (all ≡ Some e)
+      fault-here e (inl m) = inl m
+      fault-here e (inr f) = inr (fault-step ∙ ap (λ o. or_next o others) f)
+
+      pub fault-later : (below : ℕ) → entries_fault queries (count_before h i) (line + 1) proved ≡ None → below ≡ line + 1 + length (flat_map proved_lines proved) → all ≡ pairs_fault queries (count_before h (i + 1)) below (drop (i + 1) (headers_of h)) (drop (i + 1) claims)
+      unfolding others
+      fault-later below f is =
+          fault-step ∙ ap (λ o. or_next o others) f ∙ ap (λ n. pairs_fault queries (count_before h (i + 1)) n (drop (i + 1) (headers_of h)) (drop (i + 1) claims)) (sym is)
+
+  numbers-left : (n : ℕ) (ss : List PairHeader) → proofs_from n ss [] ≡ []
+  numbers-left n [] = refl
+  numbers-left n (s ∷ ss) = refl
+
+  pub numbers-all : (i first : ℕ) (numbers all : List ℕ) → length (pairs_in h) ≤ i → numbers ++ proved_of (proofs_from first (drop i (headers_of h)) (drop i claims)) ≡ all → all ≡ numbers
+  numbers-all i first numbers all past e =
+      sym e ∙ ap (λ cs. numbers ++ proved_of (proofs_from first (drop i (headers_of h)) cs)) (drop_all i claims (omega (arith, claims-count)))
+      ∙ ap (λ ps. numbers ++ proved_of ps) (numbers-left first (drop i (headers_of h))) ∙ append-nil numbers
+
+  fault-left : (queries : List (List Tree)) (first line : ℕ) (ss : List PairHeader) → pairs_fault queries first line ss [] ≡ None
+  fault-left queries first line [] = refl
+  fault-left queries first line (s ∷ ss) = refl
+
+  pub no-fault-left : (queries : List (List Tree)) (first line i : ℕ) → length (pairs_in h) ≤ i → pairs_fault queries first line (drop i (headers_of h)) (drop i claims) ≡ None
+  no-fault-left queries first line i past =
+      ap (pairs_fault queries first line (drop i (headers_of h))) (drop_all i claims (omega (arith, claims-count))) ∙ fault-left queries first line (drop i (headers_of h))

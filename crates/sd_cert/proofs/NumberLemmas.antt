@@ -4,10 +4,9 @@ use Rattle.std.specs.Prelude.{Option, Some, None, MatchOption}
 use Rattle.std.specs.List.{AllByRecursion, flat_map}
 use Rattle.std.specs.Fmt.{decimal}
 use Rattle.std.proofs.lemmas.Fmt.{decimal_injective}
-use Rattle.std.proofs.lemmas.Grind.{flat_map-append}
 use Rattle.std.proofs.lemmas.List.{append-nil, take_more}
 use Rattle.sd_cert.specs.Fields.{IsReadAs, has_byte, AreSmall, AreNumbers, numbers_text}
-use Rattle.sd_cert.proofs.AllLemmas.{all-weaker}
+use Rattle.sd_base.proofs.Lists.{all-push, all-weaker}
 use Rattle.sd_cert.proofs.ByteLemmas.{no_byte-append, no_byte-decimal, has_byte-within, first-unique}
 
 -- ---- bytes
@@ -24,7 +23,7 @@ no_feed-numbers (n ∷ []) f = no_feed-decimal n f.0
 no_feed-numbers (n ∷ m ∷ ns) f = no_byte-append 10 (decimal n) (32 ∷ numbers_text (m ∷ ns)) (no_feed-decimal n f.0) (no_feed-numbers (m ∷ ns) f.1)
 
 pub small-numbers : (n : ℕ) (ns : List ℕ) → n < 2 ^ 32 → AreSmall ns → AreNumbers (n ∷ ns)
-small-numbers n ns h f = (omega arith, all-weaker (λ m. m < 2 ^ 32) (λ m. m < 2 ^ 64) ns (λ m k. omega arith) f)
+small-numbers n ns h f = (omega arith, all-weaker (λ m. m < 2 ^ 32) (λ m. m < 2 ^ 64) (λ m k. omega arith) ns f)
 
 -- ---- one list
 
@@ -52,13 +51,9 @@ spaced ns = flat_map (λ n. decimal n ++ 32 ∷ []) ns
 abbrev pub AreLess : List ℕ → Type 0
 AreLess ns = AllByRecursion (λ n. n < 2 ^ 64) ns
 
-pub less-push : (ns : List ℕ) (n : ℕ) → AreLess ns → n < 2 ^ 64 → AreLess (ns ++ n ∷ [])
-less-push [] n f h = (h, tt)
-less-push (m ∷ ns) n f h = (f.0, less-push ns n f.1 h)
-
 numbers-push : (ns : List ℕ) (n : ℕ) → AreLess ns → n < 2 ^ 64 → AreNumbers (ns ++ n ∷ [])
 numbers-push [] n f h = (h, tt)
-numbers-push (m ∷ ns) n f h = (f.0, less-push ns n f.1 h)
+numbers-push (m ∷ ns) n f h = (f.0, all-push (λ k. k < 2 ^ 64) ns n f.1 h)
 
 spaced-last : (ns : List ℕ) (n : ℕ) → numbers_text (ns ++ n ∷ []) ≡ spaced ns ++ decimal n
 spaced-last [] n = refl
@@ -69,13 +64,13 @@ spaced-last (m ∷ k ∷ ns) n =
     ∙ sym (append_assoc (decimal m ++ 32 ∷ []) (spaced (k ∷ ns)) (decimal n))
 
 -- the numbers that a text spells begin with those in front of it
-record Begins (done rest ns : List ℕ) : Type 0 where
+record Begins (before rest ns : List ℕ) : Type 0 where
   left : List ℕ
-  whole : ns ≡ done ++ left
+  whole : ns ≡ before ++ left
   text : rest ≡ numbers_text left
   fit : AreNumbers left
 
-begins : (done rest ns : List ℕ) → AreLess done → AreNumbers ns → spaced done ++ rest ≡ numbers_text ns → Begins done rest ns
+begins : (before rest ns : List ℕ) → AreLess before → AreNumbers ns → spaced before ++ rest ≡ numbers_text ns → Begins before rest ns
 begins [] rest ns f g e = record { left = ns; whole = refl; text = e; fit = g }
 begins (d ∷ ds) rest [] f g e = absurd g
 begins (d ∷ ds) rest (n ∷ []) f g e =
@@ -92,13 +87,13 @@ begins (d ∷ ds) rest (n ∷ m ∷ ns) f g e =
       fit = others.fit;
     }
 
-module _ (text rest done : List ℕ) (less : AreLess done) (whole : text ≡ spaced done ++ rest) where
+module _ (text rest before : List ℕ) (less : AreLess before) (whole : text ≡ spaced before ++ rest) where
   -- what stands before the first space is no number
   pub none-before_space : (front more : List ℕ) → rest ≡ front ++ 32 ∷ more → has_byte 32 front ≡ false → ((n : ℕ) → n < 2 ^ 64 → front ≡ decimal n → ⊥) → (ns : List ℕ) → AreNumbers ns → text ≡ numbers_text ns → ⊥
   none-before_space front more is plain none ns f e = go b.left b.text b.fit
     where
-      b : Begins done rest ns
-      b = begins done rest ns less f (sym whole ∙ e)
+      b : Begins before rest ns
+      b = begins before rest ns less f (sym whole ∙ e)
 
       go : (left : List ℕ) → rest ≡ numbers_text left → AreNumbers left → ⊥
       go [] t g = g
@@ -110,29 +105,25 @@ module _ (text rest done : List ℕ) (less : AreLess done) (whole : text ≡ spa
     pub none-at_end : ((n : ℕ) → n < 2 ^ 64 → rest ≡ decimal n → ⊥) → (ns : List ℕ) → AreNumbers ns → text ≡ numbers_text ns → ⊥
     none-at_end none ns f e = go b.left b.text b.fit
       where
-        b : Begins done rest ns
-        b = begins done rest ns less f (sym whole ∙ e)
+        b : Begins before rest ns
+        b = begins before rest ns less f (sym whole ∙ e)
 
         go : (left : List ℕ) → rest ≡ numbers_text left → AreNumbers left → ⊥
         go [] t g = g
         go (n ∷ []) t g = none n g.0 t
         go (n ∷ m ∷ ns) t g = absurd (let h = has_byte-within 32 (decimal n) (numbers_text (m ∷ ns)) in let k = ap (has_byte 32) t in cc)
 
-    pub read-all : (n : ℕ) → n < 2 ^ 64 → rest ≡ decimal n → IsReadAs numbers_text AreNumbers text (Some (done ++ n ∷ []))
+    pub read-all : (n : ℕ) → n < 2 ^ 64 → rest ≡ decimal n → IsReadAs numbers_text AreNumbers text (Some (before ++ n ∷ []))
     read-all n h e =
-        let fit : AreNumbers (done ++ n ∷ []) = numbers-push done n less h
-        in let is : text ≡ numbers_text (done ++ n ∷ []) = whole ∙ ap (λ t. spaced done ++ t) e ∙ sym (spaced-last done n)
-        in ((fit, is), λ ns f t. ap Some (numbers-injective (done ++ n ∷ []) ns fit f (sym is ∙ t)))
+        let fit : AreNumbers (before ++ n ∷ []) = numbers-push before n less h
+        in let is : text ≡ numbers_text (before ++ n ∷ []) = whole ∙ ap (λ t. spaced before ++ t) e ∙ sym (spaced-last before n)
+        in ((fit, is), λ ns f t. ap Some (numbers-injective (before ++ n ∷ []) ns fit f (sym is ∙ t)))
 
 -- ---- one number more
 
 pub numbers-more : (n : ℕ) (ns : List ℕ) (m : ℕ) → numbers_text (n ∷ (ns ++ m ∷ [])) ≡ numbers_text (n ∷ ns) ++ 32 ∷ decimal m
 numbers-more n [] m = refl
 numbers-more n (k ∷ ns) m = ap (λ t. decimal n ++ 32 ∷ t) (numbers-more k ns m) ∙ sym (append_assoc (decimal n) (32 ∷ numbers_text (k ∷ ns)) (32 ∷ decimal m))
-
-small-push : (ns : List ℕ) (n : ℕ) → AreSmall ns → n < 2 ^ 32 → AreSmall (ns ++ n ∷ [])
-small-push [] n f h = (h, tt)
-small-push (m ∷ ns) n f h = (f.0, small-push ns n f.1 h)
 
 pub chain-pushed : (old now next front : List ℕ) (e : ℕ) (links : List ℕ) (i : ℕ) → i < length links → get_or links i 0 < 2 ^ 32 → next ≡ now ++ (32 ∷ decimal (get_or links i 0))
     → (now ≡ old ++ (front ++ numbers_text (e ∷ take i links))) × AreSmall (take i links) → (next ≡ old ++ (front ++ numbers_text (e ∷ take (i + 1) links))) × AreSmall (take (i + 1) links)
@@ -141,7 +132,7 @@ chain-pushed old now next front e links i within small pushed so_far =
     let more : take (i + 1) links ≡ take i links ++ link ∷ [] = take_more links i 0 within in (
       pushed ∙ ap (λ t. t ++ 32 ∷ decimal link) so_far.0 ∙ append_assoc old (front ++ numbers_text (e ∷ take i links)) (32 ∷ decimal link)
           ∙ ap (λ t. old ++ t) (append_assoc front (numbers_text (e ∷ take i links)) (32 ∷ decimal link) ∙ ap (λ t. front ++ t) (sym (numbers-more e (take i links) link) ∙ ap (λ ns. numbers_text (e ∷ ns)) (sym more))),
-      subst AreSmall (sym more) (small-push (take i links) link so_far.1 small),
+      subst AreSmall (sym more) (all-push (λ k. k < 2 ^ 32) (take i links) link so_far.1 small),
     )
 
 pub when-none : {A : Type 0} (P : Type 0) (Q : A → Type 0) (r : Option A) → MatchOption r P Q → ((x : A) → r ≡ Some x → ⊥) → P

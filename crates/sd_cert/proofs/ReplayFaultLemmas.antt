@@ -4,6 +4,7 @@ use Rattle.std.specs.Prelude.{Option, Some, None}
 use Rattle.std.specs.Option.{option_and_then}
 use Rattle.std.specs.List.{AllByRecursion}
 use Rattle.std.proofs.lemmas.List.{append-nil}
+use Rattle.std.proofs.Math.Seq.{take-append_seam}
 use Rattle.std.proofs.lemmas.Option.{same_Some}
 use Rattle.sd_term.specs.Tree.{Tree}
 use Rattle.sd_kernel.specs.Proof.{verdict}
@@ -12,8 +13,8 @@ use Rattle.sd_kernel.specs.declared.step.Verdict.TheVariants.{Accepted, Rejected
 use Rattle.sd_kernel.specs.declared.How.{How}
 use Rattle.sd_kernel.specs.declared.How.TheVariants.{Steps}
 use Rattle.sd_kernel.specs.declared.Proved.{Proved}
-use Rattle.sd_product.specs.Work.{Held, queries_under}
-use Rattle.sd_cert.specs.declared.shape.Shape.{Shape}
+use Rattle.sd_product.specs.Work.{PairedPrograms, queries_of}
+use Rattle.sd_cert.specs.declared.header.PairHeader.{PairHeader}
 use Rattle.sd_cert.specs.declared.digest.Digests.{Digests}
 use Rattle.sd_cert.specs.declared.certificate.CertPair.{CertPair}
 use Rattle.sd_cert.specs.declared.certificate.Certificate.{Certificate}
@@ -21,21 +22,21 @@ use Rattle.sd_cert.specs.declared.fault.CertError.{CertError}
 use Rattle.sd_cert.specs.declared.fault.CertError.TheVariants.{NoMemory, Version as OtherVersion, Line as BadLine, OtherOld, OtherNew, OtherSettings, Pair as OtherPair, Step as BadStep}
 use Rattle.sd_cert.specs.declared.line.Line.{Line}
 use Rattle.sd_cert.specs.declared.line.Line.TheVariants.{Version, Old, New, Settings, Pairs, Pair, Candidate, Step as StepLine, Rows, Row, End}
-use Rattle.sd_cert.specs.declared.refusal.Spot.{Spot}
-use Rattle.sd_cert.specs.Lines.{line_text, IsLine}
-use Rattle.sd_cert.specs.Text.{lines_text, BeginsWithoutLine, HasLines}
-use Rattle.sd_cert.specs.Phases.{Phase, at_version, done, after_line, after_lines}
+use Rattle.sd_cert.specs.declared.refusal.Position.{Position}
+use Rattle.sd_cert.specs.Lines.{IsLine}
+use Rattle.sd_cert.specs.Text.{lines_text, HasLines}
+use Rattle.sd_cert.specs.Phases.{Phase, at_version, complete, after_lines}
 use Rattle.sd_cert.specs.Certificates.{certificate_lines, certificate_text, IsCertificate}
 use Rattle.sd_cert.specs.Faults.{IsFault}
-use Rattle.sd_cert.specs.Refusals.{unless, or_next, refusal, spot_after, first_spot, first_refusal, refusal_or, first_fault}
+use Rattle.sd_cert.specs.Refusals.{fault_unless, or_next, refusal, position_after, first_position, first_refusal, refusal_or, first_fault}
 use Rattle.sd_cert.specs.BadSteps.{verdict_fault, how_fault, entry_fault, entries_fault, pairs_fault}
-use Rattle.sd_cert.specs.Shapes.{shapes_of}
+use Rattle.sd_cert.specs.Headers.{headers_of}
 use Rattle.sd_cert.specs.Tables.{table_of}
 use Rattle.sd_cert.specs.ReplayFaults.{IsRefused, HasBadStep, IsReplayFault, IsCertificateFault}
-use Rattle.sd_cert.proofs.TextLemmas.{no_feed, first_line-unique, lines_text-append}
-use Rattle.sd_cert.proofs.OneLine.{line_text-injective}
+use Rattle.sd_cert.proofs.TextLemmas.{lines_text-append}
 use Rattle.sd_cert.proofs.AcceptLemmas.{certificate-end}
-use Rattle.sd_cert.proofs.AllLemmas.{all-front}
+use Rattle.sd_cert.proofs.FaultLemmas.{after_lines-append, front-of}
+use Rattle.sd_base.proofs.Lists.{all-front}
 
 -- ---- bad steps
 
@@ -66,14 +67,14 @@ entries-steps queries first [] line = tt
 entries-steps queries first (p ∷ ps) line =
     next-steps (entry_fault queries first line p) _ (how-steps (line + 1) (get_or queries (first + p.candidate) []) p.how) (entries-steps queries first ps _)
 
-pairs-steps : (queries : List (List Tree)) (ss : List Shape) (ps : List CertPair) (first line : ℕ) → IsOfSteps (pairs_fault queries first line ss ps)
+pairs-steps : (queries : List (List Tree)) (ss : List PairHeader) (ps : List CertPair) (first line : ℕ) → IsOfSteps (pairs_fault queries first line ss ps)
 unfolding IsOfSteps
 pairs-steps queries [] ps first line = tt
 pairs-steps queries (s ∷ ss) [] first line = tt
 pairs-steps queries (s ∷ ss) (p ∷ ps) first line =
     next-steps (entries_fault queries first (line + 1) p.proved) _ (entries-steps queries first p.proved (line + 1)) (pairs-steps queries ss ps _ _)
 
-step-fault : (h : Held) (d : Digests) (text : List ℕ) (e : CertError) → IsOfSteps (Some e) → HasBadStep h d text e → IsReplayFault h d text e
+step-fault : (h : PairedPrograms) (d : Digests) (text : List ℕ) (e : CertError) → IsOfSteps (Some e) → HasBadStep h d text e → IsReplayFault h d text e
 unfolding IsOfSteps IsOfStep
 step-fault h d text (BadStep n cause) f s = s
 step-fault h d text _ f s = absurd f
@@ -88,39 +89,39 @@ IsOfWork OtherSettings = Unit {0}
 IsOfWork (OtherPair i) = Unit {0}
 IsOfWork _ = ⊥
 
-unless-work : (b : Bool) (o e : CertError) → IsOfWork o → unless b o ≡ Some e → IsOfWork e
+unless-work : (b : Bool) (o e : CertError) → IsOfWork o → fault_unless b o ≡ Some e → IsOfWork e
 unless-work true o e f h = absurd (cc)
 unless-work false o e f h = subst IsOfWork (same_Some o e h) f
 
-refusal-work : (shapes : List Shape) (d : Digests) (spot : Spot) (l : Line) (e : CertError) → refusal shapes d spot l ≡ Some e → IsOfWork e
+refusal-work : (headers : List PairHeader) (d : Digests) (position : Position) (l : Line) (e : CertError) → refusal headers d position l ≡ Some e → IsOfWork e
 unfolding IsOfWork
-refusal-work shapes d spot (Version n) e h = absurd (cc)
-refusal-work shapes d spot (Old o) e h = unless-work _ OtherOld e tt h
-refusal-work shapes d spot (New o) e h = unless-work _ OtherNew e tt h
-refusal-work shapes d spot (Settings o) e h = unless-work _ OtherSettings e tt h
-refusal-work shapes d spot (Pairs n) e h = unless-work _ (OtherPair _) e tt h
-refusal-work shapes d spot (Pair i s) e h = unless-work _ (OtherPair i) e tt h
-refusal-work shapes d spot (Candidate k) e h = unless-work _ (OtherPair _) e tt h
-refusal-work shapes d spot (StepLine s) e h = absurd (cc)
-refusal-work shapes d spot (Rows n) e h = absurd (cc)
-refusal-work shapes d spot (Row r) e h = absurd (cc)
-refusal-work shapes d spot End e h = absurd (cc)
+refusal-work headers d position (Version n) e h = absurd (cc)
+refusal-work headers d position (Old o) e h = unless-work _ OtherOld e tt h
+refusal-work headers d position (New o) e h = unless-work _ OtherNew e tt h
+refusal-work headers d position (Settings o) e h = unless-work _ OtherSettings e tt h
+refusal-work headers d position (Pairs n) e h = unless-work _ (OtherPair _) e tt h
+refusal-work headers d position (Pair i s) e h = unless-work _ (OtherPair i) e tt h
+refusal-work headers d position (Candidate k) e h = unless-work _ (OtherPair _) e tt h
+refusal-work headers d position (StepLine s) e h = absurd (cc)
+refusal-work headers d position (Rows n) e h = absurd (cc)
+refusal-work headers d position (Row r) e h = absurd (cc)
+refusal-work headers d position End e h = absurd (cc)
 
 -- the lines up to the first that is refused
-record Split (shapes : List Shape) (d : Digests) (spot : Spot) (lines : List Line) (e : CertError) : Type 0 where
+record Split (headers : List PairHeader) (d : Digests) (position : Position) (lines : List Line) (e : CertError) : Type 0 where
   front : List Line
   line : Line
   after : List Line
   whole : lines ≡ front ++ line ∷ after
-  passed : first_refusal shapes d spot front ≡ None
-  refused : first_refusal shapes d spot (front ++ line ∷ []) ≡ Some e
+  passed : first_refusal headers d position front ≡ None
+  refused : first_refusal headers d position (front ++ line ∷ []) ≡ Some e
   work : IsOfWork e
 
-split-refused : (shapes : List Shape) (d : Digests) (spot : Spot) (ls : List Line) (e : CertError) → first_refusal shapes d spot ls ≡ Some e → Split shapes d spot ls e
-split-refused shapes d spot [] e h = absurd (cc)
-split-refused shapes d spot (l ∷ ls) e h = go (refusal shapes d spot l) refl (split-refused shapes d (spot_after spot l) ls e) h
+split-refused : (headers : List PairHeader) (d : Digests) (position : Position) (ls : List Line) (e : CertError) → first_refusal headers d position ls ≡ Some e → Split headers d position ls e
+split-refused headers d position [] e h = absurd (cc)
+split-refused headers d position (l ∷ ls) e h = go (refusal headers d position l) refl (split-refused headers d (position_after position l) ls e) h
   where
-    go : (o : Option CertError) → refusal shapes d spot l ≡ o → (first_refusal shapes d (spot_after spot l) ls ≡ Some e → Split shapes d (spot_after spot l) ls e) → or_next o (first_refusal shapes d (spot_after spot l) ls) ≡ Some e → Split shapes d spot (l ∷ ls) e
+    go : (o : Option CertError) → refusal headers d position l ≡ o → (first_refusal headers d (position_after position l) ls ≡ Some e → Split headers d (position_after position l) ls e) → or_next o (first_refusal headers d (position_after position l) ls) ≡ Some e → Split headers d position (l ∷ ls) e
     go None is others k =
         let more = others k in
         record {
@@ -128,8 +129,8 @@ split-refused shapes d spot (l ∷ ls) e h = go (refusal shapes d spot l) refl (
           line = more.line;
           after = more.after;
           whole = ap (λ t. l ∷ t) more.whole;
-          passed = ap (λ o. or_next o (first_refusal shapes d (spot_after spot l) more.front)) is ∙ more.passed;
-          refused = ap (λ o. or_next o (first_refusal shapes d (spot_after spot l) (more.front ++ more.line ∷ []))) is ∙ more.refused;
+          passed = ap (λ o. or_next o (first_refusal headers d (position_after position l) more.front)) is ∙ more.passed;
+          refused = ap (λ o. or_next o (first_refusal headers d (position_after position l) (more.front ++ more.line ∷ []))) is ∙ more.refused;
           work = more.work;
         }
     go (Some x) is others k = record {
@@ -139,18 +140,17 @@ split-refused shapes d spot (l ∷ ls) e h = go (refusal shapes d spot l) refl (
       whole = refl;
       passed = refl;
       refused = ap (λ o. or_next o None) is ∙ k;
-      work = refusal-work shapes d spot l e (is ∙ k);
+      work = refusal-work headers d position l e (is ∙ k);
     }
 
 front-stands : (p q : Phase) (xs ys : List Line) → after_lines p (xs ++ ys) ≡ Some q → (r : Phase) × (after_lines p xs ≡ Some r)
-front-stands p q [] ys h = (p, refl)
-front-stands p q (x ∷ xs) ys h = go (after_line p x) (λ r. front-stands r q xs ys) h
+front-stands p q xs ys h = go (after_lines p xs) refl (sym (after_lines-append p xs ys) ∙ h)
   where
-    go : (o : Option Phase) → ((r : Phase) → after_lines r (xs ++ ys) ≡ Some q → (t : Phase) × (after_lines r xs ≡ Some t)) → option_and_then (λ r. after_lines r (xs ++ ys)) o ≡ Some q → (r : Phase) × (option_and_then (λ r. after_lines r xs) o ≡ Some r)
-    go None more k = absurd (cc)
-    go (Some r) more k = more r k
+    go : (o : Option Phase) → after_lines p xs ≡ o → option_and_then (λ r. after_lines r ys) o ≡ Some q → (r : Phase) × (after_lines p xs ≡ Some r)
+    go None is k = absurd (cc)
+    go (Some r) is k = (r, is)
 
-work-fault : (h : Held) (d : Digests) (text : List ℕ) (e : CertError) → IsOfWork e → IsRefused (shapes_of h) d text e → IsReplayFault h d text e
+work-fault : (h : PairedPrograms) (d : Digests) (text : List ℕ) (e : CertError) → IsOfWork e → IsRefused (headers_of h) d text e → IsReplayFault h d text e
 unfolding IsOfWork
 work-fault h d text OtherOld f r = r
 work-fault h d text OtherNew f r = r
@@ -158,10 +158,10 @@ work-fault h d text OtherSettings f r = r
 work-fault h d text (OtherPair i) f r = r
 work-fault h d text _ f r = absurd f
 
-module _ (h : Held) (d : Digests) (text : List ℕ) where
-  refused-fault : (lines : List Line) (rest : List ℕ) (phase : Phase) (e : CertError) → AllByRecursion IsLine lines → text ≡ lines_text lines ++ rest → after_lines at_version lines ≡ Some phase → first_refusal (shapes_of h) d first_spot lines ≡ Some e → IsReplayFault h d text e
+module _ (h : PairedPrograms) (d : Digests) (text : List ℕ) where
+  refused-fault : (lines : List Line) (rest : List ℕ) (phase : Phase) (e : CertError) → AllByRecursion IsLine lines → text ≡ lines_text lines ++ rest → after_lines at_version lines ≡ Some phase → first_refusal (headers_of h) d first_position lines ≡ Some e → IsReplayFault h d text e
   refused-fault lines rest phase e fit whole stand f =
-      let s = split-refused (shapes_of h) d first_spot lines e f in
+      let s = split-refused (headers_of h) d first_position lines e f in
       let upto = s.front ++ s.line ∷ [] in
       let parts : lines ≡ upto ++ s.after = s.whole ∙ sym (append_assoc s.front (s.line ∷ []) s.after) in
       let stands = front-stands at_version phase upto s.after (ap (after_lines at_version) (sym parts) ∙ stand) in
@@ -181,9 +181,9 @@ module _ (h : Held) (d : Digests) (text : List ℕ) where
 
   pub certificate-fault : (c : Certificate) (e : CertError) → IsCertificate c → text ≡ certificate_text c → IsCertificateFault h d c e → IsReplayFault h d text e
   certificate-fault c e f t (inl m) = subst (λ (x : CertError). IsReplayFault h d text x) (sym m) tt
-  certificate-fault c e f t (inr (inl r)) = refused-fault (certificate_lines c) [] done e f (t ∙ sym (append-nil (certificate_text c))) (certificate-end c) r
+  certificate-fault c e f t (inr (inl r)) = refused-fault (certificate_lines c) [] complete e f (t ∙ sym (append-nil (certificate_text c))) (certificate-end c) r
   certificate-fault c e f t (inr (inr s)) =
-      step-fault h d text e (subst IsOfSteps s.2 (pairs-steps (queries_under h (table_of (shapes_of h) c.pairs)) (shapes_of h) c.pairs 0 6)) record {
+      step-fault h d text e (subst IsOfSteps s.2 (pairs-steps (queries_of h (table_of (headers_of h) c.pairs)) (headers_of h) c.pairs 0 6)) record {
         certificate = c;
         form = f;
         whole = t;
@@ -194,31 +194,21 @@ module _ (h : Held) (d : Digests) (text : List ℕ) where
 
 -- ---- lines that were read
 
--- lines in front of a text are a front of those that were read
-prefix-of : (ls ms : List Line) (rest others : List ℕ) → AllByRecursion IsLine ls → AllByRecursion IsLine ms → BeginsWithoutLine others → lines_text ls ++ rest ≡ lines_text ms ++ others → ls ≡ take (length ls) ms
-prefix-of [] ms rest others f g stop e = refl
-prefix-of (l ∷ ls) [] rest others f g stop e = absurd (stop l (lines_text ls ++ rest) f.0 (sym e ∙ append_assoc (line_text l) (10 ∷ lines_text ls) rest))
-prefix-of (l ∷ ls) (m ∷ ms) rest others f g stop e =
-    let parts = first_line-unique (line_text l) (lines_text ls ++ rest) (line_text m) (lines_text ms ++ others) (no_feed l f.0) (no_feed m g.0)
-    (sym (append_assoc (line_text l) (10 ∷ lines_text ls) rest) ∙ e ∙ append_assoc (line_text m) (10 ∷ lines_text ms) others) in
-    let same : l ≡ m = line_text-injective l m f.0 g.0 parts.0 in
-    let more : ls ≡ take (length ls) ms = prefix-of ls ms rest others f.1 g.1 stop parts.1 in
-    λ i. same i ∷ more i
-
-module _ (h : Held) (d : Digests) (text : List ℕ) (lines : List Line) (rest : List ℕ) (has : HasLines text lines rest) where
+module _ (h : PairedPrograms) (d : Digests) (text : List ℕ) (lines : List Line) (rest : List ℕ) (has : HasLines text lines rest) where
   before-is : (n : ℕ) (ls : List Line) (others : List ℕ) → AllByRecursion IsLine ls → text ≡ lines_text ls ++ others → n ≡ length ls + 1 → ls ≡ take (n - 1) lines
   before-is n ls others f w e =
       let count : length ls ≡ n - 1 = omega arith in
-      prefix-of ls lines others rest f has.fit has.stop (sym w ∙ has.whole) ∙ ap (λ k. take k lines) count
+      let parts = front-of ls lines others rest f has.fit has.stop (sym w ∙ has.whole) in
+      sym (take-append_seam ls parts.0) ∙ ap (take (length ls)) (sym parts.1) ∙ ap (λ k. take k lines) count
 
-  line-fault : (n : ℕ) → IsFault text (BadLine n) → (o : Option CertError) → first_refusal (shapes_of h) d first_spot (take (n - 1) lines) ≡ o → IsReplayFault h d text (refusal_or o (BadLine n))
-  line-fault n fault None is = (fault, λ ls others f w e. ap (first_refusal (shapes_of h) d first_spot) (before-is n ls others f w e) ∙ is)
+  line-fault : (n : ℕ) → IsFault text (BadLine n) → (o : Option CertError) → first_refusal (headers_of h) d first_position (take (n - 1) lines) ≡ o → IsReplayFault h d text (refusal_or o (BadLine n))
+  line-fault n fault None is = (fault, λ ls others f w e. ap (first_refusal (headers_of h) d first_position) (before-is n ls others f w e) ∙ is)
   line-fault n fault (Some e) is =
       let at = fault.0 in
-      refused-fault h d text at.lines at.rest at.phase e at.fit at.whole at.before (ap (first_refusal (shapes_of h) d first_spot) (before-is n at.lines at.rest at.fit at.whole at.number) ∙ is)
+      refused-fault h d text at.lines at.rest at.phase e at.fit at.whole at.before (ap (first_refusal (headers_of h) d first_position) (before-is n at.lines at.rest at.fit at.whole at.number) ∙ is)
 
-  pub reading-fault : (fault : CertError) → IsFault text fault → IsReplayFault h d text (first_fault (shapes_of h) d lines fault)
+  pub reading-fault : (fault : CertError) → IsFault text fault → IsReplayFault h d text (first_fault (headers_of h) d lines fault)
   reading-fault NoMemory f = tt
   reading-fault (OtherVersion v) f = f
-  reading-fault (BadLine n) f = line-fault n f (first_refusal (shapes_of h) d first_spot (take (n - 1) lines)) refl
+  reading-fault (BadLine n) f = line-fault n f (first_refusal (headers_of h) d first_position (take (n - 1) lines)) refl
   reading-fault _ f = absurd f

@@ -1,7 +1,7 @@
 -- A text grows line by line.
 use Rattle.std.proofs.Common.{◌≡◌, ℕ, ◌+◌, ◌<◌, List, [], ◌∷◌, ◌++◌, map, length, get_or, take, sym, ap, ◌∙◌, subst, arith, append_assoc}
 use Rattle.std.specs.List.{flat_map}
-use Rattle.std.proofs.lemmas.List.{take_more, map_more, length-take-le, append-nil}
+use Rattle.std.proofs.lemmas.List.{map_more, length-take-le, append-nil}
 use Rattle.std.proofs.lemmas.Grind.{flat_map-append}
 use Rattle.sd_kernel.specs.declared.RowLine.{RowLine}
 use Rattle.sd_kernel.specs.declared.Proved.{Proved}
@@ -14,8 +14,8 @@ use Rattle.sd_cert.specs.Lines.{IsLine}
 use Rattle.sd_cert.specs.Added.{IsAdded}
 use Rattle.sd_cert.specs.Certificates.{proved_lines, pair_lines, certificate_lines}
 use Rattle.sd_cert.proofs.TextLemmas.{lines_text-append}
-use Rattle.sd_cert.proofs.DraftLemmas.{pair_lines-push}
-use Rattle.sd_cert.proofs.AllLemmas.{all-append}
+use Rattle.sd_cert.proofs.PrefixLemmas.{pair_lines-push}
+use Rattle.sd_base.proofs.Lists.{all-append, take-at}
 
 -- the lines are the same ones
 pub added-same : (ls ms : List Line) (old new : List ℕ) → ls ≡ ms → IsAdded ls old new → IsAdded ms old new
@@ -31,7 +31,7 @@ pushed old now next ls ms h k = record {
 pub item-pushed : {A : Type 0} (lines_of : A → List Line) (old now next : List ℕ) (xs : List A) (i : ℕ) (x : A) → i < length xs → x ≡ get_or xs i x → IsAdded (flat_map lines_of (take i xs)) old now → IsAdded (lines_of x) now next → IsAdded (flat_map lines_of (take (i + 1) xs)) old next
 item-pushed lines_of old now next xs i x within at h k =
     let more =
-    ap (flat_map lines_of) (take_more xs i x within ∙ ap (λ y. take i xs ++ y ∷ []) (sym at))
+    ap (flat_map lines_of) (take-at xs i x within at)
     ∙ flat_map-append lines_of (take i xs) (x ∷ []) ∙ ap (λ ls. flat_map lines_of (take i xs) ++ ls) (append-nil (lines_of x))
     in added-same _ _ old next (sym more) (pushed old now next (flat_map lines_of (take i xs)) (lines_of x) h k)
 
@@ -43,7 +43,7 @@ pub pairs-pushed : (old now middle next : List ℕ) (ps : List CertPair) (i : �
 pairs-pushed old now middle next ps i p proved within at are h k m =
     let place : 0 + length (take i ps) ≡ i = omega (arith, length-take-le i ps (omega arith))
     in let more =
-    ap (pair_lines 0) (take_more ps i p within ∙ ap (λ x. take i ps ++ x ∷ []) (sym at)) ∙ pair_lines-push 0 (take i ps) p
+    ap (pair_lines 0) (take-at ps i p within at) ∙ pair_lines-push 0 (take i ps) p
     ∙ ap (λ n. pair_lines 0 (take i ps) ++ Pair n p.state ∷ flat_map proved_lines p.proved) place
     ∙ ap (λ l. pair_lines 0 (take i ps) ++ Pair i p.state ∷ flat_map proved_lines l) (sym are)
     ∙ sym (append_assoc (pair_lines 0 (take i ps)) (Pair i p.state ∷ []) (flat_map proved_lines proved))

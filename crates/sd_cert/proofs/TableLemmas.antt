@@ -1,20 +1,20 @@
 -- The table of a certificate is the one that has just its candidates live.
-use Rattle.std.proofs.Common.{◌≡◌, ℕ, zero, suc, ◌+◌, ◌<◌, Bool, true, false, List, [], ◌∷◌, length, refl, sym, ap, ◌∙◌, subst, arith, eq-eqb, inl, inr}
+use Rattle.std.proofs.Common.{◌≡◌, ℕ, zero, suc, ◌<◌, Bool, true, false, List, [], ◌∷◌, length, refl, sym, ap, ◌∙◌, arith, eq-eqb, inl, inr}
 use Rattle.std.specs.Prelude.{Some, None, ◌||◌, ◌⊎◌}
 use Rattle.std.proofs.lemmas.Bool.{ne_eqb}
-use Rattle.sd_product.specs.Work.{Held, queries_under}
+use Rattle.sd_product.specs.Work.{PairedPrograms, claims_in, queries_of}
 use Rattle.sd_product.specs.Inductive.{proved_of, live_from, IsInductive}
-use Rattle.sd_cert.specs.declared.shape.Shape.{Shape}
+use Rattle.sd_cert.specs.declared.header.PairHeader.{PairHeader}
 use Rattle.sd_cert.specs.declared.digest.Digests.{Digests}
 use Rattle.sd_cert.specs.declared.certificate.CertPair.{CertPair}
 use Rattle.sd_cert.specs.declared.fault.CertError.{CertError}
 use Rattle.sd_cert.specs.declared.fault.CertError.TheVariants.{NoMemory}
 use Rattle.sd_cert.specs.Accepts.{FitsPairs, proofs_from, Accepts}
 use Rattle.sd_cert.specs.BadSteps.{pairs_fault, step_fault}
-use Rattle.sd_cert.specs.Shapes.{shapes_of, count_of}
+use Rattle.sd_cert.specs.Headers.{headers_of, count_of}
 use Rattle.sd_cert.specs.Tables.{is_listed, table_from, table_of}
-use Rattle.sd_cert.proofs.ShapeLemmas.{count-in, count-queries}
-use Rattle.sd_cert.proofs.JudgeLemmas.{pairs-proved, proved-pairs}
+use Rattle.sd_cert.proofs.HeaderLemmas.{count-in, count-queries}
+use Rattle.sd_cert.proofs.JudgeLemmas.{pairs-exact}
 
 -- ---- numbers of a table
 
@@ -40,36 +40,29 @@ live-table n (false ∷ bs) =
     ap (λ b. b ∷ table_from (suc n) (length bs) (live_from (suc n) bs)) (not-listed n (suc n) bs (omega arith))
     ∙ ap (λ t. false ∷ t) (live-table (suc n) bs)
 
-pub listed-table : (shapes : List Shape) (claims : List CertPair) (table : List Bool) → length table ≡ count_of shapes → proved_of (proofs_from 0 shapes claims) ≡ live_from 0 table → table ≡ table_of shapes claims
-listed-table shapes claims table size live =
-    sym (live-table 0 table) ∙ ap (λ n. table_from 0 n (live_from 0 table)) size ∙ ap (table_from 0 (count_of shapes)) (sym live)
+pub listed-table : (headers : List PairHeader) (claims : List CertPair) (table : List Bool) → length table ≡ count_of headers → proved_of (proofs_from 0 headers claims) ≡ live_from 0 table → table ≡ table_of headers claims
+listed-table headers claims table size live =
+    sym (live-table 0 table) ∙ ap (λ n. table_from 0 n (live_from 0 table)) size ∙ ap (table_from 0 (count_of headers)) (sym live)
 
 -- ---- the table under which entries are judged
 
--- what is accepted has no bad step
-pub accepted-passes : (h : Held) (d : Digests) (text : List ℕ) (table : List Bool) (a : Accepts h d text table) → step_fault h a.certificate.pairs ≡ None
-accepted-passes h d text table a =
-    let pairs = a.certificate.pairs in
-    let own : table ≡ table_of (shapes_of h) pairs = listed-table (shapes_of h) pairs table (a.size ∙ sym (count-in h)) a.inductive.numbers in
-    ap (λ (t : List Bool). pairs_fault (queries_under h t) 0 6 (shapes_of h) pairs) (sym own)
-    ∙ proved-pairs (queries_under h table) 0 6 (shapes_of h) pairs (count-queries h table) a.fits a.inductive.proved
+module _ (h : PairedPrograms) (d : Digests) (text : List ℕ) (table : List Bool) (a : Accepts h d text table) where
+  pub accepted-table : table ≡ table_of (headers_of h) a.certificate.pairs
+  accepted-table = listed-table (headers_of h) a.certificate.pairs table (a.size ∙ sym (count-in h)) a.inductive.numbers
 
-module _ (h : Held) (shapes : List Shape) (claims : List CertPair) (table : List Bool) (own : shapes ≡ shapes_of h) (size : length table ≡ count_of shapes) (live : proved_of (proofs_from 0 shapes claims) ≡ live_from 0 table) where
+  -- what is accepted has no bad step
+  pub accepted-passes : step_fault h a.certificate.pairs ≡ None
+  accepted-passes =
+      ap (λ (t : List Bool). pairs_fault (queries_of h t) 0 6 (headers_of h) a.certificate.pairs) (sym accepted-table)
+      ∙ (pairs-exact (queries_of h table) 0 6 (headers_of h) a.certificate.pairs (count-queries h table) a.fits).1 a.inductive.proved
+
+module _ (h : PairedPrograms) (claims : List CertPair) (table : List Bool) (size : length table ≡ length (claims_in h)) (live : proved_of (proofs_from 0 (headers_of h) claims) ≡ live_from 0 table) where
   -- entries without a bad step are proofs
-  pub passes-inductive : FitsPairs shapes claims → pairs_fault (queries_under h table) 0 6 shapes claims ≡ None → IsInductive (queries_under h table) table (proofs_from 0 (shapes_of h) claims)
-  passes-inductive fits none =
-      let count : 0 + count_of shapes ≡ length (queries_under h table) = omega (arith, ap count_of own, count-queries h table) in
-      subst (λ (ss : List Shape). IsInductive (queries_under h table) table (proofs_from 0 ss claims)) own record {
-        numbers = live;
-        proved = pairs-proved (queries_under h table) 0 6 shapes claims count fits none;
-      }
+  pub passes-inductive : FitsPairs (headers_of h) claims → pairs_fault (queries_of h table) 0 6 (headers_of h) claims ≡ None → IsInductive h table (proofs_from 0 (headers_of h) claims)
+  passes-inductive fits none = record { numbers = live; proved = (pairs-exact (queries_of h table) 0 6 (headers_of h) claims (count-queries h table) fits).0 none }
 
   -- the first bad step under this table is that of the certificate
-  own-fault : step_fault h claims ≡ pairs_fault (queries_under h table) 0 6 shapes claims
-  own-fault =
-      ap (λ (ss : List Shape). pairs_fault (queries_under h (table_of ss claims)) 0 6 ss claims) (sym own)
-      ∙ ap (λ (t : List Bool). pairs_fault (queries_under h t) 0 6 shapes claims) (sym (listed-table shapes claims table size live))
-
-  pub own-fault-is : (e : CertError) → (e ≡ NoMemory) ⊎ (pairs_fault (queries_under h table) 0 6 shapes claims ≡ Some e) → (e ≡ NoMemory) ⊎ (step_fault h claims ≡ Some e)
-  own-fault-is e (inl m) = inl m
-  own-fault-is e (inr f) = inr (own-fault ∙ f)
+  pub own-fault : (e : CertError) → (e ≡ NoMemory) ⊎ (pairs_fault (queries_of h table) 0 6 (headers_of h) claims ≡ Some e) → (e ≡ NoMemory) ⊎ (step_fault h claims ≡ Some e)
+  own-fault e (inl m) = inl m
+  own-fault e (inr f) =
+      inr (ap (λ (t : List Bool). pairs_fault (queries_of h t) 0 6 (headers_of h) claims) (sym (listed-table (headers_of h) claims table (size ∙ sym (count-in h)) live)) ∙ f)

@@ -1,23 +1,23 @@
 -- Lines have no line feeds, so a text has one first line at most.
 use Rattle.std.proofs.Common.{◌≡◌, ℕ, ◌==◌, Bool, true, false, List, [], ◌∷◌, ◌++◌, get_or, sym, refl, ap, ◌∙◌, arith, append_assoc}
-use Rattle.std.specs.List.{AllByRecursion}
+use Rattle.std.specs.Prelude.{Some, None}
 use Rattle.std.specs.Fmt.{decimal}
 use Rattle.std.proofs.lemmas.List.Folds.{list_any_none}
 use Rattle.hex.specs.Hex.{encode_lower, is_hex_digit}
 use Rattle.hex.proofs.HexLemmas.{decode_of-encode_lower, decode_of-ok}
 use borrow.Author.Tests.{eqb-true}
-use Rattle.sd_kernel.specs.declared.Step.TheVariants.{Term, Split, Order, Ite, Chain, Close, Rows as RowsStep}
-use Rattle.sd_kernel.specs.declared.NodeLine.TheVariants.{Eq, Le, Read, Diff}
-use Rattle.sd_kernel.specs.declared.RowLine.TheVariants.{Fact, Back, Add, Cut}
 use Rattle.sd_cert.specs.declared.line.CertState.TheVariants.{Open, Refused}
 use Rattle.sd_cert.specs.declared.line.CertState.{CertState}
+use Rattle.sd_cert.specs.declared.keyword.Keyword.{Keyword}
+use Rattle.sd_cert.specs.declared.keyword.Keyword.TheVariants as word
 use Rattle.sd_cert.specs.declared.line.Line.{Line}
-use Rattle.sd_cert.specs.declared.line.Line.TheVariants.{Version, Old, New, Settings, Pairs, Pair, Candidate, Step as StepLine, Rows, Row, End}
 use Rattle.sd_cert.specs.Fields.{IsDigest}
+use Rattle.sd_cert.specs.Keywords.{front_of}
 use Rattle.sd_cert.specs.Lines.{line_text, IsLine, state_text}
 use Rattle.sd_cert.specs.Text.{has_feed, lines_text, BeginsWithoutLine}
 use Rattle.sd_cert.proofs.ByteLemmas.{no_byte-append, first-unique}
-use Rattle.sd_cert.proofs.NumberLemmas.{no_feed-decimal, no_feed-numbers, small-numbers}
+use Rattle.sd_cert.proofs.NumberLemmas.{no_feed-decimal, no_feed-numbers}
+use Rattle.sd_cert.proofs.FormLemmas.{Fields, digest, pair, numbers, fields_text, AreFields, Form, IsForm, form_of, form_text, form-fits, text-of_form}
 
 -- ---- no line feed in a line
 
@@ -35,30 +35,21 @@ no_feed-state : (s : CertState) → has_feed (state_text s) ≡ false
 no_feed-state Open = refl
 no_feed-state Refused = refl
 
+no_feed-fields : (f : Fields) → AreFields f → has_feed (fields_text f) ≡ false
+no_feed-fields (digest d) h = no_feed-digest d h
+no_feed-fields (pair i s) h = no_byte-append 10 (decimal i) (state_text s) (no_feed-decimal i (omega arith)) (no_feed-state s)
+no_feed-fields (numbers ns) h = no_feed-numbers ns h
+
+no_feed-front : (k : Keyword) → has_feed (front_of k) ≡ false
+no_feed-front word.Version = refl
+no_feed-front _ = refl
+
 pub no_feed : (l : Line) → IsLine l → has_feed (line_text l) ≡ false
-no_feed (Version n) h = no_feed-decimal n h
-no_feed (Old d) h = no_feed-digest d h
-no_feed (New d) h = no_feed-digest d h
-no_feed (Settings d) h = no_feed-digest d h
-no_feed (Pairs n) h = no_feed-decimal n h
-no_feed (Pair i s) h = no_byte-append 10 (decimal i) (state_text s) (no_feed-decimal i (omega arith)) (no_feed-state s)
-no_feed (Candidate k) h = no_feed-decimal k (omega arith)
-no_feed (StepLine (Term (Eq a b))) h = no_feed-numbers (a ∷ b ∷ []) (small-numbers a (b ∷ []) h.0 (h.1, tt))
-no_feed (StepLine (Term (Le a b))) h = no_feed-numbers (a ∷ b ∷ []) (small-numbers a (b ∷ []) h.0 (h.1, tt))
-no_feed (StepLine (Term (Read a b))) h = no_feed-numbers (a ∷ b ∷ []) (small-numbers a (b ∷ []) h.0 (h.1, tt))
-no_feed (StepLine (Term (Diff a b))) h = no_feed-numbers (a ∷ b ∷ []) (small-numbers a (b ∷ []) h.0 (h.1, tt))
-no_feed (StepLine (Split t)) h = no_feed-decimal t (omega arith)
-no_feed (StepLine (Order e l r)) h = no_feed-numbers (e ∷ l ∷ r ∷ []) (small-numbers e (l ∷ r ∷ []) h.0 (h.1, (h.2, tt)))
-no_feed (StepLine (Ite t e)) h = no_feed-numbers (t ∷ e ∷ []) (small-numbers t (e ∷ []) h.0 (h.1, tt))
-no_feed (StepLine (Chain e fs)) h = no_feed-numbers (e ∷ fs) (small-numbers e fs h.0 h.1)
-no_feed (StepLine (Close f)) h = no_feed-decimal f (omega arith)
-no_feed (StepLine (RowsStep rows)) h = absurd h
-no_feed (Rows n) h = no_feed-decimal n h
-no_feed (Row (Fact k)) h = no_feed-decimal k (omega arith)
-no_feed (Row (Back k)) h = no_feed-decimal k (omega arith)
-no_feed (Row (Add a m b n)) h = no_feed-numbers (a ∷ m ∷ b ∷ n ∷ []) (omega (arith, h.0), (h.1, (omega (arith, h.2), (h.3, tt))))
-no_feed (Row (Cut a)) h = no_feed-decimal a (omega arith)
-no_feed End h = refl
+no_feed l h = ap has_feed (text-of_form l h) ∙ go (form_of l) (form-fits l h)
+  where
+    go : (o : Form) → IsForm o → has_feed (form_text o) ≡ false
+    go None f = refl
+    go (Some (k, x)) f = no_byte-append 10 (front_of k) (fields_text x) (no_feed-front k) (no_feed-fields x f)
 
 -- ---- one first line
 
@@ -67,10 +58,6 @@ first_line-unique = first-unique 10
 
 pub without_form : (text front rest : List ℕ) → text ≡ front ++ 10 ∷ rest → has_feed front ≡ false → ((l : Line) → IsLine l → front ≡ line_text l → ⊥) → BeginsWithoutLine text
 without_form text front rest whole h none l more f e = none l f (first_line-unique front rest (line_text l) more h (no_feed l f) (sym whole ∙ e)).0
-
-pub fit-push : (ls : List Line) (l : Line) → AllByRecursion IsLine ls → IsLine l → AllByRecursion IsLine (ls ++ l ∷ [])
-fit-push [] l h k = (k, tt)
-fit-push (m ∷ ls) l h k = (h.0, fit-push ls l h.1 k)
 
 pub lines_text-append : (ls ms : List Line) → lines_text (ls ++ ms) ≡ lines_text ls ++ lines_text ms
 lines_text-append [] ms = refl

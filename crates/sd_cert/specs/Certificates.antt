@@ -9,7 +9,8 @@ use Rattle.sd_kernel.specs.declared.Proved.{Proved}
 use Rattle.sd_cert.specs.declared.certificate.CertPair.{CertPair}
 use Rattle.sd_cert.specs.declared.certificate.Certificate.{Certificate}
 use Rattle.sd_cert.specs.declared.line.Line.{Line}
-use Rattle.sd_cert.specs.declared.line.Line.TheVariants.{Version, Old, New, Settings, Pairs, Pair, Candidate, Step as StepLine, Rows, Row, End}
+use Rattle.sd_cert.specs.declared.line.Line.TheVariants.{Version, Old, New, Settings, Pairs, Pair, Candidate}
+use Rattle.sd_cert.specs.declared.line.Line.TheVariants.{Step as StepLine, Rows, Row, End}
 use Rattle.sd_cert.specs.Lines.{IsLine}
 use Rattle.sd_cert.specs.Text.{lines_text}
 
@@ -32,7 +33,8 @@ pair_lines i (p ∷ ps) = Pair i p.state ∷ (flat_map proved_lines p.proved ++ 
 
 abbrev pub certificate_lines : Certificate → List Line
 certificate_lines c =
-    Version 1 ∷ Old c.digests.old ∷ New c.digests.new ∷ Settings c.digests.settings ∷ Pairs (length c.pairs) ∷ (pair_lines 0 c.pairs ++ End ∷ [])
+    Version 1 ∷ Old c.digests.old ∷ New c.digests.new ∷ Settings c.digests.settings ∷ Pairs (length c.pairs)
+    ∷ (pair_lines 0 c.pairs ++ End ∷ [])
 
 abbrev pub certificate_text : Certificate → List ℕ
 certificate_text c = lines_text (certificate_lines c)

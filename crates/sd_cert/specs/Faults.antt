@@ -7,9 +7,10 @@ use Rattle.sd_cert.specs.declared.line.Line.{Line}
 use Rattle.sd_cert.specs.declared.line.Line.TheVariants.{Version}
 use Rattle.sd_cert.specs.Lines.{line_text, IsLine}
 use Rattle.sd_cert.specs.Text.{lines_text}
-use Rattle.sd_cert.specs.Phases.{Phase, at_version, done, after_line, after_lines}
+use Rattle.sd_cert.specs.Phases.{Phase, at_version, complete, after_line, after_lines}
 
--- The lines before the one with this number follow one another, and no line with a form that can follow them comes next; and the text doesn't end with them as a certificate does.
+-- The lines before the one with this number follow one another, and no line with a form that can follow them comes
+-- next; and the text doesn't end with them as a certificate does.
 pub record StopsAt (text : List ℕ) (n : ℕ) : Type 0 where
   pub lines : List Line
   pub rest : List ℕ
@@ -18,7 +19,7 @@ pub record StopsAt (text : List ℕ) (n : ℕ) : Type 0 where
   pub whole : text ≡ lines_text lines ++ rest
   pub before : after_lines at_version lines ≡ Some phase
   pub stuck : (l : Line) (more : List ℕ) → IsLine l → rest ≡ line_text l ++ 10 ∷ more → after_line phase l ≡ None
-  pub unfinished : phase ≡ done → rest ≡ [] → ⊥
+  pub unfinished : phase ≡ complete → rest ≡ [] → ⊥
   pub number : n ≡ length lines + 1
 
 -- the first line is that of a version
@@ -49,7 +50,8 @@ pub record IsStuckAt (lines : List Line) (n : ℕ) : Type 0 where
 abbrev pub IsLineFault : List Line → CertError → Type 0
 IsLineFault lines NoMemory = Unit {0}
 IsLineFault lines (OtherVersion version) = (after : List Line) × (lines ≡ Version version ∷ after) × (version ≢ 1)
-IsLineFault lines (BadLine n) = IsStuckAt lines n × ((version : ℕ) (after : List Line) → lines ≡ Version version ∷ after → version ≡ 1)
+IsLineFault lines (BadLine n) =
+    IsStuckAt lines n × ((version : ℕ) (after : List Line) → lines ≡ Version version ∷ after → version ≡ 1)
 IsLineFault lines _ = ⊥
 
 -- what is said of a bad line at this place, from 0

@@ -1,7 +1,9 @@
 -- The words that begin lines.
 use Rattle.std.specs.Prelude.{ℕ, List, [], ◌∷◌, Option, Some, None, codes}
 use Rattle.sd_cert.specs.declared.keyword.Keyword.{Keyword}
-use Rattle.sd_cert.specs.declared.keyword.Keyword.TheVariants.{Version, Old, New, Settings, Pairs, Pair, Candidate, TermEq, TermLe, TermRead, TermDiff, Split, Order, Ite, Chain, Close, Rows, Fact, Back, Add, Cut}
+use Rattle.sd_cert.specs.declared.keyword.Keyword.TheVariants.{Version, Old, New, Settings, Pairs, Pair, Candidate}
+use Rattle.sd_cert.specs.declared.keyword.Keyword.TheVariants.{TermEq, TermLe, TermRead, TermDiff, Split, Order, Ite}
+use Rattle.sd_cert.specs.declared.keyword.Keyword.TheVariants.{Chain, Close, Rows, Fact, Back, Add, Cut}
 use Rattle.sd_cert.specs.Fields.{after_front}
 
 abbrev pub front_of : Keyword → List ℕ
@@ -29,7 +31,8 @@ front_of Cut = codes "cut "
 
 abbrev pub keywords : List Keyword
 keywords =
-    Version ∷ Old ∷ New ∷ Settings ∷ Pairs ∷ Pair ∷ Candidate ∷ TermEq ∷ TermLe ∷ TermRead ∷ TermDiff ∷ Split ∷ Order ∷ Ite ∷ Chain ∷ Close ∷ Rows ∷ Fact ∷ Back ∷ Add ∷ Cut ∷ []
+    Version ∷ Old ∷ New ∷ Settings ∷ Pairs ∷ Pair ∷ Candidate ∷ TermEq ∷ TermLe ∷ TermRead ∷ TermDiff ∷ Split ∷ Order
+    ∷ Ite ∷ Chain ∷ Close ∷ Rows ∷ Fact ∷ Back ∷ Add ∷ Cut ∷ []
 
 abbrev pub with_rest : Keyword → Option (List ℕ) → Option (Keyword × List ℕ) → Option (Keyword × List ℕ)
 with_rest k None other = other

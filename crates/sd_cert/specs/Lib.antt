@@ -1,14 +1,14 @@
 pub mod Fields
 pub mod Keywords
 pub mod Lines
-pub mod Numbered
+pub mod NumberLines
 pub mod Text
 pub mod Added
 pub mod Certificates
 pub mod Phases
-pub mod Drafts
+pub mod Prefixes
 pub mod Faults
-pub mod Shapes
+pub mod Headers
 pub mod Accepts
 pub mod Refusals
 pub mod BadSteps

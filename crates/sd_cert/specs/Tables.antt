@@ -2,10 +2,10 @@
 use Rattle.std.specs.Prelude.{◌≡◌, ℕ, zero, suc, ◌==◌, ◌≤◌, true, Bool, List, [], ◌∷◌, take, slice_index_or}
 use Rattle.std.specs.List.{list_any}
 use Rattle.sd_product.specs.Inductive.{live_from, proved_of}
-use Rattle.sd_cert.specs.declared.shape.Shape.{Shape}
+use Rattle.sd_cert.specs.declared.header.PairHeader.{PairHeader}
 use Rattle.sd_cert.specs.declared.certificate.CertPair.{CertPair}
 use Rattle.sd_cert.specs.Accepts.{proofs_from}
-use Rattle.sd_cert.specs.Shapes.{count_of}
+use Rattle.sd_cert.specs.Headers.{count_of}
 
 -- ---- the table of a certificate
 
@@ -17,9 +17,9 @@ abbrev pub table_from : ℕ → ℕ → List ℕ → List Bool
 table_from n zero numbers = []
 table_from n (suc count) numbers = is_listed numbers n ∷ table_from (suc n) count numbers
 
--- the table of pairs with these shapes, in which just the candidates of the entries are live
-abbrev pub table_of : List Shape → List CertPair → List Bool
-table_of shapes pairs = table_from 0 (count_of shapes) (proved_of (proofs_from 0 shapes pairs))
+-- the table of pairs with these headers, in which just the candidates of the entries are live
+abbrev pub table_of : List PairHeader → List CertPair → List Bool
+table_of headers pairs = table_from 0 (count_of headers) (proved_of (proofs_from 0 headers pairs))
 
 -- ---- a table that is made in ascending order
 

@@ -1,49 +1,50 @@
-//! A draft with one more line.
+//! A prefix with one more line.
 ghost use Rattle.std.specs.Prelude.{◌≡◌, ◌++◌, Some, IfOk, length};
 ghost use Rattle.std.specs.List.{flat_map};
 ghost use Rattle.sd_cert.specs.declared.line.Line.TheVariants as line;
 ghost use Rattle.sd_cert.specs.Lines.{IsLine, IsStep};
 ghost use Rattle.sd_cert.specs.Certificates.{step_lines, proved_lines, pair_lines};
-ghost use Rattle.sd_cert.specs.Drafts.{Goes, GoesOn, RowsGoOn, proof_lines, started, body_lines};
+ghost use Rattle.sd_cert.specs.Prefixes.{IsExtension, IsBodyExtension, IsRowsExtension, proof_lines, pair_count};
+ghost use Rattle.sd_cert.specs.Prefixes.{body_lines};
 
 use crate::certificate::{CertPair, Certificate};
 use crate::copying::copy_step;
 use crate::digest::Digests;
-use crate::draft::{Body, Draft, OpenPair, OpenProof, OpenRows};
 use crate::line::{CertState, Line};
+use crate::prefix::{Body, PartialPair, PartialProof, PartialRows, Prefix};
 use sd_base::NoMemory;
 use sd_kernel::{How, Proof, Proved, RowLine, Step};
 use sqlite_items::Items;
 use std::alloc::Global;
 
-/// The draft with one more line, if the line can stand there.
-pub(crate) fn next(alloc: Global, draft: Draft, line: &Line) -> Result<Option<Draft>, NoMemory>
+/// The prefix with one more line, if the line can stand there.
+pub(crate) fn next(alloc: Global, prefix: Prefix, line: &Line) -> Result<Option<Prefix>, NoMemory>
     requires { IsLine line.now }
-    ensures { IfOk result (Goes draft line.now) }
+    ensures { IfOk result (IsExtension prefix line.now) }
 {
-    match draft {
-        Draft::Empty => Ok(match line {
-            Line::Version(1) => Some(Draft::Versioned),
+    match prefix {
+        Prefix::Empty => Ok(match line {
+            Line::Version(1) => Some(Prefix::WithVersion),
             _ => None,
         }),
-        Draft::Versioned => Ok(match line {
-            Line::Old(old) => Some(Draft::WithOld(*old)),
+        Prefix::WithVersion => Ok(match line {
+            Line::Old(old) => Some(Prefix::WithOld(*old)),
             _ => None,
         }),
-        Draft::WithOld(old) => Ok(match line {
-            Line::New(new) => Some(Draft::WithNew(old, *new)),
+        Prefix::WithOld(old) => Ok(match line {
+            Line::New(new) => Some(Prefix::WithNew(old, *new)),
             _ => None,
         }),
-        Draft::WithNew(old, new) => Ok(match line {
-            Line::Settings(settings) => Some(Draft::WithDigests(Digests {
+        Prefix::WithNew(old, new) => Ok(match line {
+            Line::Settings(settings) => Some(Prefix::WithDigests(Digests {
                 old,
                 new,
                 settings: *settings,
             })),
             _ => None,
         }),
-        Draft::WithDigests(digests) => Ok(match line {
-            Line::Pairs(count) => Some(Draft::Body(Body {
+        Prefix::WithDigests(digests) => Ok(match line {
+            Line::Pairs(count) => Some(Prefix::Body(Body {
                 digests,
                 count: *count,
                 pairs: Items::new(alloc),
@@ -51,15 +52,15 @@ pub(crate) fn next(alloc: Global, draft: Draft, line: &Line) -> Result<Option<Dr
             })),
             _ => None,
         }),
-        Draft::Body(body) => next_in_body(alloc, body, line),
-        Draft::Rows(rows) => next_in_rows(rows, line),
-        Draft::Done(_) => Ok(None),
+        Prefix::Body(body) => next_in_body(alloc, body, line),
+        Prefix::Rows(rows) => next_in_rows(rows, line),
+        Prefix::Complete(_) => Ok(None),
     }
 }
 
-fn next_in_body(alloc: Global, body: Body, line: &Line) -> Result<Option<Draft>, NoMemory>
+fn next_in_body(alloc: Global, body: Body, line: &Line) -> Result<Option<Prefix>, NoMemory>
     requires { IsLine line.now }
-    ensures { IfOk result (GoesOn body line.now) }
+    ensures { IfOk result (IsBodyExtension body line.now) }
 {
     match line {
         Line::Pair(number, state) => next_pair(alloc, body, *number, *state),
@@ -71,8 +72,8 @@ fn next_in_body(alloc: Global, body: Body, line: &Line) -> Result<Option<Draft>,
     }
 }
 
-fn next_in_rows(rows: OpenRows, line: &Line) -> Result<Option<Draft>, NoMemory>
-    ensures { IfOk result (RowsGoOn rows line.now) }
+fn next_in_rows(rows: PartialRows, line: &Line) -> Result<Option<Prefix>, NoMemory>
+    ensures { IfOk result (IsRowsExtension rows line.now) }
 {
     match line {
         Line::Row(row) => next_row(rows, *row),
@@ -80,23 +81,31 @@ fn next_in_rows(rows: OpenRows, line: &Line) -> Result<Option<Draft>, NoMemory>
     }
 }
 
-/// The list with the open proof, if there is one.
-fn close_proof(proved: Items<Proved>, proof: Option<OpenProof>) -> Result<Items<Proved>, NoMemory>
+/// The list with the partial proof, if there is one.
+fn close_proof(
+    proved: Items<Proved>,
+    proof: Option<PartialProof>,
+) -> Result<Items<Proved>, NoMemory>
     ensures { IfOk result (λ closed. flat_map proved_lines closed ≡ flat_map proved_lines proved ++ proof_lines proof) }
 {
     let mut proved = proved;
-    if let Some(open) = proof {
+    if let Some(partial) = proof {
         proved.push(Proved {
-            candidate: open.candidate,
-            how: How::Steps(Proof { steps: open.steps }),
+            candidate: partial.candidate,
+            how: How::Steps(Proof {
+                steps: partial.steps,
+            }),
         })?;
     }
     Ok(proved)
 }
 
 /// The list with the last pair, if there is one.
-fn close_pair(pairs: Items<CertPair>, last: Option<OpenPair>) -> Result<Items<CertPair>, NoMemory>
-    ensures count { IfOk result (λ closed. length closed ≡ started pairs last) }
+fn close_pair(
+    pairs: Items<CertPair>,
+    last: Option<PartialPair>,
+) -> Result<Items<CertPair>, NoMemory>
+    ensures count { IfOk result (λ closed. length closed ≡ pair_count pairs last) }
     ensures lines { IfOk result (λ closed. pair_lines 0 closed ≡ body_lines pairs last) }
 {
     let mut pairs = pairs;
@@ -115,18 +124,18 @@ fn next_pair(
     body: Body,
     number: u32,
     state: CertState,
-) -> Result<Option<Draft>, NoMemory>
-    ensures { IfOk result (GoesOn body (line.Pair number state)) }
+) -> Result<Option<Prefix>, NoMemory>
+    ensures { IfOk result (IsBodyExtension body (line.Pair number state)) }
 {
     let pairs = close_pair(body.pairs, body.last)?;
     let place = pairs.len() as u64;
     if number as u64 == place && place < body.count {
-        let pair = OpenPair {
+        let pair = PartialPair {
             state,
             proved: Items::new(alloc),
             proof: None,
         };
-        return Ok(Some(Draft::Body(Body {
+        return Ok(Some(Prefix::Body(Body {
             digests: body.digests,
             count: body.count,
             pairs,
@@ -136,8 +145,8 @@ fn next_pair(
     Ok(None)
 }
 
-fn next_candidate(alloc: Global, body: Body, candidate: u32) -> Result<Option<Draft>, NoMemory>
-    ensures { IfOk result (GoesOn body (line.Candidate candidate)) }
+fn next_candidate(alloc: Global, body: Body, candidate: u32) -> Result<Option<Prefix>, NoMemory>
+    ensures { IfOk result (IsBodyExtension body (line.Candidate candidate)) }
 {
     let Body {
         digests,
@@ -148,22 +157,22 @@ fn next_candidate(alloc: Global, body: Body, candidate: u32) -> Result<Option<Dr
     let Some(pair) = last else {
         return Ok(None);
     };
-    let OpenPair {
+    let PartialPair {
         state,
         proved,
         proof,
     } = pair;
     let proved = close_proof(proved, proof)?;
-    let proof = Some(OpenProof {
+    let proof = Some(PartialProof {
         candidate,
         steps: Items::new(alloc),
     });
-    let last = Some(OpenPair {
+    let last = Some(PartialPair {
         state,
         proved,
         proof,
     });
-    Ok(Some(Draft::Body(Body {
+    Ok(Some(Prefix::Body(Body {
         digests,
         count,
         pairs,
@@ -171,9 +180,9 @@ fn next_candidate(alloc: Global, body: Body, candidate: u32) -> Result<Option<Dr
     })))
 }
 
-fn next_step(alloc: Global, body: Body, step: &Step) -> Result<Option<Draft>, NoMemory>
+fn next_step(alloc: Global, body: Body, step: &Step) -> Result<Option<Prefix>, NoMemory>
     requires { IsStep step.now }
-    ensures { IfOk result (GoesOn body (line.Step step.now)) }
+    ensures { IfOk result (IsBodyExtension body (line.Step step.now)) }
 {
     let Body {
         digests,
@@ -184,21 +193,21 @@ fn next_step(alloc: Global, body: Body, step: &Step) -> Result<Option<Draft>, No
     let Some(pair) = last else {
         return Ok(None);
     };
-    let OpenPair {
+    let PartialPair {
         state,
         proved,
         proof,
     } = pair;
-    let Some(started) = proof else {
+    let Some(proof) = proof else {
         return Ok(None);
     };
-    let proof = with_step(started, copy_step(alloc, step)?)?;
-    let last = Some(OpenPair {
+    let proof = with_step(proof, copy_step(alloc, step)?)?;
+    let last = Some(PartialPair {
         state,
         proved,
         proof: Some(proof),
     });
-    Ok(Some(Draft::Body(Body {
+    Ok(Some(Prefix::Body(Body {
         digests,
         count,
         pairs,
@@ -207,17 +216,17 @@ fn next_step(alloc: Global, body: Body, step: &Step) -> Result<Option<Draft>, No
 }
 
 /// The proof with one more step.
-fn with_step(proof: OpenProof, step: Step) -> Result<OpenProof, NoMemory>
+fn with_step(proof: PartialProof, step: Step) -> Result<PartialProof, NoMemory>
     ensures { IfOk result (λ longer. proof_lines (Some longer) ≡ proof_lines (Some proof) ++ step_lines step) }
 {
-    let OpenProof { candidate, steps } = proof;
+    let PartialProof { candidate, steps } = proof;
     let mut steps = steps;
     steps.push(step)?;
-    Ok(OpenProof { candidate, steps })
+    Ok(PartialProof { candidate, steps })
 }
 
-fn next_rows(alloc: Global, body: Body, rows: u64) -> Result<Option<Draft>, NoMemory>
-    ensures { IfOk result (GoesOn body (line.Rows rows)) }
+fn next_rows(alloc: Global, body: Body, rows: u64) -> Result<Option<Prefix>, NoMemory>
+    ensures { IfOk result (IsBodyExtension body (line.Rows rows)) }
 {
     let Body {
         digests,
@@ -228,7 +237,7 @@ fn next_rows(alloc: Global, body: Body, rows: u64) -> Result<Option<Draft>, NoMe
     let Some(pair) = last else {
         return Ok(None);
     };
-    let OpenPair {
+    let PartialPair {
         state,
         proved,
         proof,
@@ -238,19 +247,19 @@ fn next_rows(alloc: Global, body: Body, rows: u64) -> Result<Option<Draft>, NoMe
     };
     if rows == 0 {
         let proof = with_step(proof, Step::Rows(Items::new(alloc)))?;
-        let last = Some(OpenPair {
+        let last = Some(PartialPair {
             state,
             proved,
             proof: Some(proof),
         });
-        return Ok(Some(Draft::Body(Body {
+        return Ok(Some(Prefix::Body(Body {
             digests,
             count,
             pairs,
             last,
         })));
     }
-    Ok(Some(Draft::Rows(OpenRows {
+    Ok(Some(Prefix::Rows(PartialRows {
         digests,
         count,
         pairs,
@@ -262,10 +271,10 @@ fn next_rows(alloc: Global, body: Body, rows: u64) -> Result<Option<Draft>, NoMe
     })))
 }
 
-fn next_row(begun: OpenRows, row: RowLine) -> Result<Option<Draft>, NoMemory>
-    ensures { IfOk result (RowsGoOn begun (line.Row row)) }
+fn next_row(partial: PartialRows, row: RowLine) -> Result<Option<Prefix>, NoMemory>
+    ensures { IfOk result (IsRowsExtension partial (line.Row row)) }
 {
-    let OpenRows {
+    let PartialRows {
         digests,
         count,
         pairs,
@@ -274,11 +283,11 @@ fn next_row(begun: OpenRows, row: RowLine) -> Result<Option<Draft>, NoMemory>
         proof,
         rows,
         later,
-    } = begun;
+    } = partial;
     let mut rows = rows;
     rows.push(row)?;
     if later > 0 {
-        return Ok(Some(Draft::Rows(OpenRows {
+        return Ok(Some(Prefix::Rows(PartialRows {
             digests,
             count,
             pairs,
@@ -290,12 +299,12 @@ fn next_row(begun: OpenRows, row: RowLine) -> Result<Option<Draft>, NoMemory>
         })));
     }
     let proof = with_step(proof, Step::Rows(rows))?;
-    let last = Some(OpenPair {
+    let last = Some(PartialPair {
         state,
         proved,
         proof: Some(proof),
     });
-    Ok(Some(Draft::Body(Body {
+    Ok(Some(Prefix::Body(Body {
         digests,
         count,
         pairs,
@@ -303,12 +312,12 @@ fn next_row(begun: OpenRows, row: RowLine) -> Result<Option<Draft>, NoMemory>
     })))
 }
 
-fn end(body: Body) -> Result<Option<Draft>, NoMemory>
-    ensures { IfOk result (GoesOn body line.End) }
+fn end(body: Body) -> Result<Option<Prefix>, NoMemory>
+    ensures { IfOk result (IsBodyExtension body line.End) }
 {
     let pairs = close_pair(body.pairs, body.last)?;
     if pairs.len() as u64 == body.count {
-        return Ok(Some(Draft::Done(Certificate {
+        return Ok(Some(Prefix::Complete(Certificate {
             digests: body.digests,
             pairs,
         })));

@@ -1,5 +1,6 @@
 //! The fields of a line.
-ghost use Rattle.std.specs.Prelude.{◌≡◌, ◌≢◌, ◌<◌, ◌^◌, ◌+◌, ◌++◌, ◌∷◌, ℕ, List, false, length, take, drop, MatchOption};
+ghost use Rattle.std.specs.Prelude.{◌≡◌, ◌≢◌, ◌<◌, ◌^◌, ◌+◌, ◌++◌, ◌∷◌, ℕ, List, false, length, take, drop};
+ghost use Rattle.std.specs.Prelude.{MatchOption};
 ghost use Rattle.std.specs.Option.{option_copied};
 ghost use Rattle.std.specs.Fmt.{decimal};
 ghost use Rattle.hex.specs.Hex.{encode_lower};
@@ -16,14 +17,17 @@ pub(crate) fn after<'a>(text: &'a [u8], front: &[u8]) -> Option<&'a [u8]>
 
 /// What stands before this end of a text, if the text has it.
 pub(crate) fn before<'a>(text: &'a [u8], end: &[u8]) -> Option<&'a [u8]>
-    ensures { MatchOption result ((front : List ℕ) → text.now ≢ front ++ end.now) (λ front. text.now ≡ front.now ++ end.now) }
+    ensures { MatchOption result ((front : List ℕ) → text.now ≢ front ++ end.now)
+        (λ front. text.now ≡ front.now ++ end.now) }
 {
     text.strip_suffix(end)
 }
 
 /// The place of the first such byte.
 pub(crate) fn place_of(byte: u8, text: &[u8]) -> Option<usize>
-    ensures { MatchOption result (has_byte byte text.now ≡ false) (λ at. (at < length text.now) × (text.now ≡ take at text.now ++ byte ∷ drop (at + 1) text.now) × (has_byte byte (take at text.now) ≡ false)) }
+    ensures { MatchOption result (has_byte byte text.now ≡ false)
+        (λ at. (at < length text.now) × (text.now ≡ take at text.now ++ byte ∷ drop (at + 1) text.now)
+        × (has_byte byte (take at text.now) ≡ false)) }
 {
     for (i, other) in text.iter().enumerate() {
         if *other == byte {

@@ -7,7 +7,8 @@ ghost use Rattle.sd_cert.specs.Certificates.{certificate_text, IsCertificate};
 
 /// No bytes spell two certificates.
 pub fn one_spelling()
-    ensures { (c d : Certificate) → IsCertificate c → IsCertificate d → certificate_text c ≡ certificate_text d → c ≡ d }
+    ensures { (c d : Certificate) → IsCertificate c → IsCertificate d →
+        certificate_text c ≡ certificate_text d → c ≡ d }
 {}
 
 /// The bytes of a certificate are accepted with one table.

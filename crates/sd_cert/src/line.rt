@@ -7,7 +7,7 @@ ghost use Rattle.sd_cert.specs.Lines.{line_text, IsLine, pair_fields, IsPairFiel
 
 use crate::field::{before, read_digest, read_u32};
 use crate::keyword::{Keyword, keyword_of};
-use crate::numbered::numbered_line;
+use crate::number_lines::number_line;
 use crate::numbers::read_numbers;
 use sd_base::NoMemory;
 use sd_kernel::{RowLine, Step};
@@ -63,7 +63,7 @@ fn read_fields(alloc: Global, keyword: Keyword, fields: &[u8]) -> Result<Option<
         Keyword::Settings => Ok(read_digest(fields).map(Line::Settings)),
         Keyword::Pair => Ok(pair_line(read_pair(fields))),
         _ => match read_numbers(alloc, fields)? {
-            Some(numbers) => numbered_line(alloc, keyword, numbers.as_slice()),
+            Some(numbers) => number_line(alloc, keyword, numbers.as_slice()),
             None => Ok(None),
         },
     }

@@ -1,19 +1,20 @@
 //! Certificates from their bytes.
-ghost use Rattle.std.specs.Prelude.{◌≡◌, ◌⊎◌, ◌+◌, ◌<◌, ◌^◌, IfOk, IfErr};
+ghost use Rattle.std.specs.Prelude.{◌≡◌, ◌⊎◌, ◌+◌, ◌++◌, ◌<◌, ◌^◌, [], IfOk, IfErr};
 ghost use Rattle.std.specs.List.{AllByRecursion};
 ghost use Rattle.sd_cert.specs.Lines.{IsLine};
 ghost use Rattle.sd_cert.specs.declared.certificate.Certificate.{Certificate as Spelled};
 ghost use Rattle.sd_cert.specs.declared.fault.CertError.TheVariants.{NoMemory as Memory};
-ghost use Rattle.sd_cert.specs.Certificates.{certificate_text, IsCertificate};
-ghost use Rattle.sd_cert.specs.Drafts.{draft_lines, phase_of};
+ghost use Rattle.sd_cert.specs.Certificates.{certificate_lines, certificate_text, IsCertificate};
+ghost use Rattle.sd_cert.specs.Prefixes.{prefix_lines, phase_of};
 ghost use Rattle.sd_cert.specs.Phases.{at_version, after_lines};
+ghost use Rattle.sd_cert.specs.Text.{lines_text, BeginsWithoutLine};
 ghost use Rattle.sd_cert.specs.Faults.{IsFault, IsLineFault, IsPlaceFault};
 
 use crate::certificate::Certificate;
-use crate::draft::Draft;
 use crate::extend::next;
 use crate::fault::CertError;
 use crate::line::Line;
+use crate::prefix::Prefix;
 use crate::text::read_lines;
 use std::alloc::Global;
 
@@ -22,39 +23,46 @@ use std::alloc::Global;
 /// counts as one.
 pub fn read_certificate(alloc: Global, bytes: &[u8]) -> Result<Certificate, CertError>
     ensures found { IfOk result (λ c. IsCertificate c × (bytes.now ≡ certificate_text c)) }
-    ensures only { (c : Spelled) → IsCertificate c → bytes.now ≡ certificate_text c → (result ≡ Ok c) ⊎ (result ≡ Err Memory) }
-    ensures fault { IfErr result (IsFault bytes.now) }
-{
-    read_whole(alloc, bytes)
-}
-
-fn read_whole(alloc: Global, bytes: &[u8]) -> Result<Certificate, CertError>
-    ensures found { IfOk result (λ c. IsCertificate c × (bytes.now ≡ certificate_text c)) }
+    ensures only { (c : Spelled) → IsCertificate c → bytes.now ≡ certificate_text c →
+        (result ≡ Ok c) ⊎ (result ≡ Err Memory) }
     ensures fault { IfErr result (IsFault bytes.now) }
 {
     let (lines, rest) = read_lines(alloc, bytes)?;
-    let lines = lines.as_slice();
-    let draft = read_draft(alloc, lines)?;
-    match draft {
-        Draft::Done(certificate) if rest.is_empty() => Ok(certificate),
+    certificate_in(alloc, lines.as_slice(), rest)
+}
+
+/// The certificate that a text spells, which is these lines and a rest that begins without a line.
+pub(crate) fn certificate_in(
+    alloc: Global,
+    lines: &[Line],
+    rest: &[u8],
+) -> Result<Certificate, CertError>
+    requires fit { AllByRecursion IsLine lines.now }
+    requires stop { BeginsWithoutLine rest.now }
+    ensures found { IfOk result (λ c. (lines.now ≡ certificate_lines c) × (rest.now ≡ [])) }
+    ensures fault { IfErr result (IsFault (lines_text lines.now ++ rest.now)) }
+{
+    let prefix = read_prefix(alloc, lines)?;
+    match prefix {
+        Prefix::Complete(certificate) if rest.is_empty() => Ok(certificate),
         _ => Err(CertError::Line(lines.len() as u64 + 1)),
     }
 }
 
-fn read_draft(alloc: Global, lines: &[Line]) -> Result<Draft, CertError>
+fn read_prefix(alloc: Global, lines: &[Line]) -> Result<Prefix, CertError>
     requires { AllByRecursion IsLine lines.now }
-    ensures lines { IfOk result (λ draft. draft_lines draft ≡ lines.now) }
-    ensures phase { IfOk result (λ draft. after_lines at_version lines.now ≡ Some (phase_of draft)) }
+    ensures lines { IfOk result (λ prefix. prefix_lines prefix ≡ lines.now) }
+    ensures phase { IfOk result (λ prefix. after_lines at_version lines.now ≡ Some (phase_of prefix)) }
     ensures fault { IfErr result (IsLineFault lines.now) }
 {
-    let mut draft = Draft::Empty;
+    let mut prefix = Prefix::Empty;
     for (i, line) in lines.iter().enumerate() {
-        match next(alloc, draft, line)? {
-            Some(longer) => draft = longer,
+        match next(alloc, prefix, line)? {
+            Some(longer) => prefix = longer,
             None => return Err(fault_at(i, line)),
         }
     }
-    Ok(draft)
+    Ok(prefix)
 }
 
 fn fault_at(place: usize, line: &Line) -> CertError

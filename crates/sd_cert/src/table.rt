@@ -1,30 +1,17 @@
 //! The table of the candidates that a certificate lists.
 ghost use Rattle.std.specs.Prelude.{◌≡◌, ◌<◌, ◌≤◌, ◌+◌, ◌++◌, ◌^◌, IfOk, List, ℕ, length, map};
 ghost use Rattle.sd_product.specs.Inductive.{proved_of, live_from};
+ghost use Rattle.sd_product.specs.Work.{claims_in};
 ghost use Rattle.sd_cert.specs.Accepts.{FitsPairs, Ascend, proofs_from};
-ghost use Rattle.sd_cert.specs.Shapes.{count_of};
+ghost use Rattle.sd_cert.specs.Headers.{headers_of};
 ghost use Rattle.sd_cert.specs.Tables.{IsDecided};
 
 use crate::certificate::CertPair;
-use crate::shape::Shape;
 use sd_base::NoMemory;
 use sd_cand::LiveTable;
 use sd_kernel::Proved;
+use sd_product::Work;
 use std::alloc::Global;
-
-/// How many candidates there are. More than a table can have are out of memory.
-fn count_candidates(shapes: &[Shape]) -> Result<u32, NoMemory>
-    ensures { IfOk result (λ n. n ≡ count_of shapes.now) }
-{
-    let mut count = 0u32;
-    for shape in shapes {
-        let Some(sum) = count.checked_add(shape.candidates) else {
-            return Err(NoMemory);
-        };
-        count = sum;
-    }
-    Ok(count)
-}
 
 /// Makes the candidates from one number on up to another dead.
 fn clear_until(table: &mut LiveTable, from: u32, to: u32)
@@ -39,23 +26,24 @@ fn clear_until(table: &mut LiveTable, from: u32, to: u32)
 }
 
 /// Leaves of a pair, whose candidates are numbered from `first` on, the listed candidates live. All candidates below
-/// `decided` are decided, and in the end those below the answer are.
+/// `frontier` are decided, and in the end those below the answer are.
 fn list_entries(
     table: &mut LiveTable,
     entries: &[Proved],
     first: u32,
     count: u32,
-    decided: u32,
+    frontier: u32,
 ) -> u32
     requires ascend { Ascend 0 count (proved_of entries.now) }
-    requires order { decided ≤ first }
+    requires order { frontier ≤ first }
     requires within { first + count ≤ length table.old }
     requires fits { first + count < 2 ^ 32 }
     ensures size { length table.new ≡ length table.old }
     ensures order { result ≤ first + count }
-    ensures decided { (numbers : List ℕ) → IsDecided table.old decided numbers → IsDecided table.new result (numbers ++ map (λ k. first + k) (proved_of entries.now)) }
+    ensures decided { (numbers : List ℕ) → IsDecided table.old frontier numbers →
+        IsDecided table.new result (numbers ++ map (λ k. first + k) (proved_of entries.now)) }
 {
-    let mut next = decided;
+    let mut next = frontier;
     for entry in entries {
         let number = first + entry.candidate;
         clear_until(table, next, number);
@@ -64,26 +52,32 @@ fn list_entries(
     next
 }
 
-/// The table of pairs with these shapes in which just the listed candidates are live.
+/// The table in which just the candidates that a certificate of these pairs lists are live.
 pub(crate) fn list_live(
     alloc: Global,
-    shapes: &[Shape],
+    work: &Work,
     claims: &[CertPair],
 ) -> Result<LiveTable, NoMemory>
-    requires { FitsPairs shapes.now claims.now }
-    ensures size { IfOk result (λ table. length table ≡ count_of shapes.now) }
+    requires { FitsPairs (headers_of work.now) claims.now }
+    ensures size { IfOk result (λ table. length table ≡ length (claims_in work.now)) }
     ensures small { IfOk result (λ table. length table < 2 ^ 32) }
-    ensures live { IfOk result (λ table. proved_of (proofs_from 0 shapes.now claims.now) ≡ live_from 0 table) }
+    ensures live { IfOk result (λ table.
+        proved_of (proofs_from 0 (headers_of work.now) claims.now) ≡ live_from 0 table) }
 {
-    let total = count_candidates(shapes)?;
+    let total = work.count();
     let mut table = LiveTable::full(alloc, total)?;
-    let mut first = 0u32;
-    let mut decided = 0u32;
-    for (i, claim) in claims.iter().enumerate() {
-        let count = shapes[i].candidates;
-        decided = list_entries(&mut table, claim.proved.as_slice(), first, count, decided);
-        first += count;
+    let mut frontier = 0u32;
+    'pairs: for pair in 0..work.pairs().len() {
+        let (first, end) = work.numbers_of(pair);
+        let claim = &claims[pair as usize];
+        frontier = list_entries(
+            &mut table,
+            claim.proved.as_slice(),
+            first,
+            end - first,
+            frontier,
+        );
     }
-    clear_until(&mut table, decided, total);
+    clear_until(&mut table, frontier, total);
     Ok(table)
 }

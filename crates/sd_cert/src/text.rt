@@ -11,7 +11,8 @@ use std::alloc::Global;
 
 /// The first line of a text, and what follows it.
 fn first_line(alloc: Global, text: &[u8]) -> Result<Option<(Line, &[u8])>, NoMemory>
-    ensures { IfOk result (λ first. MatchOption first (BeginsWithoutLine text.now) (λ r. IsLine r.0 × (text.now ≡ line_text r.0 ++ 10 ∷ r.1.now))) }
+    ensures { IfOk result (λ first. MatchOption first (BeginsWithoutLine text.now)
+        (λ r. IsLine r.0 × (text.now ≡ line_text r.0 ++ 10 ∷ r.1.now))) }
 {
     let Some(end) = place_of(b'\n', text) else {
         return Ok(None);

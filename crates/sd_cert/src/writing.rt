@@ -2,15 +2,14 @@
 ghost use Rattle.std.specs.Prelude.{◌≡◌, ◌≤◌, ◌<◌, ◌^◌, ◌+◌, ◌-◌, ◌++◌, ℕ, map, length, IfOk};
 ghost use Rattle.sd_product.specs.Inductive.{proved_of};
 ghost use Rattle.sd_product.specs.Work.{claims_in};
-ghost use Rattle.sd_cert.specs.Accepts.{state_of, Ascend, numbered_from};
-ghost use Rattle.sd_cert.specs.Shapes.{shapes_of, count_of};
+ghost use Rattle.sd_cert.specs.Accepts.{Ascend, entry_from};
+ghost use Rattle.sd_cert.specs.Headers.{headers_of, count_of};
 ghost use Rattle.sd_cert.specs.Written.{IsCertificateOf, IsWritten};
 
 use crate::certificate::{CertPair, Certificate};
 use crate::copying::copy_steps;
 use crate::digest::Digests;
-use crate::line::CertState;
-use crate::shape::{Shape, shapes_of};
+use crate::header::{PairHeader, headers_of};
 use crate::spelling::spell_certificate;
 use sd_base::NoMemory;
 use sd_kernel::{How, Proof, Proved};
@@ -21,7 +20,7 @@ use std::alloc::Global;
 /// The entry as it stands in its pair, whose first candidate has this number.
 fn entry_of(alloc: Global, proved: &Proved, first: u32) -> Result<Proved, NoMemory>
     requires { first ≤ proved.now.candidate }
-    ensures { IfOk result (λ entry. numbered_from first entry ≡ proved.now) }
+    ensures { IfOk result (λ entry. entry_from first entry ≡ proved.now) }
 {
     let How::Steps(proof) = &proved.how;
     let steps = copy_steps(alloc, proof.steps.as_slice())?;
@@ -40,8 +39,9 @@ fn entries_of(
 ) -> Result<(Items<Proved>, &[Proved]), NoMemory>
     requires order { first ≤ end }
     requires ascend { (bound : ℕ) × Ascend first bound (proved_of proofs.now) }
-    ensures all { IfOk result (λ r. map (numbered_from first) r.0 ++ r.1.now ≡ proofs.now) }
-    ensures ascend { IfOk result (λ r. (bound : ℕ) → Ascend first bound (proved_of proofs.now) → Ascend 0 (end - first) (proved_of r.0) × Ascend end bound (proved_of r.1.now)) }
+    ensures all { IfOk result (λ r. map (entry_from first) r.0 ++ r.1.now ≡ proofs.now) }
+    ensures ascend { IfOk result (λ r. (bound : ℕ) → Ascend first bound (proved_of proofs.now) →
+        Ascend 0 (end - first) (proved_of r.0) × Ascend end bound (proved_of r.1.now)) }
 {
     let mut entries = Items::new(alloc);
     let mut left = proofs;
@@ -55,45 +55,35 @@ fn entries_of(
     Ok((entries, left))
 }
 
-fn state_of(shape: Shape) -> CertState
-    ensures { result ≡ state_of shape.refused }
-{
-    if shape.refused {
-        CertState::Refused
-    } else {
-        CertState::Open
-    }
-}
-
 /// The number below the candidates of a pair.
-fn end_of(shape: Shape, first: u32) -> Result<u32, NoMemory>
-    ensures { IfOk result (λ end. end ≡ first + shape.candidates) }
+fn end_of(header: PairHeader, first: u32) -> Result<u32, NoMemory>
+    ensures { IfOk result (λ end. end ≡ first + header.candidates) }
 {
-    match first.checked_add(shape.candidates) {
+    match first.checked_add(header.candidates) {
         Some(end) => Ok(end),
         None => Err(NoMemory),
     }
 }
 
-/// The certificate of pairs with these shapes and of these digests whose entries are these proofs.
+/// The certificate of pairs with these headers and of these digests whose entries are these proofs.
 pub(crate) fn certificate_of(
     alloc: Global,
-    shapes: &[Shape],
+    headers: &[PairHeader],
     digests: &Digests,
     proofs: &[Proved],
 ) -> Result<Certificate, NoMemory>
-    requires { Ascend 0 (count_of shapes.now) (proved_of proofs.now) }
-    ensures count { IfOk result (λ c. length c.pairs ≡ length shapes.now) }
-    ensures certificate { IfOk result (IsCertificateOf shapes.now digests.now proofs.now) }
+    requires { Ascend 0 (count_of headers.now) (proved_of proofs.now) }
+    ensures count { IfOk result (λ c. length c.pairs ≡ length headers.now) }
+    ensures certificate { IfOk result (IsCertificateOf headers.now digests.now proofs.now) }
 {
     let mut claims = Items::new(alloc);
     let mut first = 0u32;
     let mut left = proofs;
-    'pairs: for shape in shapes {
-        let end = end_of(*shape, first)?;
+    'pairs: for header in headers {
+        let end = end_of(*header, first)?;
         let (proved, rest) = entries_of(alloc, left, first, end)?;
         claims.push(CertPair {
-            state: state_of(*shape),
+            state: header.state,
             proved,
         })?;
         first = end;
@@ -114,14 +104,14 @@ fn certificate_of_work(
 ) -> Result<Certificate, NoMemory>
     requires { Ascend 0 (length (claims_in work.now)) (proved_of proofs.now) }
     ensures count { IfOk result (λ c. length c.pairs < 2 ^ 32) }
-    ensures certificate { IfOk result (IsCertificateOf (shapes_of work.now) digests.now proofs.now) }
+    ensures certificate { IfOk result (IsCertificateOf (headers_of work.now) digests.now proofs.now) }
 {
-    let shapes = shapes_of(alloc, work)?;
-    certificate_of(alloc, shapes.as_slice(), digests, proofs)
+    let headers = headers_of(alloc, work)?;
+    certificate_of(alloc, headers.as_slice(), digests, proofs)
 }
 
-/// The text of the certificate of two programs with these digests whose live candidates are those of the proofs, which are
-/// numbered through all pairs.
+/// The text of the certificate of two programs with these digests whose live candidates are those of the proofs, which
+/// are numbered through all pairs.
 pub fn write_certificate(
     alloc: Global,
     work: &Work,

@@ -10,6 +10,7 @@ use Rattle.sd_match.specs.declared.pair.Pair.{Pair}
 use Rattle.sd_match.specs.declared.pair.PairState.{PairState}
 use Rattle.sd_match.specs.declared.pair.PairState.TheVariants.{Open, Signature, UnmatchedRecursion}
 use Rattle.sd_match.specs.Pairs.{pair_with, state_of, owner, pair_at, pair_by, pairs_from, pairs_of, partner}
+use Rattle.sd_product.specs.Work.{PairedPrograms, pairs_in}
 use Rattle.sd_product.specs.Numbering.{AreAscending, FindsPairs}
 
 -- the old procedures are at ascending places from n on, before m
@@ -81,8 +82,8 @@ are_ascending P Q =
       ascending = λ i j p q lt e f. ascends 0 (length P.procs) (pairs_of P Q) i j p q h lt e f;
     }
 
-pub are_ascending_in : (P Q : CoreProgram) (m : ℕ) (pairs : List Pair) → m ≡ length P.procs → pairs ≡ pairs_of P Q → AreAscending m pairs
-are_ascending_in P Q m pairs long are = subst (λ (k : ℕ). AreAscending k pairs) (sym long) (subst (λ (ps : List Pair). AreAscending (length P.procs) ps) (sym are) (are_ascending P Q))
+pub are_ascending_in : (h : PairedPrograms) (m : ℕ) (pairs : List Pair) → m ≡ length h.old.procs → pairs ≡ pairs_in h → AreAscending m pairs
+are_ascending_in h m pairs long are = subst (λ (k : ℕ). AreAscending k pairs) (sym long) (subst (λ (ps : List Pair). AreAscending (length h.old.procs) ps) (sym are) (are_ascending h.old h.new))
 
 -- the entries of the first pairs are their places
 abbrev pub FindsFirst : ℕ → List (Option ℕ) → List Pair → Type 0

@@ -6,8 +6,8 @@ use Rattle.sd_match.specs.declared.pair.Pair.{Pair}
 use Rattle.sd_term.specs.Tree.{Tree}
 use Rattle.sd_vcgen.specs.Body.{Context}
 use Rattle.sd_product.specs.Query.{Claimed, Work, Infallibles, old_context, new_context, facts_of, query_by}
-use Rattle.sd_product.specs.Work.{Held, work_of}
-use Rattle.sd_product.specs.Work as held
+use Rattle.sd_product.specs.Work.{PairedPrograms, work_of}
+use Rattle.sd_product.specs.Work as paired
 use Rattle.sd_product.specs.declared.facts.Obligation.{Obligation}
 use Rattle.sd_product.specs.declared.sides.Sides.{Sides}
 use Rattle.sd_product.specs.Sides.{AreSides, side_at, IsSideWithin}
@@ -32,13 +32,13 @@ module _ (w : Work) (z : Infallibles) (table : List Bool) (x : Claimed) (bank : 
   query_without C D (Some p) None h = refl
   query_without C D None q h = refl
 
--- ---- of what is held
+-- ---- of a work
 
 pub some_is : {A : Type 0} (a b : A) → ◌≡◌ {A = Option A} (Some a) (Some b) → a ≡ b
 some_is a b e = cc
 
 -- the bodies of a pair are those of an obligation about it
-pub sides_for : (h : Held) (q : Obligation) (bank : List Tree) (o : Option Sides) (own : Pair) → work_in q ≡ work_of h.old h.new → infallibles_in q ≡ held.infallibles_in h → own ≡ q.pair.now
-    → AreSides (old_context (work_of h.old h.new) (held.infallibles_in h)) (new_context (work_of h.old h.new) (held.infallibles_in h)) bank (slice_get h.old.procs own.old) (slice_get h.new.procs own.new) o → AreSidesFor q bank o
+pub sides_for : (h : PairedPrograms) (q : Obligation) (bank : List Tree) (o : Option Sides) (own : Pair) → work_in q ≡ work_of h → infallibles_in q ≡ paired.infallibles_in h → own ≡ q.pair.now
+    → AreSides (old_context (work_of h) (paired.infallibles_in h)) (new_context (work_of h) (paired.infallibles_in h)) bank (slice_get h.old.procs own.old) (slice_get h.new.procs own.new) o → AreSidesFor q bank o
 sides_for h q bank o own work infallibles here s =
     subst (λ (k : Work × Infallibles × Pair). AreSides (old_context k.0 k.1) (new_context k.0 k.1) bank (slice_get k.0.old.procs k.2.old) (slice_get k.0.new.procs k.2.new) o) (λ i. (sym work i, sym infallibles i, here i)) s

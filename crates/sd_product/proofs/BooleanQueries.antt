@@ -24,7 +24,6 @@ use Rattle.sd_kernel.proofs.Propositions.{not-boolean, or-boolean}
 use Rattle.sd_vcgen.specs.Body.{Site, State, Context, nothing, symbols, term_in, count_all, body_of, outs_of}
 use Rattle.sd_product.specs.Relations.{entry, exit, term_at, term_of, claim_term}
 use Rattle.sd_product.specs.Query.{Claimed, Work, Infallibles, old_context, new_context, is_live, inputs_from, input_count, Side, side_of, side_from, first_call, old_side, new_side, under, site_inputs, site_ends, implication, is_about, calls_related, with_each, all_related, no_terms, axioms_of, apart, conditions_of, claim_of, premises_of, facts_of, query_by, query_of}
-use Rattle.sd_product.specs.Work.{Held, IsHeld, claims_in, work_of, queries_under, pairs_in, infallibles_in}
 use Rattle.sd_product.proofs.Booleans.{constant-boolean, eq-boolean, implies-boolean, append-boolean, all-found, truth-sorts, symbols-boolean, BooleanStore, read-boolean, reads-boolean, BooleanSite, BooleanState, body-boolean}
 use Rattle.sd_product.proofs.OnlyEqual.{IsEqual, IsEqualClaim, IsOnlyEqual, IsEqualClaimed, claims-equal}
 

@@ -26,7 +26,7 @@ use Rattle.sd_cand.specs.declared.candidate.Candidate.{Candidate}
 use Rattle.sd_cand.specs.declared.candidate.Relation.{Relation}
 use Rattle.sd_cand.specs.Candidates.{equal_from, equal_inputs, flag_candidates, output_candidates, candidates_in}
 use Rattle.sd_product.specs.Query.{Claimed, Work}
-use Rattle.sd_product.specs.Work.{claims_of}
+use Rattle.sd_product.specs.Work.{PairedPrograms, claims_of}
 use Rattle.sd_product.specs.Fits.{FitsAt, Fits, FitsBoth, FitsPair, entry_sorts, exit_sorts}
 use Rattle.sd_product.proofs.SpotFits.{Agrees, Alike, all-append, all-filter, stand-self, stand-after, alike, alike-append, alike-take, alike-past, ins-agree, outs-agree, shared-agree, spots-agree, some_is}
 
@@ -270,8 +270,8 @@ module _ (w : Work) (pair : Pair) (p q : CoreProc) (ins : AllByRecursion (Agrees
 
 -- ---- all pairs
 
-abbrev AllFit : Work → List Pair → Type 0
-AllFit w pairs = AllByRecursion (FitsPair w) (claims_of pairs)
+abbrev AllFit : PairedPrograms → Work → List Pair → Type 0
+AllFit h w pairs = AllByRecursion (FitsPair w) (claims_of h pairs)
 
 -- the candidates of a pair, of whose procedures they fit these two
 pair-fits : (w : Work) (pair : Pair) (p q : CoreProc) → slice_get w.old.procs pair.old ≡ Some p → slice_get w.new.procs pair.new ≡ Some q → (cs : List Candidate) → AllByRecursion (λ c. FitsBoth w (record { pair = pair; candidate = c }) p q) cs
@@ -282,27 +282,27 @@ pair-fits w pair p q here there (c ∷ cs) h = (
   pair-fits w pair p q here there cs h.1,
 )
 
-module _ (w : Work) (formed : WellFormed w.old) (formed' : WellFormed w.new) where
-  with-fits : (i j : ℕ) (p q : CoreProc) (s : PairState) (rest : List Pair) → slice_get w.old.procs i ≡ Some p → slice_get w.new.procs j ≡ Some q → partner w.old w.new p ≡ Some j → state_at w.old w.new i j p.parent q.parent ≡ s → AllFit w rest
-      → AllFit w (pair_with s w.old w.new i j p q ∷ rest)
-  with-fits i j p q Open rest here there partnered e h =
+module _ (h : PairedPrograms) (w : Work) (formed : WellFormed w.old) (formed' : WellFormed w.new) where
+  with-fits : (i j : ℕ) (p q : CoreProc) (s : PairState) (rest : List Pair) → slice_get w.old.procs i ≡ Some p → slice_get w.new.procs j ≡ Some q → partner w.old w.new p ≡ Some j → state_at w.old w.new i j p.parent q.parent ≡ s → AllFit h w rest
+      → AllFit h w (pair_with s w.old w.new i j p q ∷ rest)
+  with-fits i j p q Open rest here there partnered e left =
       let pair = pair_with Open w.old w.new i j p q in
       let a = alike-pair w.old w.new formed formed' i j p q here there partnered p.parent refl e in
-      all-append (FitsPair w) (map (λ c. record { pair = pair; candidate = c }) (candidates_in Open pair)) (claims_of rest)
+      all-append (FitsPair w) (map (λ c. record { pair = pair; candidate = c }) (candidates_in Open pair)) (claims_of h rest)
       (pair-fits w pair p q here there (candidates_in Open pair) (open-fit w pair p q (inputs-agree w.old w.new formed formed' i j p q here there partnered a) (outputs-agree w.old w.new formed formed' i j p q here there partnered a)))
-      h
-  with-fits i j p q Signature rest here there partnered e h = h
-  with-fits i j p q (UnmatchedRecursion x) rest here there partnered e h = h
+      left
+  with-fits i j p q Signature rest here there partnered e left = left
+  with-fits i j p q (UnmatchedRecursion x) rest here there partnered e left = left
 
-  at-fits : (i j : ℕ) (p : CoreProc) (o : Option CoreProc) (rest : List Pair) → slice_get w.old.procs i ≡ Some p → slice_get w.new.procs j ≡ o → partner w.old w.new p ≡ Some j → AllFit w rest → AllFit w (pair_at w.old w.new i j p o ++ rest)
-  at-fits i j p None rest here there partnered h = h
-  at-fits i j p (Some q) rest here there partnered h = with-fits i j p q (state_at w.old w.new i j p.parent q.parent) rest here there partnered refl h
+  at-fits : (i j : ℕ) (p : CoreProc) (o : Option CoreProc) (rest : List Pair) → slice_get w.old.procs i ≡ Some p → slice_get w.new.procs j ≡ o → partner w.old w.new p ≡ Some j → AllFit h w rest → AllFit h w (pair_at w.old w.new i j p o ++ rest)
+  at-fits i j p None rest here there partnered left = left
+  at-fits i j p (Some q) rest here there partnered left = with-fits i j p q (state_at w.old w.new i j p.parent q.parent) rest here there partnered refl left
 
-  by-fits : (i : ℕ) (p : CoreProc) (o : Option ℕ) (rest : List Pair) → slice_get w.old.procs i ≡ Some p → partner w.old w.new p ≡ o → AllFit w rest → AllFit w (pair_by w.old w.new i p o ++ rest)
-  by-fits i p None rest here partnered h = h
-  by-fits i p (Some j) rest here partnered h = at-fits i j p (slice_get w.new.procs j) rest here refl partnered h
+  by-fits : (i : ℕ) (p : CoreProc) (o : Option ℕ) (rest : List Pair) → slice_get w.old.procs i ≡ Some p → partner w.old w.new p ≡ o → AllFit h w rest → AllFit h w (pair_by w.old w.new i p o ++ rest)
+  by-fits i p None rest here partnered left = left
+  by-fits i p (Some j) rest here partnered left = at-fits i j p (slice_get w.new.procs j) rest here refl partnered left
 
-  from-fits : (i : ℕ) (ps : List CoreProc) → ((k : ℕ) (p : CoreProc) → slice_get ps k ≡ Some p → slice_get w.old.procs (i + k) ≡ Some p) → AllFit w (pairs_from w.old w.new i ps)
+  from-fits : (i : ℕ) (ps : List CoreProc) → ((k : ℕ) (p : CoreProc) → slice_get ps k ≡ Some p → slice_get w.old.procs (i + k) ≡ Some p) → AllFit h w (pairs_from w.old w.new i ps)
   from-fits i [] at = tt
   from-fits i (p ∷ ps) at =
       let first : i + 0 ≡ i = omega arith in
@@ -310,7 +310,7 @@ module _ (w : Work) (formed : WellFormed w.old) (formed' : WellFormed w.new) whe
       (from-fits (suc i) ps (λ k r e. let next : suc i + k ≡ i + suc k = omega arith in ap (slice_get w.old.procs) next ∙ at (suc k) r e))
 
   -- so of two programs
-  pub claims_fit : AllByRecursion (FitsPair w) (claims_of (pairs_of w.old w.new))
+  pub claims_fit : AllByRecursion (FitsPair w) (claims_of h (pairs_of w.old w.new))
   claims_fit = from-fits 0 w.old.procs (λ k p e. let whole : 0 + k ≡ k = omega arith in ap (slice_get w.old.procs) whole ∙ e)
 
 -- each of them

@@ -13,12 +13,12 @@ use Rattle.sd_kernel.specs.declared.proved.How.TheVariants.{Steps}
 use Rattle.sd_kernel.specs.declared.proved.Proved.{Proved}
 use Rattle.sd_kernel.proofs.Walks.{proves-accepted}
 use Rattle.sd_kernel.proofs.Refuted.{accepted-unsatisfiable}
-use Rattle.sd_match.specs.Pairs.{pairs_of}
+use Rattle.sd_runs.proofs.Greatest.{are_greatest}
 use Rattle.sd_product.specs.Query.{Claimed, Work, Infallibles, is_live, query_of}
 use Rattle.sd_product.specs.Fits.{FitsPair}
 use Rattle.sd_product.specs.Summaries.{IsWork, IsSupported, IsRootPair, IsFlagClaim, NoNewFailure}
-use Rattle.sd_product.specs.Work.{work_of, Held, infallibles_in, IsHeld, claims_in, queries_under}
-use Rattle.sd_product.specs.Inductive.{live_from, proved_of, IsHow, IsProved, IsInductive}
+use Rattle.sd_product.specs.Work.{PairedPrograms, AreWellFormed, work_of, infallibles_in, pairs_in, claims_in, queries_of}
+use Rattle.sd_product.specs.Inductive.{live_from, proved_of, IsHow, IsProved, AreProved, IsInductive}
 use Rattle.sd_product.specs.Failures.{IsPropositionalClaim, OpenCubesAreFailures}
 use Rattle.sd_product.specs.Judged.{IsFlagAt, LiveFlagsAreSafe, OpenFlagsAreFailures}
 use Rattle.sd_product.proofs.Booleans.{all-found}
@@ -71,56 +71,56 @@ proof-of : (facts : List Tree) (how : How) → IsHow facts how → HasProof fact
 proof-of facts (Steps proof) h = record { steps = proof.steps; proves = h }
 
 -- the query of a live candidate has a proof
-live-proved : (queries : List (List Tree)) (table : List Bool) (proofs : List Proved) → IsInductive queries table proofs → (c : ℕ) (facts : List Tree) → slice_get table c ≡ Some true → slice_get queries c ≡ Some facts → HasProof facts
+live-proved : (queries : List (List Tree)) (table : List Bool) (proofs : List Proved) → AreProved queries table proofs → (c : ℕ) (facts : List Tree) → slice_get table c ≡ Some true → slice_get queries c ≡ Some facts → HasProof facts
 live-proved queries table proofs inductive c facts live query =
     let number : Contains (live_from 0 table) c = let h : 0 + c ≡ c = omega arith in subst (λ (k : ℕ). Contains (live_from 0 table) k) h (live-contains 0 table c live) in
     let e : Entry queries c = entry-of queries proofs c inductive.proved (subst (λ (ks : List ℕ). Contains ks c) (sym inductive.numbers) number) in
     let same : e.proved.facts ≡ facts = some-is e.proved.facts facts (sym e.proved.query ∙ (ap (λ k. slice_get queries k) e.named ∙ query)) in
     subst (λ (fs : List Tree). HasProof fs) same (proof-of e.proved.facts e.entry.how e.proved.how)
 
--- ---- what is held
+-- ---- a work
 
-module _ (h : Held) (held : IsHeld h) where
+module _ (h : PairedPrograms) (formed : AreWellFormed h) where
   abbrev W : Work
-  W = work_of h.old h.new
+  W = work_of h
 
   abbrev Z : Infallibles
   Z = infallibles_in h
 
   is-work : IsWork W Z
-  is-work = record { old_formed = held.old_formed; new_formed = held.new_formed; old_infallible = held.old_infallible.is_set; new_infallible = held.new_infallible.is_set }
+  is-work = record { old_formed = formed.old_formed; new_formed = formed.new_formed; old_infallible = (are_greatest h.old.procs).is_set; new_infallible = (are_greatest h.new.procs).is_set }
 
-  query-at : (table : List Bool) (n : ℕ) (x : Claimed) → slice_get (claims_in h) n ≡ Some x → slice_get (queries_under h table) n ≡ Some (query_of W Z table x)
+  query-at : (table : List Bool) (n : ℕ) (x : Claimed) → slice_get (claims_in h) n ≡ Some x → slice_get (queries_of h table) n ≡ Some (query_of W Z table x)
   query-at table n x at = slice_get-map (query_of W Z table) (claims_in h) n ∙ ap (option_map (query_of W Z table)) at
 
-  supported : (table : List Bool) (proofs : List Proved) → IsInductive (queries_under h table) table proofs → IsSupported W Z table
+  supported : (table : List Bool) (proofs : List Proved) → IsInductive h table proofs → IsSupported W Z table
   supported table proofs inductive n x at live =
-      let fit = claims_fit W held.old_formed held.new_formed in
+      let fit = claims_fit h W formed.old_formed formed.new_formed in
       let facts = query_of W Z table x in
-      let proof = live-proved (queries_under h table) table proofs inductive n facts (live-is table n live) (query-at table n x at) in
-      let well = query-well W table Z x held.old_formed held.new_formed fit (all-found (FitsPair W) (claims_in h) n x fit at) in
+      let proof = live-proved (queries_of h table) table proofs inductive n facts (live-is table n live) (query-at table n x at) in
+      let well = query-well W table Z x formed.old_formed formed.new_formed fit (all-found (FitsPair W) (claims_in h) n x fit at) in
       accepted-unsatisfiable facts proof.steps well (proves-accepted facts proof.steps proof.proves)
 
   root-pair : (n : ℕ) (x : Claimed) → IsFlagAt h n x → IsRootPair W x
   root-pair n x f = all-found (IsRootedClaim h.old h.new) (claims_in h) n x (claims-rooted h.old h.new) f.at f.old f.found f.root
 
   flag-claim : (n : ℕ) (x : Claimed) → IsFlagAt h n x → IsFlagClaim x
-  flag-claim n x f = record { claim = f.flag; only_equal = (all-found IsEqualClaimed (claims_in h) n x (claims-equal (pairs_of h.old h.new)) f.at).when }
+  flag-claim n x f = record { claim = f.flag; only_equal = (all-found IsEqualClaimed (claims_in h) n x (claims-equal h (pairs_in h)) f.at).when }
 
 pub live-flags-safe : NoNewFailure → LiveFlagsAreSafe
-live-flags-safe safe h table proofs n x held inductive f live failure =
-    safe (work_of h.old h.new) (infallibles_in h) table (is-work h held) (supported h held table proofs inductive) n x f.at (get_or_from_slice_get table n true false live) (flag-claim h held n x f) (root-pair h held n x f) failure
+live-flags-safe safe h table proofs n x formed inductive f live failure =
+    safe (work_of h) (infallibles_in h) table (is-work h formed) (supported h formed table proofs inductive) n x f.at (get_or_from_slice_get table n true false live) (flag-claim h formed n x f) (root-pair h formed n x f) failure
 
 pub open-flags-fail : OpenCubesAreFailures → OpenFlagsAreFailures
-open-flags-fail fails h seen n x facts cube held old_propositional new_propositional f when query is_open =
-    let W = work_of h.old h.new in
+open-flags-fail fails h seen n x facts cube formed old_propositional new_propositional f when query is_open =
+    let W = work_of h in
     let Z = infallibles_in h in
     let claim : IsPropositionalClaim W Z x = record {
-      work = is-work h held;
+      work = is-work h formed;
       old_propositional = old_propositional;
       new_propositional = new_propositional;
       claim = record { claim = f.flag; when = when };
-      roots = root-pair h held n x f;
+      roots = root-pair h formed n x f;
     } in
-    let same : facts ≡ query_of W Z seen x = some-is facts (query_of W Z seen x) (sym query ∙ query-at h held seen n x f.at) in
+    let same : facts ≡ query_of W Z seen x = some-is facts (query_of W Z seen x) (sym query ∙ query-at h formed seen n x f.at) in
     fails W Z seen x cube claim (subst (λ (fs : List Tree). IsOpenCube fs cube) same is_open)

@@ -29,3 +29,4 @@ pub mod JudgedLemmas
 pub mod TruthFacts
 pub mod BodyLemmas
 pub mod RangeLemmas
+pub mod WorkLemmas

@@ -11,9 +11,9 @@ use Rattle.sd_cand.specs.declared.candidate.Relation.{Relation}
 use Rattle.sd_cand.specs.declared.candidate.Claim.{Claim}
 use Rattle.sd_cand.specs.declared.candidate.Claim.TheVariants.{Flag, Output}
 use Rattle.sd_cand.specs.declared.candidate.Candidate.{Candidate}
-use Rattle.sd_cand.specs.Candidates.{equal_from, equal_inputs, flag_candidates, output_candidates, candidates_in, candidates_of}
+use Rattle.sd_cand.specs.Candidates.{equal_from, equal_inputs, flag_candidates, output_candidates, candidates_in}
 use Rattle.sd_product.specs.Query.{Claimed}
-use Rattle.sd_product.specs.Work.{claims_of}
+use Rattle.sd_product.specs.Work.{PairedPrograms, candidates_in_pair, claims_of}
 use Rattle.sd_product.proofs.Booleans.{all-append}
 
 abbrev pub IsEqual : Relation → Type 0
@@ -53,7 +53,7 @@ of-pair : (pair : Pair) (cs : List Candidate) → AllByRecursion IsOnlyEqual cs 
 of-pair pair [] h = tt
 of-pair pair (c ∷ cs) h = (h.0, of-pair pair cs h.1)
 
-pub claims-equal : (pairs : List Pair) → AllByRecursion IsEqualClaimed (claims_of pairs)
-claims-equal [] = tt
-claims-equal (pair ∷ pairs) =
-    all-append IsEqualClaimed (map (λ c. record { pair = pair; candidate = c }) (candidates_of pair)) (claims_of pairs) (of-pair pair (candidates_of pair) (candidates-equal pair.state pair)) (claims-equal pairs)
+pub claims-equal : (h : PairedPrograms) (pairs : List Pair) → AllByRecursion IsEqualClaimed (claims_of h pairs)
+claims-equal h [] = tt
+claims-equal h (pair ∷ pairs) =
+    all-append IsEqualClaimed (map (λ c. record { pair = pair; candidate = c }) (candidates_in_pair h pair)) (claims_of h pairs) (of-pair pair (candidates_in_pair h pair) (candidates-equal pair.state pair)) (claims-equal h pairs)

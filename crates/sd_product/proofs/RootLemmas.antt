@@ -12,10 +12,10 @@ use Rattle.sd_match.specs.declared.pair.PairState.TheVariants.{Open, Signature, 
 use Rattle.sd_match.specs.declared.pair.Pair.{Pair}
 use Rattle.sd_match.specs.Pairs.{same_types, root_from, partner, partner_by, owner, state_by, state_of, first_unmatched, pair_with, pair_at, pair_by, pairs_from, pairs_of}
 use Rattle.sd_cand.specs.declared.candidate.Candidate.{Candidate}
-use Rattle.sd_cand.specs.Candidates.{candidates_in, candidates_of}
+use Rattle.sd_cand.specs.Candidates.{candidates_in}
 use Rattle.sd_product.specs.Query.{Claimed}
 use Rattle.sd_product.specs.Summaries.{IsRootPair}
-use Rattle.sd_product.specs.Work.{claims_of, work_of}
+use Rattle.sd_product.specs.Work.{PairedPrograms, candidates_in_pair, claims_of, claims_in, work_of}
 use Rattle.sd_product.proofs.Booleans.{all-append}
 
 pub some-is : {A : Type 0} (a b : A) → ◌≡◌ {A = Option A} (Some a) (Some b) → a ≡ b
@@ -51,9 +51,12 @@ same-of true s e = refl
 same-of false s e = absurd (let bad : Signature ≡ Open = e in cc)
 
 module _ (P Q : CoreProgram) where
+  abbrev R : PairedPrograms
+  R = record { old = P; new = Q }
+
   -- where this pair is open and its old procedure is one of the text, it is a root pair
   abbrev pub IsRooted : Pair → Type 0
-  IsRooted pair = pair.state ≡ Open → (c : Candidate) (p : CoreProc) → slice_get P.procs pair.old ≡ Some p → p.parent ≡ None → IsRootPair (work_of P Q) (record { pair = pair; candidate = c })
+  IsRooted pair = pair.state ≡ Open → (c : Candidate) (p : CoreProc) → slice_get P.procs pair.old ≡ Some p → p.parent ≡ None → IsRootPair (work_of R) (record { pair = pair; candidate = c })
 
   -- the partner of a procedure of the text is one of the text
   partner-root : (p q : CoreProc) (j : ℕ) → partner P Q p ≡ Some j → slice_get Q.procs j ≡ Some q → p.parent ≡ None → q.parent ≡ None
@@ -107,7 +110,7 @@ module _ (P Q : CoreProgram) where
 
   -- a claim about procedures of the texts is one about a root pair
   abbrev pub IsRootedClaim : Claimed → Type 0
-  IsRootedClaim x = (p : CoreProc) → slice_get P.procs x.pair.old ≡ Some p → p.parent ≡ None → IsRootPair (work_of P Q) x
+  IsRootedClaim x = (p : CoreProc) → slice_get P.procs x.pair.old ≡ Some p → p.parent ≡ None → IsRootPair (work_of R) x
 
   each-rooted : (pair : Pair) → IsRooted pair → pair.state ≡ Open → (cs : List Candidate) → AllByRecursion IsRootedClaim (map (λ c. record { pair = pair; candidate = c }) cs)
   each-rooted pair h is [] = tt
@@ -118,10 +121,10 @@ module _ (P Q : CoreProgram) where
   pair-rooted pair h Signature is = tt
   pair-rooted pair h (UnmatchedRecursion f) is = tt
 
-  all-rooted : (pairs : List Pair) → AllByRecursion IsRooted pairs → AllByRecursion IsRootedClaim (claims_of pairs)
+  all-rooted : (pairs : List Pair) → AllByRecursion IsRooted pairs → AllByRecursion IsRootedClaim (claims_of R pairs)
   all-rooted [] h = tt
   all-rooted (pair ∷ pairs) h =
-      all-append IsRootedClaim (map (λ c. record { pair = pair; candidate = c }) (candidates_of pair)) (claims_of pairs) (pair-rooted pair h.0 pair.state refl) (all-rooted pairs h.1)
+      all-append IsRootedClaim (map (λ c. record { pair = pair; candidate = c }) (candidates_in_pair R pair)) (claims_of R pairs) (pair-rooted pair h.0 pair.state refl) (all-rooted pairs h.1)
 
-  pub claims-rooted : AllByRecursion IsRootedClaim (claims_of (pairs_of P Q))
+  pub claims-rooted : AllByRecursion IsRootedClaim (claims_in R)
   claims-rooted = all-rooted (pairs_of P Q) pairs-rooted

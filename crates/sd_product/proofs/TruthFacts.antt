@@ -24,7 +24,7 @@ use Rattle.sd_vcgen.proofs.Sorted.{bodies-are-sorted}
 use Rattle.sd_vcgen.proofs.Symbols.{symbols-sort}
 use Rattle.sd_product.specs.Relations.{term_at, term_of, claim_term}
 use Rattle.sd_product.specs.Query.{Claimed, Work, Infallibles, old_context, new_context, is_live, input_count, Side, side_from, first_call, old_side, new_side, under, site_inputs, site_ends, implication, is_about, calls_related, with_each, all_related, no_terms, axioms_of, constant_term, occurs, apart_from, apart, conditions_of, claim_of, premises_of, facts_of, query_by, query_of}
-use Rattle.sd_product.specs.Work.{Held, IsHeld, claims_in, work_of, queries_under, infallibles_in}
+use Rattle.sd_product.specs.Work.{claims_in, work_of, infallibles_in}
 use Rattle.sd_product.specs.TruthQueries.{AreTruths, QueriesAreTruths}
 
 truth-of : (t : Tree) → sort_of t ≡ BoolSort → is_truth_valued t ≡ true
@@ -137,4 +137,4 @@ module _ (w : Work) (table : List Bool) (old_formed : WellFormed w.old) (new_for
     queries-truth (x ∷ xs) = (query-truth x, queries-truth xs)
 
 pub queries-are-truths : QueriesAreTruths
-queries-are-truths h is table = queries-truth (work_of h.old h.new) table is.old_formed is.new_formed (infallibles_in h) (claims_in h)
+queries-are-truths h is table = queries-truth (work_of h) table is.old_formed is.new_formed (infallibles_in h) (claims_in h)

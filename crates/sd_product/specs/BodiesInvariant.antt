@@ -14,6 +14,6 @@ pair_of b = record { work = b.work.now; pair = b.pair }
 pub record AreBodies (b : Inside) : Type 0 where
   pub own : Pair
   pub own_is : slice_get (pairs_in b.work.now) b.pair ≡ Some own
-  pub sides : AreSides (old_context (work_of b.work.now.old b.work.now.new) (infallibles_in b.work.now))
-      (new_context (work_of b.work.now.old b.work.now.new) (infallibles_in b.work.now)) b.bank
+  pub sides : AreSides (old_context (work_of b.work.now) (infallibles_in b.work.now))
+      (new_context (work_of b.work.now) (infallibles_in b.work.now)) b.bank
       (slice_get b.work.now.old.procs own.old) (slice_get b.work.now.new.procs own.new) b.sides

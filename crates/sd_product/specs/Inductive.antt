@@ -6,6 +6,7 @@ use Rattle.sd_kernel.specs.Proof.{Proves}
 use Rattle.sd_kernel.specs.declared.proved.How.{How}
 use Rattle.sd_kernel.specs.declared.proved.How.TheVariants.{Steps}
 use Rattle.sd_kernel.specs.declared.proved.Proved.{Proved}
+use Rattle.sd_product.specs.Work.{PairedPrograms, queries_of}
 
 -- the numbers of the live candidates of a table that begins with this number
 abbrev pub live_from : ℕ → List Bool → List ℕ
@@ -26,7 +27,11 @@ pub record IsProved (queries : List (List Tree)) (p : Proved) : Type 0 where
   pub query : slice_get queries p.candidate ≡ Some facts
   pub how : IsHow facts p.how
 
--- each live candidate has one entry, in ascending order, with a proof of its query
-pub record IsInductive (queries : List (List Tree)) (table : List Bool) (proofs : List Proved) : Type 0 where
+-- each live candidate has one entry, in ascending order, with a proof of its query among these
+pub record AreProved (queries : List (List Tree)) (table : List Bool) (proofs : List Proved) : Type 0 where
   pub numbers : proved_of proofs ≡ live_from 0 table
   pub proved : AllByRecursion (IsProved queries) proofs
+
+-- the live candidates of a work are proved, under this same table
+abbrev pub IsInductive : PairedPrograms → List Bool → List Proved → Type 0
+IsInductive work table proofs = AreProved (queries_of work table) table proofs

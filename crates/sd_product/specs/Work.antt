@@ -2,7 +2,7 @@
 use Rattle.std.specs.Prelude.{◌≡◌, ℕ, Bool, List, [], ◌∷◌, ◌++◌, map, Some, slice_get}
 use Rattle.sd_core.specs.declared.CoreProgram.{CoreProgram}
 use Rattle.sd_core.specs.Formed.{WellFormed}
-use Rattle.sd_runs.specs.Infallible.{AreTheInfallible, entry_at}
+use Rattle.sd_runs.specs.Infallible.{infallible_of}
 use Rattle.sd_term.specs.Tree.{Tree}
 use Rattle.sd_match.specs.declared.pair.Pair.{Pair}
 use Rattle.sd_match.specs.Pairs.{pairs_of}
@@ -10,45 +10,55 @@ use Rattle.sd_cand.specs.declared.candidate.Candidate.{Candidate}
 use Rattle.sd_cand.specs.Candidates.{candidates_of}
 use Rattle.sd_product.specs.Query.{Claimed, Work, Infallibles, query_of}
 
--- the candidates of pairs, one pair after another
-abbrev pub claims_of : List Pair → List Claimed
-claims_of [] = []
-claims_of (pair ∷ pairs) = map (λ c. record { pair = pair; candidate = c }) (candidates_of pair) ++ claims_of pairs
-
-abbrev pub work_of : CoreProgram → CoreProgram → Work
-work_of P Q = record { old = P; new = Q; claims = claims_of (pairs_of P Q) }
-
--- what the code holds: two programs, and for each of their procedures whether it is infallible
-pub record Held : Type 0 where
+pub record PairedPrograms : Type 0 where
   pub old : CoreProgram
   pub new : CoreProgram
-  pub old_infallible : List Bool
-  pub new_infallible : List Bool
 
-abbrev pub infallibles_in : Held → Infallibles
-infallibles_in h = record { old = entry_at h.old_infallible; new = entry_at h.new_infallible }
+-- both are well formed
+pub record AreWellFormed (work : PairedPrograms) : Type 0 where
+  pub old_formed : WellFormed work.old
+  pub new_formed : WellFormed work.new
 
--- They can be compared, and the infallible procedures are theirs.
-pub record IsHeld (h : Held) : Type 0 where
-  pub old_formed : WellFormed h.old
-  pub new_formed : WellFormed h.new
-  pub old_infallible : AreTheInfallible h.old.procs (infallibles_in h).old
-  pub new_infallible : AreTheInfallible h.new.procs (infallibles_in h).new
+-- ---- pairs and their candidates
 
-abbrev pub pairs_in : Held → List Pair
-pairs_in h = pairs_of h.old h.new
+-- the pairs in a work
+abbrev pub pairs_in : PairedPrograms → List Pair
+pairs_in work = pairs_of work.old work.new
 
-abbrev pub claims_in : Held → List Claimed
-claims_in h = claims_of (pairs_in h)
+-- the candidates of a pair of a work
+abbrev pub candidates_in_pair : PairedPrograms → Pair → List Candidate
+candidates_in_pair work pair = candidates_of pair
 
--- the queries of all candidates under a table of live ones
-abbrev pub queries_under : Held → List Bool → List (List Tree)
-queries_under h table = map (query_of (work_of h.old h.new) (infallibles_in h) table) (claims_in h)
+-- the candidates of each of these pairs
+abbrev pub candidate_lists : PairedPrograms → List Pair → List (List Candidate)
+candidate_lists work pairs = map (candidates_in_pair work) pairs
+
+-- with their pairs, one pair after another
+abbrev pub claims_of : PairedPrograms → List Pair → List Claimed
+claims_of work [] = []
+claims_of work (pair ∷ pairs) =
+    map (λ c. record { pair = pair; candidate = c }) (candidates_in_pair work pair) ++ claims_of work pairs
+
+-- the candidates of all pairs, numbered in order
+abbrev pub claims_in : PairedPrograms → List Claimed
+claims_in work = claims_of work (pairs_in work)
 
 -- candidate n of all is candidate k of pair i
-pub record IsAt (h : Held) (n i k : ℕ) : Type 0 where
+pub record IsAt (work : PairedPrograms) (n i k : ℕ) : Type 0 where
   pub pair : Pair
   pub candidate : Candidate
-  pub pair_is : slice_get (pairs_in h) i ≡ Some pair
-  pub candidate_is : slice_get (candidates_of pair) k ≡ Some candidate
-  pub claim_is : slice_get (claims_in h) n ≡ Some (record { pair = pair; candidate = candidate })
+  pub pair_is : slice_get (pairs_in work) i ≡ Some pair
+  pub candidate_is : slice_get (candidates_in_pair work pair) k ≡ Some candidate
+  pub claim_is : slice_get (claims_in work) n ≡ Some (record { pair = pair; candidate = candidate })
+
+-- ---- queries
+
+abbrev pub work_of : PairedPrograms → Work
+work_of work = record { old = work.old; new = work.new; claims = claims_in work }
+
+abbrev pub infallibles_in : PairedPrograms → Infallibles
+infallibles_in work = record { old = infallible_of work.old.procs; new = infallible_of work.new.procs }
+
+-- the queries of all candidates under a table of live ones
+abbrev pub queries_of : PairedPrograms → List Bool → List (List Tree)
+queries_of work table = map (query_of (work_of work) (infallibles_in work) table) (claims_in work)

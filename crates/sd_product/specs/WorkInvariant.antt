@@ -1,25 +1,21 @@
 -- What the fields of `Work` say of one another.
 use Rattle.std.specs.Prelude.{◌≡◌, ◌<◌, ◌^◌, length}
-use Rattle.sd_match.specs.Pairs.{pairs_of}
-use Rattle.sd_cand.specs.Candidates.{all_candidates}
-use Rattle.sd_product.specs.Work.{Held, IsHeld}
+use Rattle.sd_runs.specs.Infallible.{infallible_of, entry_at}
+use Rattle.sd_product.specs.Work.{PairedPrograms, AreWellFormed, pairs_in, candidate_lists}
 use Rattle.sd_product.specs.Numbering.{firsts_from, places_from, FindsPairs}
 use Rattle.sd_product.specs.declared.work.Work.TheInside.{Inside}
 
-abbrev pub held : Inside → Held
-held w =
-    record {
-      old = w.old;
-      new = w.new;
-      old_infallible = w.old_infallible.items;
-      new_infallible = w.new_infallible.items;
-    }
+abbrev pub programs_in : Inside → PairedPrograms
+programs_in w = record { old = w.old; new = w.new }
 
--- The pairs and candidates are those of the programs, and the tables are theirs.
+-- The programs are well formed, the infallible procedures, the pairs and the candidates are theirs, and so are the
+-- tables.
 pub record IsWork (w : Inside) : Type 0 where
-  pub is_held : IsHeld (held w)
-  pub are_pairs : w.pairs ≡ pairs_of w.old w.new
-  pub are_candidates : w.candidates.items ≡ all_candidates w.pairs
+  pub formed : AreWellFormed (programs_in w)
+  pub old_infallible : entry_at w.old_infallible.items ≡ infallible_of w.old.procs
+  pub new_infallible : entry_at w.new_infallible.items ≡ infallible_of w.new.procs
+  pub are_pairs : w.pairs ≡ pairs_in (programs_in w)
+  pub are_candidates : w.candidates.items ≡ candidate_lists (programs_in w) w.pairs
   pub finds_pairs : FindsPairs w.pair_of_old.items w.pairs
   pub are_firsts : w.first.items ≡ firsts_from 0 w.candidates.items
   pub are_places : w.places.items ≡ places_from 0 w.candidates.items

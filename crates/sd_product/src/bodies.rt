@@ -1,6 +1,6 @@
 //! The bodies of a pair as terms, from which the queries of its candidates are made.
 ghost use Rattle.std.specs.Prelude.{◌≡◌, ◌<◌, IfOk, Some, length, slice_get};
-ghost use Rattle.sd_product.specs.Work.{pairs_in, claims_in, queries_under};
+ghost use Rattle.sd_product.specs.Work.{pairs_in, claims_in, queries_of};
 ghost use Rattle.sd_product.specs.TruthQueries.{AreTruths};
 ghost use Rattle.sd_product.specs.Bodies.{IsAbout};
 
@@ -66,7 +66,7 @@ impl<'a> PairBodies<'a> {
     pub fn query(&self, alloc: Global, table: &LiveTable, candidate: u32) -> Result<Query, NoMemory>
         requires about { IsAbout self.now.work candidate self.now.pair }
         requires size { length table.now ≡ length (claims_in self.now.work) }
-        ensures query { IfOk result (λ q. slice_get (queries_under self.now.work table.now) candidate ≡ Some q) }
+        ensures query { IfOk result (λ q. slice_get (queries_of self.now.work table.now) candidate ≡ Some q) }
         ensures truths { IfOk result AreTruths }
     {
         let work = self.work;

@@ -1,6 +1,6 @@
 //! The query of a candidate.
 ghost use Rattle.std.specs.Prelude.{◌≡◌, ◌<◌, IfOk, Some, length, slice_get};
-ghost use Rattle.sd_product.specs.Work.{claims_in, queries_under};
+ghost use Rattle.sd_product.specs.Work.{claims_in, queries_of};
 
 use crate::bodies::PairBodies;
 use crate::work::Work;
@@ -20,7 +20,7 @@ pub fn query(
 ) -> Result<Query, NoMemory>
     requires within { candidate < length (claims_in work.now) }
     requires size { length table.now ≡ length (claims_in work.now) }
-    ensures { IfOk result (λ q. slice_get (queries_under work.now table.now) candidate ≡ Some q) }
+    ensures { IfOk result (λ q. slice_get (queries_of work.now table.now) candidate ≡ Some q) }
 {
     let (pair, _) = work.candidate_place(candidate);
     let bodies = PairBodies::new(alloc, work, pair)?;

@@ -1,13 +1,11 @@
 //! Two programs with their pairs and the candidates of each pair.
 ghost use Rattle.std.specs.Prelude.{◌≡◌, ℕ, ◌<◌, ◌≤◌, ◌+◌, IfOk, IfErr, OnOk, Some, None, length, slice_get};
 ghost use Rattle.sd_core.specs.Formed.{WellFormed};
-ghost use Rattle.sd_match.specs.Pairs.{pairs_of};
 ghost use Rattle.sd_match.specs.Refusals.{refusal_of};
-ghost use Rattle.sd_cand.specs.Candidates.{all_candidates};
 ghost use Rattle.sd_vcgen.specs.Numbers.{context_of};
 ghost use Rattle.sd_product.specs.Query.{old_context, new_context};
-ghost use Rattle.sd_product.specs.Work as held;
-ghost use Rattle.sd_product.specs.Work.{IsHeld, IsAt, pairs_in, claims_in, work_of};
+ghost use Rattle.sd_product.specs.Work as work;
+ghost use Rattle.sd_product.specs.Work.{IsAt, pairs_in, candidate_lists, claims_in, work_of};
 ghost use Rattle.sd_product.specs.Claims.{claims_of, AreTables};
 ghost use Rattle.sd_product.specs.Bodies.{IsAbout, count_before};
 ghost use Rattle.sd_product.specs.Obligations.{work_in, infallibles_in, candidate_in, HasTables, IsSorted};
@@ -86,15 +84,15 @@ pub struct Work {
 impl Model for Work {
     ghost use Rattle.std.specs.Coded.{codes};
     ghost use Rattle.sd_core.specs.contracts.tree.CoreProgram as program;
-    ghost use Rattle.sd_product.specs.Work.{Held};
+    ghost use Rattle.sd_product.specs.Work.{PairedPrograms};
 
-    ghost Value = { Held };
+    ghost Value = { PairedPrograms };
 
     ghost coded = { Prim.hlevel (codes, program.the_row.coded) };
 
-    ghost use Rattle.sd_product.specs.WorkInvariant.{held, IsWork};
+    ghost use Rattle.sd_product.specs.WorkInvariant.{programs_in, IsWork};
 
-    ghost view = { held };
+    ghost view = { programs_in };
 
     ghost invariant = { IsWork };
 }
@@ -114,7 +112,6 @@ impl Work {
         requires old { WellFormed old }
         requires new { WellFormed new }
         ensures programs { IfOk result (λ work. (work.old ≡ old) × (work.new ≡ new)) }
-        ensures comparable { IfOk result IsHeld }
         ensures unrefused { OnOk result (refusal_of old new ≡ None) }
         ensures refused { IfErr result (λ e. Tells e (refusal_of old new)) }
     {
@@ -131,9 +128,8 @@ impl Work {
     ) -> Result<Work, NoMemory>
         requires old { WellFormed old }
         requires new { WellFormed new }
-        requires pairs { pairs ≡ pairs_of old new }
+        requires pairs { pairs ≡ pairs_in (record { old = old; new = new }) }
         ensures programs { IfOk result (λ work. (work.old ≡ old) × (work.new ≡ new)) }
-        ensures comparable { IfOk result IsHeld }
     {
         let old_infallible = infallible_procedures(alloc, old.procs.as_slice())?;
         let new_infallible = infallible_procedures(alloc, new.procs.as_slice())?;
@@ -154,16 +150,18 @@ impl Work {
         })
     }
 
-    /// The old program.
+    /// The old program, which is well formed.
     pub fn old_program(&self) -> &CoreProgram
-        ensures { result.now ≡ self.now.old }
+        ensures program { result.now ≡ self.now.old }
+        ensures formed { WellFormed result.now }
     {
         &self.old
     }
 
-    /// The new program.
+    /// The new program, which is well formed.
     pub fn new_program(&self) -> &CoreProgram
-        ensures { result.now ≡ self.now.new }
+        ensures program { result.now ≡ self.now.new }
+        ensures formed { WellFormed result.now }
     {
         &self.new
     }
@@ -178,7 +176,7 @@ impl Work {
     /// The candidates of a pair.
     pub fn candidates_of(&self, pair: u32) -> &[Candidate]
         requires { pair < length (pairs_in self.now) }
-        ensures { slice_get (all_candidates (pairs_in self.now)) pair ≡ Some result.now }
+        ensures { slice_get (candidate_lists self.now (pairs_in self.now)) pair ≡ Some result.now }
     {
         self.candidates[pair as usize].as_slice()
     }
@@ -227,7 +225,7 @@ impl Work {
 
     /// The old program, with its infallible procedures.
     pub(crate) fn old_context(&self) -> Context<'_>
-        ensures { context_of result ≡ old_context (work_of self.now.old self.now.new) (held.infallibles_in self.now) }
+        ensures { context_of result ≡ old_context (work_of self.now) (work.infallibles_in self.now) }
     {
         Context {
             program: &self.old,
@@ -237,7 +235,7 @@ impl Work {
 
     /// The new program, with its infallible procedures.
     pub(crate) fn new_context(&self) -> Context<'_>
-        ensures { context_of result ≡ new_context (work_of self.now.old self.now.new) (held.infallibles_in self.now) }
+        ensures { context_of result ≡ new_context (work_of self.now) (work.infallibles_in self.now) }
     {
         Context {
             program: &self.new,
@@ -249,8 +247,8 @@ impl Work {
     pub(crate) fn obligation<'a>(&'a self, table: &'a LiveTable, candidate: u32) -> Obligation<'a>
         requires within { candidate < length (claims_in self.now) }
         requires size { length table.now ≡ length (claims_in self.now) }
-        ensures work { work_in result ≡ work_of self.now.old self.now.new }
-        ensures infallibles { infallibles_in result ≡ held.infallibles_in self.now }
+        ensures work { work_in result ≡ work_of self.now }
+        ensures infallibles { infallibles_in result ≡ work.infallibles_in self.now }
         ensures candidate { slice_get (claims_in self.now) candidate ≡ Some (candidate_in result) }
         ensures table { result.table.now ≡ table.now }
         ensures tables { HasTables result }

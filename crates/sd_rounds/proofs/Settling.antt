@@ -2,9 +2,10 @@
 use Rattle.std.proofs.Common.{◌≡◌, ◌≢◌, ◌∙◌, sym, ap, refl, subst, ℕ, suc, zero, ◌+◌, ◌-◌, ◌<◌, ◌≤◌, Bool, true, false, List, [], ◌∷◌, ◌++◌, length, set, take, append_assoc, length-append, arith}
 use Rattle.std.specs.Prelude.{Some, MatchBool, ◌||◌, replicate, slice_get, Contains}
 use Rattle.std.specs.List.{AllByRecursion}
-use Rattle.std.proofs.lemmas.List.{map-append, take_more, take_all, get_or-replicate, length-take-le}
+use Rattle.std.proofs.lemmas.List.{append-nil, map-append, take_more, take_all, get_or-replicate, length-take-le}
 use Rattle.std.proofs.lemmas.Option.{slice_get_within, slice_get-get_or, get_or_from_slice_get}
 use Rattle.std.proofs.Math.ListN.{length-set, length-replicate}
+use Rattle.sd_base.proofs.Lists.{all-append, contains-head, contains-tail}
 use Rattle.sd_term.specs.Tree.{Tree}
 use Rattle.sd_cube.specs.OpenCube.{IsOpenCube}
 use Rattle.sd_cube.specs.Spent.{IsSpent}
@@ -15,12 +16,12 @@ use Rattle.sd_search.specs.declared.search.Outcome.TheVariants.{Refuted, Open as
 use Rattle.sd_search.specs.Outcome.{IfRefuted, IfOpen, IfSpent}
 use Rattle.sd_cand.specs.Words.{words_of}
 use Rattle.sd_match.specs.declared.pair.Pair.{Pair}
-use Rattle.sd_product.specs.Work.{Held, pairs_in, claims_of, claims_in, queries_under}
+use Rattle.sd_product.specs.Work.{PairedPrograms, pairs_in, claims_of, claims_in, queries_of}
 use Rattle.sd_product.specs.Bodies.{count_before}
 use Rattle.sd_rounds.specs.declared.settle.Finding.{Finding}
 use Rattle.sd_rounds.specs.declared.settle.Death.{Death}
 use Rattle.sd_rounds.specs.Table.{cleared, live_from}
-use Rattle.sd_rounds.specs.Settled.{dead_of, IsLegalDeath, AreLegal, IsProved, IsInductive, IsSettled, AreSweeps}
+use Rattle.sd_rounds.specs.Settled.{dead_of, IsLegalDeath, AreLegal, IsProved, AreProved, IsInductive, IsSettled, AreSweeps}
 use Rattle.sd_rounds.specs.Sweep.{IsCauseAt, IsFinding, finding_of, AreDead, AreProvedBelow, GoesOn}
 
 -- ---- lists
@@ -37,22 +38,6 @@ slice_get-replicate n i h =
     let within : i < length (replicate n true) = subst (λ (m : ℕ). i < m) (sym (length-replicate n true)) h in
     slice_get-get_or (replicate n true) i false within ∙ ap Some (get_or-replicate n i true false h)
 
-contains_head : {X : Type 0} (x : X) (xs : List X) → Contains (x ∷ xs) x
-contains_head x xs = (0, omega arith, refl)
-
-contains_tail : {X : Type 0} (y : X) (xs : List X) (x : X) → Contains xs x → Contains (y ∷ xs) x
-contains_tail y xs x (k, within, is) = (suc k, omega arith, is)
-
-all-append : {X : Type 0} (P : X → Type 0) (xs ys : List X) → AllByRecursion P xs → AllByRecursion P ys → AllByRecursion P (xs ++ ys)
-all-append P [] ys a b = b
-all-append P (x ∷ xs) ys a b = (a.0, all-append P xs ys a.1 b)
-
--- what holds of all holds of one
-pub all_at : {X : Type 0} (P : X → Type 0) (xs : List X) (i : ℕ) (x : X) → AllByRecursion P xs → slice_get xs i ≡ Some x → P x
-all_at P [] i x a e = absurd (cc)
-all_at P (y ∷ xs) zero x a e = let same : y ≡ x = cc in subst P same a.0
-all_at P (y ∷ xs) (suc i) x a e = all_at P xs i x a.1 e
-
 -- ---- tables
 
 cleared-snoc : (t : List Bool) (cs : List ℕ) (c : ℕ) → cleared t (cs ++ c ∷ []) ≡ set (cleared t cs) c false
@@ -62,8 +47,8 @@ cleared-snoc t (d ∷ cs) c = cleared-snoc (set t d false) cs c
 cleared-other : (t : List Bool) (cs : List ℕ) (i : ℕ) → (Contains cs i → ⊥) → slice_get (cleared t cs) i ≡ slice_get t i
 cleared-other t [] i none = refl
 cleared-other t (c ∷ cs) i none =
-    cleared-other (set t c false) cs i (λ h. none (contains_tail c cs i h))
-    ∙ slice_get-set_other t c i false (λ e. none (subst (λ (k : ℕ). Contains (c ∷ cs) k) (sym e) (contains_head c cs)))
+    cleared-other (set t c false) cs i (λ h. none (contains-tail c cs i h))
+    ∙ slice_get-set_other t c i false (λ e. none (subst (λ (k : ℕ). Contains (c ∷ cs) k) (sym e) (contains-head c cs)))
 
 not_set : (t : List Bool) (c : ℕ) → slice_get (set t c false) c ≡ Some true → ⊥
 not_set [] c e = cc
@@ -116,25 +101,21 @@ length-live_from-set n (false ∷ t) (suc c) e = length-live_from-set (suc n) t 
 
 -- ---- deaths
 
-legal-snoc : (leaves : ℕ) (h : Held) (before : List ℕ) (ds : List Death) (d : Death) → AreLegal leaves h before ds → IsLegalDeath leaves h (before ++ dead_of ds) d → AreLegal leaves h before (ds ++ d ∷ [])
-legal-snoc leaves h before [] d a is = (subst (λ (b : List ℕ). IsLegalDeath leaves h b d) (append_nil before) is, tt)
-  where
-    append_nil : (xs : List ℕ) → xs ++ [] ≡ xs
-    append_nil [] = refl
-    append_nil (x ∷ xs) = ap (λ ys. x ∷ ys) (append_nil xs)
+legal-snoc : (leaves : ℕ) (h : PairedPrograms) (before : List ℕ) (ds : List Death) (d : Death) → AreLegal leaves h before ds → IsLegalDeath leaves h (before ++ dead_of ds) d → AreLegal leaves h before (ds ++ d ∷ [])
+legal-snoc leaves h before [] d a is = (subst (λ (b : List ℕ). IsLegalDeath leaves h b d) (append-nil before) is, tt)
 legal-snoc leaves h before (e ∷ ds) d a is =
     (a.0, legal-snoc leaves h (before ++ e.candidate ∷ []) ds d a.1 (subst (λ (b : List ℕ). IsLegalDeath leaves h b d) (sym (append_assoc before (e.candidate ∷ []) (dead_of ds))) is))
 
 -- before the first sweep
-pub none_dead : (leaves : ℕ) (h : Held) (table : List Bool) (deaths : List Death) → table ≡ replicate (length (claims_in h)) true → deaths ≡ [] → AreDead leaves h table deaths
+pub none_dead : (leaves : ℕ) (h : PairedPrograms) (table : List Bool) (deaths : List Death) → table ≡ replicate (length (claims_in h)) true → deaths ≡ [] → AreDead leaves h table deaths
 none_dead leaves h table deaths full none =
     subst (λ (ds : List Death). AreDead leaves h table ds) (sym none)
     (subst (λ (t : List Bool). AreDead leaves h t []) (sym full)
     (record { size = length-replicate (length (claims_in h)) true; table_is = refl; legal = tt; counted = let e = length-live_from-full 0 (length (claims_in h)) in omega (arith, e) }))
 
 -- A live candidate dies of a cause.
-pub cause_kills : (leaves : ℕ) (h : Held) (table table' : List Bool) (deaths deaths' : List Death) (d : Death) → AreDead leaves h table deaths → slice_get table d.candidate ≡ Some true
-    → IsCauseAt leaves (queries_under h table) d.candidate d.cause → d.seen.items ≡ words_of table → table' ≡ set table d.candidate false → deaths' ≡ deaths ++ d ∷ [] → AreDead leaves h table' deaths'
+pub cause_kills : (leaves : ℕ) (h : PairedPrograms) (table table' : List Bool) (deaths deaths' : List Death) (d : Death) → AreDead leaves h table deaths → slice_get table d.candidate ≡ Some true
+    → IsCauseAt leaves (queries_of h table) d.candidate d.cause → d.seen.items ≡ words_of table → table' ≡ set table d.candidate false → deaths' ≡ deaths ++ d ∷ [] → AreDead leaves h table' deaths'
 cause_kills leaves h table table' deaths deaths' d dead alive caused seen cut added =
     subst (λ (ds : List Death). AreDead leaves h table' ds) (sym added)
     (subst (λ (t : List Bool). AreDead leaves h t (deaths ++ d ∷ [])) (sym cut)
@@ -170,32 +151,32 @@ cause_kills leaves h table table' deaths deaths' d dead alive caused seen cut ad
 
 module _ (queries : List (List Tree)) (table : List Bool) (n : ℕ) (proofs : List Proved) where
   -- before a sweep
-  pub none_proved : n ≡ 0 → proofs ≡ [] → IsInductive queries (take n table) proofs
+  pub none_proved : n ≡ 0 → proofs ≡ [] → AreProved queries (take n table) proofs
   none_proved start none =
-      subst (λ (ps : List Proved). IsInductive queries (take n table) ps) (sym none)
+      subst (λ (ps : List Proved). AreProved queries (take n table) ps) (sym none)
       (record { numbers = ap (λ k. live_from 0 (take k table)) (sym start); proved = tt })
 
   -- after it
-  pub all_proved : n ≡ length table → IsInductive queries (take n table) proofs → IsInductive queries table proofs
+  pub all_proved : n ≡ length table → AreProved queries (take n table) proofs → AreProved queries table proofs
   all_proved ends proved =
       let within : length table ≤ n = omega (arith, ends) in
-      subst (λ (t : List Bool). IsInductive queries t proofs) (take_all n table within) proved
+      subst (λ (t : List Bool). AreProved queries t proofs) (take_all n table within) proved
 
   -- a dead candidate
-  pub dead_passed : slice_get table n ≡ Some false → IsInductive queries (take n table) proofs → IsInductive queries (take (n + 1) table) proofs
+  pub dead_passed : slice_get table n ≡ Some false → AreProved queries (take n table) proofs → AreProved queries (take (n + 1) table) proofs
   dead_passed dead proved =
       let within : n < length table = slice_get_within table n false dead in
       let grown : take (n + 1) table ≡ take n table ++ false ∷ [] = take_more table n false within ∙ ap (λ b. take n table ++ b ∷ []) (get_or_from_slice_get table n false false dead) in
       record { numbers = proved.numbers ∙ sym (ap (live_from 0) grown ∙ live_from-false 0 (take n table)); proved = proved.proved }
 
   -- a live one
-  pub live_passed : (p : Proved) (proofs' : List Proved) → p.candidate ≡ n → slice_get table n ≡ Some true → IsProved queries p → proofs' ≡ proofs ++ p ∷ [] → IsInductive queries (take n table) proofs → IsInductive queries (take (n + 1) table) proofs'
+  pub live_passed : (p : Proved) (proofs' : List Proved) → p.candidate ≡ n → slice_get table n ≡ Some true → IsProved queries p → proofs' ≡ proofs ++ p ∷ [] → AreProved queries (take n table) proofs → AreProved queries (take (n + 1) table) proofs'
   live_passed p proofs' named alive one added proved =
       let within : n < length table = slice_get_within table n true alive in
       let grown : take (n + 1) table ≡ take n table ++ true ∷ [] = take_more table n false within ∙ ap (λ b. take n table ++ b ∷ []) (get_or_from_slice_get table n true false alive) in
       let front : length (take n table) ≡ n = length-take-le n table (omega arith) in
       let place : p.candidate ≡ 0 + length (take n table) = omega (arith, front, named) in
-      subst (λ (ps : List Proved). IsInductive queries (take (n + 1) table) ps) (sym added)
+      subst (λ (ps : List Proved). AreProved queries (take (n + 1) table) ps) (sym added)
       (record {
         numbers =
             map-append (λ x. x.candidate) proofs (p ∷ [])
@@ -218,37 +199,37 @@ found leaves queries n facts o f query is refuted undecided spent = subst (λ (x
     go (SpentQuery cubes) refuted undecided spent = record { facts = facts; query = query; is_cause = (refl, (cubes, spent)) }
 
 -- a dead candidate
-pub passes_dead : (h : Held) (n : ℕ) (table : List Bool) (deaths : List Death) (proofs : List Proved) → slice_get table n ≡ Some false → GoesOn h n (n + 1) table table deaths deaths proofs proofs
-passes_dead h n table deaths proofs dead = record { table_stays = refl; deaths_stay = refl; proved = dead_passed (queries_under h table) table n proofs dead }
+pub passes_dead : (h : PairedPrograms) (n : ℕ) (table : List Bool) (deaths : List Death) (proofs : List Proved) → slice_get table n ≡ Some false → GoesOn h n (n + 1) table table deaths deaths proofs proofs
+passes_dead h n table deaths proofs dead = record { table_stays = refl; deaths_stay = refl; proved = dead_passed (queries_of h table) table n proofs dead }
 
 -- a live one with a proof
-pub passes_live : (h : Held) (n : ℕ) (table : List Bool) (deaths : List Death) (proofs proofs' : List Proved) (p : Proved) → p.candidate ≡ n → slice_get table n ≡ Some true
-    → IsProved (queries_under h table) p → proofs' ≡ proofs ++ p ∷ [] → GoesOn h n (n + 1) table table deaths deaths proofs proofs'
-passes_live h n table deaths proofs proofs' p named alive one added = record { table_stays = refl; deaths_stay = refl; proved = live_passed (queries_under h table) table n proofs p proofs' named alive one added }
+pub passes_live : (h : PairedPrograms) (n : ℕ) (table : List Bool) (deaths : List Death) (proofs proofs' : List Proved) (p : Proved) → p.candidate ≡ n → slice_get table n ≡ Some true
+    → IsProved (queries_of h table) p → proofs' ≡ proofs ++ p ∷ [] → GoesOn h n (n + 1) table table deaths deaths proofs proofs'
+passes_live h n table deaths proofs proofs' p named alive one added = record { table_stays = refl; deaths_stay = refl; proved = live_passed (queries_of h table) table n proofs p proofs' named alive one added }
 
 -- ---- the candidates of a pair
 
 -- none of them is live
-dead_between : (queries : List (List Tree)) (table : List Bool) (n k : ℕ) (proofs : List Proved) → ((c : ℕ) → n ≤ c → c < n + k → slice_get table c ≡ Some false) → IsInductive queries (take n table) proofs → IsInductive queries (take (n + k) table) proofs
-dead_between queries table n zero proofs dead proved = let e : n ≡ n + 0 = omega arith in subst (λ (m : ℕ). IsInductive queries (take m table) proofs) e proved
+dead_between : (queries : List (List Tree)) (table : List Bool) (n k : ℕ) (proofs : List Proved) → ((c : ℕ) → n ≤ c → c < n + k → slice_get table c ≡ Some false) → AreProved queries (take n table) proofs → AreProved queries (take (n + k) table) proofs
+dead_between queries table n zero proofs dead proved = let e : n ≡ n + 0 = omega arith in subst (λ (m : ℕ). AreProved queries (take m table) proofs) e proved
 dead_between queries table n (suc k) proofs dead proved =
     let e : (n + k) + 1 ≡ n + suc k = omega arith in
     let before = dead_between queries table n k proofs (λ c lo hi. dead c lo (omega arith)) proved in
-    subst (λ (m : ℕ). IsInductive queries (take m table) proofs) e (dead_passed queries table (n + k) proofs (dead (n + k) (omega arith) (omega arith)) before)
+    subst (λ (m : ℕ). AreProved queries (take m table) proofs) e (dead_passed queries table (n + k) proofs (dead (n + k) (omega arith) (omega arith)) before)
 
-pub passes_none : (h : Held) (n m : ℕ) (table : List Bool) (deaths : List Death) (proofs : List Proved) → n ≤ m → ((c : ℕ) → n ≤ c → c < m → slice_get table c ≡ Some false) → GoesOn h n m table table deaths deaths proofs proofs
+pub passes_none : (h : PairedPrograms) (n m : ℕ) (table : List Bool) (deaths : List Death) (proofs : List Proved) → n ≤ m → ((c : ℕ) → n ≤ c → c < m → slice_get table c ≡ Some false) → GoesOn h n m table table deaths deaths proofs proofs
 passes_none h n m table deaths proofs ordered dead =
     let e : n + (m - n) ≡ m = omega arith in record {
       table_stays = refl;
       deaths_stay = refl;
-      proved = λ before. subst (λ (k : ℕ). AreProvedBelow h k table proofs) e (dead_between (queries_under h table) table n (m - n) proofs (λ c lo hi. dead c lo (omega arith)) before);
+      proved = λ before. subst (λ (k : ℕ). AreProvedBelow h k table proofs) e (dead_between (queries_of h table) table n (m - n) proofs (λ c lo hi. dead c lo (omega arith)) before);
     }
 
 -- before the first of them
-pub goes_nowhere : (h : Held) (n m : ℕ) (table : List Bool) (deaths : List Death) (proofs : List Proved) → n ≡ m → GoesOn h n m table table deaths deaths proofs proofs
+pub goes_nowhere : (h : PairedPrograms) (n m : ℕ) (table : List Bool) (deaths : List Death) (proofs : List Proved) → n ≡ m → GoesOn h n m table table deaths deaths proofs proofs
 goes_nowhere h n m table deaths proofs e = record { table_stays = refl; deaths_stay = refl; proved = subst (λ (k : ℕ). AreProvedBelow h k table proofs) e }
 
-module _ (h : Held) (n m k : ℕ) (table0 table1 table2 : List Bool) (deaths0 deaths1 deaths2 : List Death) (proofs0 proofs1 proofs2 : List Proved) where
+module _ (h : PairedPrograms) (n m k : ℕ) (table0 table1 table2 : List Bool) (deaths0 deaths1 deaths2 : List Death) (proofs0 proofs1 proofs2 : List Proved) where
   goes_then : GoesOn h n m table0 table1 deaths0 deaths1 proofs0 proofs1 → GoesOn h m k table1 table2 deaths1 deaths2 proofs1 proofs2 → GoesOn h n k table0 table2 deaths0 deaths2 proofs0 proofs2
   goes_then a b = record {
     table_stays = b.table_stays ∙ a.table_stays;
@@ -272,7 +253,7 @@ module _ (h : Held) (n m k : ℕ) (table0 table1 table2 : List Bool) (deaths0 de
 -- ---- a sweep
 
 -- one pair further
-pub sweeps_on : (h : Held) (n m start : ℕ) (table table' : List Bool) (deaths deaths' : List Death) (proofs proofs' : List Proved) (a b : Bool)
+pub sweeps_on : (h : PairedPrograms) (n m start : ℕ) (table table' : List Bool) (deaths deaths' : List Death) (proofs proofs' : List Proved) (a b : Bool)
     → start ≤ length deaths → MatchBool a (start < length deaths) (AreProvedBelow h n table proofs) → MatchBool b (length deaths < length deaths') (GoesOn h n m table table' deaths deaths' proofs proofs') → length deaths ≤ length deaths'
     → MatchBool (a || b) (start < length deaths') (AreProvedBelow h m table' proofs')
 sweeps_on h n m start table table' deaths deaths' proofs proofs' true b below grown died more = omega arith
@@ -280,23 +261,23 @@ sweeps_on h n m start table table' deaths deaths' proofs proofs' false true belo
 sweeps_on h n m start table table' deaths deaths' proofs proofs' false false below proved goes more = subst (λ (t : List Bool). AreProvedBelow h m t proofs') (sym goes.table_stays) (goes.proved proved)
 
 -- where neither of two dropped one, there are as many deaths as before
-pub still_on : (h : Held) (n m start : ℕ) (table table' : List Bool) (deaths deaths' : List Death) (proofs proofs' : List Proved) (a b : Bool)
+pub still_on : (h : PairedPrograms) (n m start : ℕ) (table table' : List Bool) (deaths deaths' : List Death) (proofs proofs' : List Proved) (a b : Bool)
     → (a ≡ false → length deaths ≡ start) → MatchBool b (length deaths < length deaths') (GoesOn h n m table table' deaths deaths' proofs proofs') → (a || b) ≡ false → length deaths' ≡ start
 still_on h n m start table table' deaths deaths' proofs proofs' true b before after none = absurd (cc)
 still_on h n m start table table' deaths deaths' proofs proofs' false true before after none = absurd (cc)
 still_on h n m start table table' deaths deaths' proofs proofs' false false before after none = ap length after.deaths_stay ∙ before refl
 
 -- all pairs have been passed where so many have
-pub passed_all : (h : Held) (pairs : ℕ) → length (pairs_in h) ≤ pairs → count_before h pairs ≡ length (claims_in h)
-passed_all h pairs ends = ap (λ (ps : List Pair). length (claims_of ps)) (take_all pairs (pairs_in h) ends)
+pub passed_all : (h : PairedPrograms) (pairs : ℕ) → length (pairs_in h) ≤ pairs → count_before h pairs ≡ length (claims_in h)
+passed_all h pairs ends = ap (λ (ps : List Pair). length (claims_of h ps)) (take_all pairs (pairs_in h) ends)
 
 -- at its end
-pub swept : (h : Held) (n : ℕ) (table : List Bool) (proofs : List Proved) (b : Bool) (P : Type 0) → n ≡ length table → MatchBool b P (AreProvedBelow h n table proofs) → MatchBool b P (IsInductive (queries_under h table) table proofs)
+pub swept : (h : PairedPrograms) (n : ℕ) (table : List Bool) (proofs : List Proved) (b : Bool) (P : Type 0) → n ≡ length table → MatchBool b P (AreProvedBelow h n table proofs) → MatchBool b P (IsInductive h table proofs)
 swept h n table proofs true P ends grown = grown
-swept h n table proofs false P ends proved = all_proved (queries_under h table) table n proofs ends proved
+swept h n table proofs false P ends proved = all_proved (queries_of h table) table n proofs ends proved
 
 -- fewer are live where more have died
-pub fewer_live : (leaves : ℕ) (h : Held) (table table' : List Bool) (deaths deaths' : List Death) → AreDead leaves h table deaths → AreDead leaves h table' deaths' → length deaths < length deaths' → length (live_from 0 table') < length (live_from 0 table)
+pub fewer_live : (leaves : ℕ) (h : PairedPrograms) (table table' : List Bool) (deaths deaths' : List Death) → AreDead leaves h table deaths → AreDead leaves h table' deaths' → length deaths < length deaths' → length (live_from 0 table') < length (live_from 0 table)
 fewer_live leaves h table table' deaths deaths' before after more = let a = before.counted in let b = after.counted in omega (arith, a, b)
 
 -- ---- how many sweeps
@@ -310,5 +291,5 @@ one_sweep_more sweeps sweeps' deaths deaths' are more grown = let some = are.som
 
 -- ---- what is settled
 
-pub are_settled : (leaves : ℕ) (h : Held) (table : List Bool) (deaths : List Death) (proofs : List Proved) → AreDead leaves h table deaths → IsInductive (queries_under h table) table proofs → IsSettled leaves h table deaths proofs
+pub are_settled : (leaves : ℕ) (h : PairedPrograms) (table : List Bool) (deaths : List Death) (proofs : List Proved) → AreDead leaves h table deaths → IsInductive h table proofs → IsSettled leaves h table deaths proofs
 are_settled leaves h table deaths proofs dead proved = record { size = dead.size; table_is = dead.table_is; legal = dead.legal; inductive = proved }

@@ -7,11 +7,11 @@ use Rattle.sd_term.specs.declared.cube.Cube.{Cube}
 use Rattle.sd_cube.specs.OpenCube.{IsOpenCube}
 use Rattle.sd_cube.specs.Spent.{IsSpent}
 use Rattle.sd_kernel.specs.declared.proved.Proved.{Proved}
-use Rattle.sd_product.specs.Work.{Held, claims_in, queries_under}
+use Rattle.sd_product.specs.Work.{PairedPrograms, claims_in, queries_of}
 use Rattle.sd_rounds.specs.declared.settle.Cause.{Cause}
 use Rattle.sd_rounds.specs.declared.settle.Cause.TheVariants.{Open, Spent}
 use Rattle.sd_rounds.specs.declared.settle.Death.{Death}
-pub use Rattle.sd_product.specs.Inductive.{proved_of, IsHow, IsProved, IsInductive}
+pub use Rattle.sd_product.specs.Inductive.{proved_of, IsHow, IsProved, AreProved, IsInductive}
 use Rattle.sd_rounds.specs.Table.{cleared, HoldsAllBut}
 
 -- the candidates of deaths
@@ -25,28 +25,28 @@ IsCause leaves facts (Spent n) = (n ≡ leaves) × ((cubes : List Cube) × IsSpe
 
 -- The candidate did not die before, and under the table that was seen its query isn't refuted. That table held all
 -- that had not died.
-pub record IsLegalDeath (leaves : ℕ) (h : Held) (before : List ℕ) (d : Death) : Type 0 where
+pub record IsLegalDeath (leaves : ℕ) (work : PairedPrograms) (before : List ℕ) (d : Death) : Type 0 where
   pub seen : List Bool
   pub words : d.seen.items ≡ words_of seen
-  pub held : HoldsAllBut (length (claims_in h)) before seen
+  pub held : HoldsAllBut (length (claims_in work)) before seen
   pub facts : List Tree
-  pub query : slice_get (queries_under h seen) d.candidate ≡ Some facts
+  pub query : slice_get (queries_of work seen) d.candidate ≡ Some facts
   pub once : Contains before d.candidate → ⊥
   pub cause : IsCause leaves facts d.cause
 
 -- deaths in order, of which the first comes after these
-abbrev pub AreLegal : ℕ → Held → List ℕ → List Death → Type 0
-AreLegal leaves h before [] = Unit {0}
-AreLegal leaves h before (d ∷ ds) = IsLegalDeath leaves h before d × AreLegal leaves h (before ++ d.candidate ∷ []) ds
+abbrev pub AreLegal : ℕ → PairedPrograms → List ℕ → List Death → Type 0
+AreLegal leaves work before [] = Unit {0}
+AreLegal leaves work before (d ∷ ds) = IsLegalDeath leaves work before d × AreLegal leaves work (before ++ d.candidate ∷ []) ds
 
 -- The table is the full one less the candidates of the deaths, which are legal, and each live candidate has a proof
 -- of its query under this table.
-pub record IsSettled (leaves : ℕ) (h : Held) (table : List Bool) (deaths : List Death) (proofs : List Proved)
+pub record IsSettled (leaves : ℕ) (work : PairedPrograms) (table : List Bool) (deaths : List Death) (proofs : List Proved)
     : Type 0 where
-  pub size : length table ≡ length (claims_in h)
-  pub table_is : table ≡ cleared (replicate (length (claims_in h)) true) (dead_of deaths)
-  pub legal : AreLegal leaves h [] deaths
-  pub inductive : IsInductive (queries_under h table) table proofs
+  pub size : length table ≡ length (claims_in work)
+  pub table_is : table ≡ cleared (replicate (length (claims_in work)) true) (dead_of deaths)
+  pub legal : AreLegal leaves work [] deaths
+  pub inductive : IsInductive work table proofs
 
 -- how many sweeps there can be with so many deaths, where the last one drops nothing and each other one drops something
 pub record AreSweeps (sweeps deaths : ℕ) : Type 0 where

@@ -9,10 +9,10 @@ use Rattle.sd_rounds.specs.declared.settle.Finding.{Finding}
 use Rattle.sd_rounds.specs.declared.settle.Finding.TheVariants.{Proved as IsProof, Dropped}
 use Rattle.sd_rounds.specs.declared.settle.Cause.{Cause}
 use Rattle.sd_rounds.specs.declared.settle.Cause.TheVariants.{Open, Spent}
-use Rattle.sd_product.specs.Work.{Held, claims_in, queries_under}
+use Rattle.sd_product.specs.Work.{PairedPrograms, claims_in, queries_of}
 use Rattle.sd_rounds.specs.declared.settle.Death.{Death}
 use Rattle.sd_rounds.specs.Table.{live_from, cleared}
-use Rattle.sd_rounds.specs.Settled.{dead_of, IsCause, AreLegal, IsProved, IsInductive}
+use Rattle.sd_rounds.specs.Settled.{dead_of, IsCause, AreLegal, IsProved, AreProved}
 
 -- The query of candidate n isn't refuted, for this cause.
 pub record IsCauseAt (leaves : ℕ) (queries : List (List Tree)) (n : ℕ) (cause : Cause) : Type 0 where
@@ -33,19 +33,19 @@ IsFinding leaves queries n (Dropped cause) = IsCauseAt leaves queries n cause
 
 -- The table is the full one less the candidates of the deaths, which are legal, and each candidate is live or died
 -- once.
-pub record AreDead (leaves : ℕ) (h : Held) (table : List Bool) (deaths : List Death) : Type 0 where
-  pub size : length table ≡ length (claims_in h)
-  pub table_is : table ≡ cleared (replicate (length (claims_in h)) true) (dead_of deaths)
-  pub legal : AreLegal leaves h [] deaths
-  pub counted : length deaths + length (live_from 0 table) ≡ length (claims_in h)
+pub record AreDead (leaves : ℕ) (work : PairedPrograms) (table : List Bool) (deaths : List Death) : Type 0 where
+  pub size : length table ≡ length (claims_in work)
+  pub table_is : table ≡ cleared (replicate (length (claims_in work)) true) (dead_of deaths)
+  pub legal : AreLegal leaves work [] deaths
+  pub counted : length deaths + length (live_from 0 table) ≡ length (claims_in work)
 
 -- each live candidate below n has a proof of its query under this table
-abbrev pub AreProvedBelow : Held → ℕ → List Bool → List Proved → Type 0
-AreProvedBelow h n table proofs = IsInductive (queries_under h table) (take n table) proofs
+abbrev pub AreProvedBelow : PairedPrograms → ℕ → List Bool → List Proved → Type 0
+AreProvedBelow work n table proofs = AreProved (queries_of work table) (take n table) proofs
 
 -- No candidate from n on and before m died, and the proofs of those below n are now those of those below m.
-pub record GoesOn (h : Held) (n m : ℕ) (table table' : List Bool) (deaths deaths' : List Death)
+pub record GoesOn (work : PairedPrograms) (n m : ℕ) (table table' : List Bool) (deaths deaths' : List Death)
     (proofs proofs' : List Proved) : Type 0 where
   pub table_stays : table' ≡ table
   pub deaths_stay : deaths' ≡ deaths
-  pub proved : AreProvedBelow h n table proofs → AreProvedBelow h m table proofs'
+  pub proved : AreProvedBelow work n table proofs → AreProvedBelow work m table proofs'

@@ -1,6 +1,6 @@
 ghost use Rattle.std.specs.Prelude.{◌≡◌, ◌<◌, ◌≤◌, ◌+◌, ℕ, true, false, IfOk, OnOk, IsTrue, MatchBool, Some, length, slice_get};
 ghost use Rattle.sd_product.specs.Bodies.{IsAbout, count_before};
-ghost use Rattle.sd_product.specs.Work.{claims_in, pairs_in, queries_under};
+ghost use Rattle.sd_product.specs.Work.{claims_in, pairs_in, queries_of};
 ghost use Rattle.sd_rounds.specs.Settled.{AreSweeps, IsInductive, IsSettled};
 ghost use Rattle.sd_rounds.specs.Sweep.{AreDead, GoesOn, IsFinding, finding_of};
 
@@ -72,7 +72,7 @@ fn judge(
     requires bodies { bodies.now.work ≡ work.now }
     requires about { IsAbout work.now candidate bodies.now.pair }
     requires size { length table.now ≡ length (claims_in work.now) }
-    ensures { IfOk result (IsFinding leaves (queries_under work.now table.now) candidate) }
+    ensures { IfOk result (IsFinding leaves (queries_of work.now table.now) candidate) }
 {
     let query = bodies.query(alloc, table, candidate)?;
     let outcome = refute(alloc, &query, leaves)?;
@@ -186,7 +186,7 @@ fn sweep(alloc: Global, work: &Work, settled: &mut Settled, leaves: u32) -> Resu
     ensures sweeps { settled.new.sweeps ≡ settled.old.sweeps }
     ensures dropped { IfOk result (λ dropped. MatchBool dropped
         (length settled.old.deaths.items < length settled.new.deaths.items)
-        (IsInductive (queries_under work.now settled.new.table) settled.new.table settled.new.proofs.items)) }
+        (IsInductive work.now settled.new.table settled.new.proofs.items)) }
     ensures still { IfOk result (λ dropped. dropped ≡ false →
         length settled.new.deaths.items ≡ length settled.old.deaths.items) }
 {

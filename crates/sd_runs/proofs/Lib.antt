@@ -6,3 +6,4 @@ pub mod InfallibleRuns
 pub mod Rows
 pub mod Callers
 pub mod Spread
+pub mod Greatest

@@ -225,7 +225,7 @@ pub record Spreads (procs : List CoreProc) (marks : Marks) : Type 0 where
   pub above : (other : ℕ → Bool) → IsInfallibleSet procs other → AreIn procs other → (q : ℕ) → other q ≡ true → entry_at marks.0 q ≡ true
 
 -- there is a procedure at a place
-found_at : (procs : List CoreProc) (q : ℕ) → q < length procs → (p : CoreProc) × (slice_get procs q ≡ Some p)
+pub found_at : (procs : List CoreProc) (q : ℕ) → q < length procs → (p : CoreProc) × (slice_get procs q ≡ Some p)
 found_at [] q l = absurd (omega arith)
 found_at (p ∷ procs) zero l = (p, refl)
 found_at (p ∷ procs) (suc q) l = found_at procs q (omega arith)

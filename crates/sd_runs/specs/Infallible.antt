@@ -1,6 +1,6 @@
 -- Procedures that never raise their flag.
-use Rattle.std.specs.Prelude.{◌≡◌, ℕ, ◌<◌, Bool, true, false, List, Some, length, slice_get, get_or}
-use Rattle.std.specs.List.{AllByRecursion}
+use Rattle.std.specs.Prelude.{◌≡◌, ℕ, zero, suc, ◌<◌, Bool, true, false, not, ◌&&◌, List, Option, Some, None, length, slice_get, get_or, nat_lt}
+use Rattle.std.specs.List.{AllByRecursion, list_all}
 use Rattle.sd_core.specs.declared.CoreProc.{CoreProc}
 use Rattle.sd_runs.specs.Calls.{callees_of, any_fail}
 
@@ -28,3 +28,20 @@ pub record AreTheInfallible (procs : List CoreProc) (infallible : ℕ → Bool) 
 -- whether the entry of a procedure is set
 abbrev pub entry_at : List Bool → ℕ → Bool
 entry_at entries q = get_or entries q false
+
+-- ---- as a function of the procedures
+
+-- whether this procedure has such a body
+abbrev pub is_infallible_body : (ℕ → Bool) → Option CoreProc → Bool
+is_infallible_body infallible None = false
+is_infallible_body infallible (Some p) = not (any_fail p.body) && list_all infallible (callees_of p.body)
+
+-- whether no failure, and no call of a place without procedure, is reached from a procedure within n calls inside one
+-- another
+abbrev pub infallible_within : List CoreProc → ℕ → ℕ → Bool
+infallible_within procs zero q = nat_lt q (length procs)
+infallible_within procs (suc n) q = is_infallible_body (infallible_within procs n) (slice_get procs q)
+
+-- the infallible procedures: those from which none is reached within as many calls as there are procedures
+unfoldable pub infallible_of : List CoreProc → ℕ → Bool
+infallible_of procs q = infallible_within procs (length procs) q

@@ -9,7 +9,7 @@ use Rattle.sd_core.specs.Interpretation.{core_interpretation}
 use Rattle.sd_core.specs.Formed.{WellFormed}
 use Rattle.sd_core.specs.Meanings.{IsMeaningOf}
 use Rattle.sd_runs.specs.Kept.{KeepsCalls}
-use Rattle.sd_runs.specs.Infallible.{IsInfallibleSet}
+use Rattle.sd_runs.specs.Infallible.{IsInfallibleSet, AreTheInfallible, infallible_of}
 
 -- Runs of a well formed program keep types, and the globals that they may not modify, whatever the bound.
 abbrev pub RunsKeep : Type 0
@@ -30,3 +30,13 @@ InfallibleRuns =
     (I : Interpretation) (procs : List CoreProc) (infallible : ℕ → Bool) → IsInfallibleSet procs infallible →
     (n q : ℕ) (ins globals outs after : List Value) (flag : Bool) →
     infallible q ≡ true → calls_within I procs n q ins globals ≡ Ended outs after flag → flag ≡ false
+
+-- The infallible procedures are the greatest such set.
+abbrev pub InfallibleAreGreatest : Type 0
+InfallibleAreGreatest = (procs : List CoreProc) → AreTheInfallible procs (infallible_of procs)
+
+-- There is one such set.
+abbrev pub InfallibleAreOne : Type 0
+InfallibleAreOne =
+    (procs : List CoreProc) (infallible other : ℕ → Bool) → AreTheInfallible procs infallible →
+    AreTheInfallible procs other → infallible ≡ other

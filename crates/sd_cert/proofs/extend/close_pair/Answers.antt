@@ -1,6 +1,6 @@
 use Rattle.std.proofs.Common.{ap, ◌∙◌}
 use Rattle.sd_cert.specs.Certificates.{pair_lines}
-use Rattle.sd_cert.proofs.DraftLemmas.{closed_lines, no_last}
+use Rattle.sd_cert.proofs.PrefixLemmas.{closed_lines, no_last}
 use Rattle.sd_cert.proofs.extend.close_pair.Goals as goal
 use Rattle.sd_cert.proofs.extend.close_pair.Goals.{in-Some+in_ok-proved+in_ok-push, in_default}
 

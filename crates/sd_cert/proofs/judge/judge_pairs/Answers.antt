@@ -1,27 +1,28 @@
--- The pairs from here on are judged one by one.
-use Rattle.std.proofs.Common.{◌≡◌, ◌-◌, List, length, drop, sym, ◌∙◌, arith, subst}
-use Rattle.sd_kernel.specs.declared.Proved.{Proved}
-use Rattle.sd_product.specs.Work.{claims_in, queries_under}
-use Rattle.sd_product.specs.Inductive.{proved_of}
-use Rattle.sd_cert.specs.Accepts.{Ascend}
-use Rattle.sd_cert.proofs.Listing.{shape-at, no-fault-left, fits-step, fits-length, ascend-weaker, count-step}
+-- The pairs are judged one by one.
+use Rattle.std.proofs.Common.{◌<◌, length, ap, arith}
+use Rattle.std.proofs.lemmas.Result.{err_from_is_err_and}
+use Rattle.sd_product.specs.Work.{pairs_in, queries_of}
+use Rattle.sd_cert.proofs.Listing.{claims-count, ascend-own, fault-here, fault-later}
 use Rattle.sd_cert.proofs.judge.judge_pairs.Goals as goal
 
-pub overflow_add-first : goal.overflow_add-first
-overflow_add-first c =
-    let long : length c.args.shapes.now ≡ length c.args.claims.now = fits-length c.args.shapes.now c.args.claims.now c.requires.fits in
-    let count = count-step c.args.shapes.now c.args.claims.now c.loop-i.i c.index-claims-i.result (omega arith) (omega arith) c.index-claims-i.is c.loop-i.first (length (claims_in c.args.work.now)) c.loop-i.invariant.count in
-    omega (arith, count, c.requires.small)
+pub bounds-claims-pair : goal.bounds-claims-pair
+bounds-claims-pair c =
+    omega (arith, claims-count c.args.work.now c.args.claims.now c.requires.fits, c.pairs-test.true, c.len-pair-end.ensures, ap length c.pairs-2.ensures)
 
-pub judge_entries-requires-clause-ascend : goal.judge_entries-requires-clause-ascend
-judge_entries-requires-clause-ascend c =
-    let long : length c.args.shapes.now ≡ length c.args.claims.now = fits-length c.args.shapes.now c.args.claims.now c.requires.fits in
-    let step = fits-step c.args.shapes.now c.args.claims.now c.loop-i.i c.index-claims-i.result (omega arith) (omega arith) c.index-claims-i.is c.loop-i.invariant.fits in
-    let count = count-step c.args.shapes.now c.args.claims.now c.loop-i.i c.index-claims-i.result (omega arith) (omega arith) c.index-claims-i.is c.loop-i.first (length (claims_in c.args.work.now)) c.loop-i.invariant.count in
-    subst (λ (ps : List Proved). Ascend 0 (length (claims_in c.args.work.now) - c.loop-i.first) (proved_of ps)) (sym c.as_slice.ensures)
-    (ascend-weaker 0 (shape-at c.args.shapes.now c.loop-i.i).candidates (length (claims_in c.args.work.now) - c.loop-i.first) (proved_of c.index-claims-i.result.proved) (omega (arith, count)) step.0.numbers)
+pub judge_pair-requires-clause-ascend : goal.judge_pair-requires-clause-ascend
+judge_pair-requires-clause-ascend c =
+    let within : c.pairs.pair < length (pairs_in c.args.work.now) = omega (arith, c.pairs-test.true, c.len-pair-end.ensures, ap length c.pairs-2.ensures) in
+    rw c.as_slice.ensures (ascend-own c.args.work.now c.args.claims.now c.requires.fits c.pairs.pair c.index-claims-pair.result within c.index-claims-pair.is)
 
-pub returns : goal.returns
-returns c =
-    c.loop-i.invariant.fault
-    ∙ no-fault-left (queries_under c.args.work.now c.args.table.now) c.loop-i.first c.loop-i.at (drop c.loop-i.i c.args.shapes.now) c.args.claims.now c.loop-i.i (omega arith)
+pub returns-in_err-at : goal.returns-in_err-at
+returns-in_err-at c =
+    let h = c.args.work.now in
+    let within : c.pairs.pair < length (pairs_in h) = omega (arith, c.pairs-test.true, c.len-pair-end.ensures, ap length c.pairs-2.ensures) in
+    let p = err_from_is_err_and c.from_residual.result c.from_residual.ensures.1 in
+    rw (p.1, p.2) (fault-here h c.args.claims.now c.requires.fits c.pairs.pair c.index-claims-pair.result within c.index-claims-pair.is (queries_of h c.args.table.now) _ c.pairs.at c.as_slice.result.now c.as_slice.ensures c.pairs.invariant _ c.in_err-at.ensures.fault)
+
+pub pairs-preserved : goal.pairs-preserved
+pairs-preserved c =
+    let h = c.args.work.now in
+    let within : c.pairs.pair < length (pairs_in h) = omega (arith, c.pairs-test.true, c.len-pair-end.ensures, ap length c.pairs-2.ensures) in
+    fault-later h c.args.claims.now c.requires.fits c.pairs.pair c.index-claims-pair.result within c.index-claims-pair.is (queries_of h c.args.table.now) _ c.pairs.at c.as_slice.result.now c.as_slice.ensures c.pairs.invariant c.in_ok-at.at c.in_ok-at.ensures.fault c.in_ok-at.ensures.line

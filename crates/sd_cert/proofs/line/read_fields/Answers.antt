@@ -7,8 +7,9 @@ use Rattle.sd_cert.specs.declared.line.Line.TheVariants.{Pair}
 use Rattle.sd_cert.specs.Fields.{IsReadAs}
 use Rattle.sd_cert.specs.Keywords.{front_of}
 use Rattle.sd_cert.specs.Lines.{line_text, IsLine}
-use Rattle.sd_cert.specs.Numbered.{numbered}
-use Rattle.sd_cert.proofs.LineLemmas.{pair_line_is, no_numbers, numbers_are, each-ok}
+use Rattle.sd_cert.specs.NumberLines.{word_and_numbers}
+use Rattle.std.proofs.lemmas.Result.{IfOk-weaker}
+use Rattle.sd_cert.proofs.LineLemmas.{pair_line_is, no_numbers, numbers_are}
 use Rattle.sd_cert.proofs.line.read_fields.Goals as goal
 
 pub returns-in-Pair : goal.returns-in-Pair
@@ -23,6 +24,6 @@ returns-in-None c =
 
 pub returns-in-Some : goal.returns-in-Some
 returns-in-Some c =
-    each-ok (IsReadAs numbered IsLine (Some (c.args.keyword, c.as_slice.result.now))) (IsReadAs line_text IsLine (front_of c.args.keyword ++ c.args.fields.now)) c.numbered_line.result
+    IfOk-weaker c.number_line.result (IsReadAs word_and_numbers IsLine (Some (c.args.keyword, c.as_slice.result.now))) (IsReadAs line_text IsLine (front_of c.args.keyword ++ c.args.fields.now))
     (λ o h. numbers_are c.args.keyword c.in_default.not-Old c.in_default.not-New c.in_default.not-Settings c.in_default.not-Pair c.args.fields.now c.in_ok-numbers-in_default.field-0 c.in_ok-numbers-in_default.ensures c.as_slice.result.now o (c.in-Some.is ∙ ap (λ (ns : List ℕ). Some ns) (sym c.as_slice.ensures)) h)
-    c.numbered_line.ensures
+    c.number_line.ensures

@@ -10,4 +10,4 @@ invariant-loop-entry l =
     (length l.table ≡ length l.fn.table)
     × ((least : ℕ) × (l.next ≤ l.first + least) × Ascend least l.count (proved_of (drop l.entry-index l.entries)))
     × (l.next ≤ l.first + l.count)
-    × ((numbers : List ℕ) → IsDecided l.fn.table l.decided numbers → IsDecided l.table l.next (numbers ++ map (λ k. l.first + k) (proved_of (take l.entry-index l.entries))))
+    × ((numbers : List ℕ) → IsDecided l.fn.table l.frontier numbers → IsDecided l.table l.next (numbers ++ map (λ k. l.first + k) (proved_of (take l.entry-index l.entries))))

@@ -4,5 +4,5 @@ use Rattle.sd_cert.proofs.writing.certificate_of.Goals as goal
 
 pub returns-clause-certificate : goal.returns-clause-certificate
 returns-clause-certificate c =
-    let done = fits-all c.args.shapes.now c.args.proofs.now c.pairs.claims c.pairs.shape-index c.pairs.first c.pairs.left.now (omega arith) c.pairs.invariant.total c.pairs.invariant.ascend c.pairs.invariant.rest in
-    record { same_digests = refl; fits = done.0; entries = done.1 }
+    let complete = fits-all c.args.headers.now c.args.proofs.now c.pairs.claims c.pairs.header-index c.pairs.first c.pairs.left.now (omega arith) c.pairs.invariant.total c.pairs.invariant.ascend c.pairs.invariant.rest in
+    record { same_digests = refl; fits = complete.0; entries = complete.1 }

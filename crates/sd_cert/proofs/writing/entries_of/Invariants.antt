@@ -1,14 +1,13 @@
-use Rattle.std.proofs.Common.{◌≡◌, ◌++◌, map, length}
-use Rattle.sd_product.specs.Inductive.{proved_of}
-use Rattle.sd_cert.specs.Accepts.{numbered_from}
-use Rattle.sd_cert.proofs.WrittenLemmas.{Splits}
+use Rattle.std.proofs.Common.{◌≡◌, ◌<◌, ◌+◌, ◌++◌, map, length}
+use Rattle.std.specs.List.{AllByRecursion}
+use Rattle.sd_cert.specs.Accepts.{entry_from}
 use Rattle.sd_cert.proofs.writing.entries_of.Given as goal
 
--- what was taken and what is left are the proofs, and where they ascend, both do
+-- the entries and the rest are the proofs, and the entries are below the end
 abbrev pub invariant-proofs : goal.invariant-proofs
 invariant-proofs l = record {
-  all : map (numbered_from l.first) l.entries ++ l.left ≡ l.initial.proofs;
-  ascend : Splits l.first l.end (proved_of l.initial.proofs) (proved_of l.entries) (proved_of l.left);
+  all : map (entry_from l.first) l.entries ++ l.left ≡ l.initial.proofs;
+  below : AllByRecursion (λ e. l.first + e.candidate < l.end) l.entries;
 }
 
 abbrev pub decreases-proofs : goal.decreases-proofs

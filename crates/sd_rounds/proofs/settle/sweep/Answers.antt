@@ -1,5 +1,5 @@
 use Rattle.std.proofs.Common.{◌≤◌, ◌+◌, refl, arith, ap, ◌∙◌, sym, length}
-use Rattle.sd_product.specs.Work.{pairs_in, queries_under}
+use Rattle.sd_product.specs.Work.{pairs_in, queries_of}
 use Rattle.sd_product.specs.Bodies.{count_before}
 use Rattle.sd_rounds.proofs.Settling.{none_proved, sweeps_on, still_on, swept, passed_all}
 use Rattle.sd_rounds.proofs.settle.sweep.Goals as goal
@@ -10,7 +10,7 @@ each-init c = record {
   sweeps = refl;
   grown = omega arith;
   still = λ none. refl;
-  dropped = none_proved (queries_under c.args.work.now c.args.settled.now.table) c.args.settled.now.table (count_before c.args.work.now 0) _ refl (cc);
+  dropped = none_proved (queries_of c.args.work.now c.args.settled.now.table) c.args.settled.now.table (count_before c.args.work.now 0) _ refl (cc);
 }
 
 pub each-preserved : goal.each-preserved

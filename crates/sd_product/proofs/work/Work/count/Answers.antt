@@ -1,10 +1,6 @@
-use Rattle.std.proofs.Common.{◌∙◌, ap, arith}
-use Rattle.sd_product.specs.Work.{pairs_in}
-use Rattle.sd_product.proofs.PlaceLemmas.{held_count}
+use Rattle.std.proofs.Common.{arith}
+use Rattle.sd_product.proofs.WorkLemmas.{claim_count}
 use Rattle.sd_product.proofs.work.Work.count.Goals as goal
 
 pub returns : goal.returns
-returns c =
-    let w = c.self.inside in
-    let i = c.self.invariant in
-    omega (arith, c.len.ensures, held_count c.args.self.now w.pairs w.candidates.items w.places.items (i.are_pairs ∙ ap pairs_in c.self.view_is) i.are_candidates i.are_places)
+returns c = omega (arith, c.len.ensures, claim_count c.self.inside c.self.invariant c.args.self.now c.self.view_is)

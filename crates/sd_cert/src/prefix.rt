@@ -1,4 +1,4 @@
-//! A certificate as far as its lines were read.
+//! The prefix of a certificate: its lines as far as they were read.
 ghost use Rattle.std.specs.Prelude.{◌≡◌, None, length};
 
 use crate::certificate::{CertPair, Certificate};
@@ -9,17 +9,17 @@ use sqlite_items::Items;
 
 /// A live candidate with the steps that were read so far.
 #[derive(Drop)]
-pub(crate) struct OpenProof {
+pub(crate) struct PartialProof {
     pub candidate: u32,
     pub steps: Items<Step>,
 }
 
 /// A pair with its live candidates that were read so far.
 #[derive(Drop)]
-pub(crate) struct OpenPair {
+pub(crate) struct PartialPair {
     pub state: CertState,
     pub proved: Items<Proved>,
-    pub proof: Option<OpenProof>,
+    pub proof: Option<PartialProof>,
 }
 
 /// What stands below the line that tells how many pairs there are.
@@ -29,34 +29,34 @@ pub(crate) struct Body {
     pub count: u64,
     pub pairs: Items<CertPair>,
     /// The pair that is being read.
-    pub last: Option<OpenPair>,
+    pub last: Option<PartialPair>,
     ghost first: { last ≡ None → length pairs ≡ 0 },
 }
 
-/// A rows step of the open proof, as far as its rows were read.
+/// A rows step of the last proof, as far as its rows were read.
 #[derive(Drop)]
-pub(crate) struct OpenRows {
+pub(crate) struct PartialRows {
     pub digests: Digests,
     pub count: u64,
     pub pairs: Items<CertPair>,
     /// What there is of the last pair.
     pub state: CertState,
     pub proved: Items<Proved>,
-    pub proof: OpenProof,
+    pub proof: PartialProof,
     pub rows: Items<RowLine>,
     /// How many rows come after the next one.
     pub later: u64,
 }
 
-/// The lines that were read.
+/// The first lines of a certificate, which were read.
 #[derive(Drop)]
-pub(crate) enum Draft {
+pub(crate) enum Prefix {
     Empty,
-    Versioned,
+    WithVersion,
     WithOld([u8; 32]),
     WithNew([u8; 32], [u8; 32]),
     WithDigests(Digests),
     Body(Body),
-    Rows(OpenRows),
-    Done(Certificate),
+    Rows(PartialRows),
+    Complete(Certificate),
 }

@@ -10,11 +10,11 @@ use Rattle.sd_cert.specs.declared.digest.Digests.{Digests}
 use Rattle.sd_cert.specs.declared.line.CertState.{CertState}
 use Rattle.sd_cert.specs.declared.line.Line.{Line}
 use Rattle.sd_cert.specs.declared.certificate.CertPair.{CertPair}
-use Rattle.sd_cert.specs.declared.draft.OpenProof.{OpenProof}
-use Rattle.sd_cert.specs.declared.draft.OpenPair.{OpenPair}
+use Rattle.sd_cert.specs.declared.prefix.PartialProof.{PartialProof}
+use Rattle.sd_cert.specs.declared.prefix.PartialPair.{PartialPair}
 use Rattle.sd_cert.specs.declared.line.Line.TheVariants.{Pairs, Pair, Rows, Row}
 use Rattle.sd_cert.specs.Certificates.{step_lines, proved_lines, pair_lines}
-use Rattle.sd_cert.specs.Drafts.{proof_lines, body_lines, digest_lines}
+use Rattle.sd_cert.specs.Prefixes.{proof_lines, body_lines, digest_lines}
 
 pub pair_lines-push : (i : ℕ) (ps : List CertPair) (p : CertPair) → pair_lines i (ps ++ p ∷ []) ≡ pair_lines i ps ++ Pair (i + length ps) p.state ∷ flat_map proved_lines p.proved
 pair_lines-push i [] p =
@@ -27,7 +27,7 @@ pair_lines-push i (q ∷ ps) p =
 
 -- ---- a step more
 
-step-added : (pairs : List CertPair) (state : CertState) (proved : List Proved) (proof longer : OpenProof) (more : List Line) → proof_lines (Some longer) ≡ proof_lines (Some proof) ++ more
+step-added : (pairs : List CertPair) (state : CertState) (proved : List Proved) (proof longer : PartialProof) (more : List Line) → proof_lines (Some longer) ≡ proof_lines (Some proof) ++ more
     → body_lines pairs (Some (record { state = state; proved = proved; proof = Some longer })) ≡ body_lines pairs (Some (record { state = state; proved = proved; proof = Some proof })) ++ more
 step-added pairs state proved proof longer more e =
     let before = flat_map proved_lines proved in
@@ -36,7 +36,7 @@ step-added pairs state proved proof longer more e =
     ∙ sym (append_assoc (pair_lines 0 pairs) (Pair (length pairs) state ∷ (before ++ proof_lines (Some proof))) more)
 
 -- the last row of a rows step ends the step
-pub rows_closed : (d : Digests) (count : ℕ) (pairs : List CertPair) (state : CertState) (proved : List Proved) (proof longer : OpenProof) (rows made : List RowLine) (row : RowLine) (later : ℕ) → made ≡ rows ++ row ∷ [] → later ≡ 0
+pub rows_closed : (d : Digests) (count : ℕ) (pairs : List CertPair) (state : CertState) (proved : List Proved) (proof longer : PartialProof) (rows made : List RowLine) (row : RowLine) (later : ℕ) → made ≡ rows ++ row ∷ [] → later ≡ 0
     → proof_lines (Some longer) ≡ proof_lines (Some proof) ++ step_lines (RowsStep made)
     → digest_lines d ++ Pairs count ∷ body_lines pairs (Some (record { state = state; proved = proved; proof = Some longer })) ≡ (digest_lines d ++ Pairs count ∷ (body_lines pairs (Some (record { state = state; proved = proved; proof = Some proof })) ++ Rows (length rows + suc later) ∷ map Row rows)) ++ Row row ∷ []
 rows_closed d count pairs state proved proof longer rows made row later is last e =
@@ -49,7 +49,7 @@ rows_closed d count pairs state proved proof longer rows made row later is last 
 
 -- ---- a pair more
 
-pub closed_lines : (pairs closed : List CertPair) (last : Option OpenPair) (p : OpenPair) (proved : List Proved) → last ≡ Some p → closed ≡ pairs ++ record { state = p.state; proved = proved } ∷ [] → flat_map proved_lines proved ≡ flat_map proved_lines p.proved ++ proof_lines p.proof → pair_lines 0 closed ≡ body_lines pairs last
+pub closed_lines : (pairs closed : List CertPair) (last : Option PartialPair) (p : PartialPair) (proved : List Proved) → last ≡ Some p → closed ≡ pairs ++ record { state = p.state; proved = proved } ∷ [] → flat_map proved_lines proved ≡ flat_map proved_lines p.proved ++ proof_lines p.proof → pair_lines 0 closed ≡ body_lines pairs last
 closed_lines pairs closed last p proved is e h =
     let place : 0 + length pairs ≡ length pairs = omega arith
     in ap (pair_lines 0) e ∙ pair_lines-push 0 pairs (record { state = p.state; proved = proved })
@@ -57,5 +57,5 @@ closed_lines pairs closed last p proved is e h =
     ∙ ap (λ t. pair_lines 0 pairs ++ Pair (length pairs) p.state ∷ t) h
     ∙ ap (λ o. body_lines pairs o) (sym is)
 
-pub no_last : (pairs : List CertPair) (last : Option OpenPair) → last ≡ None → pair_lines 0 pairs ≡ body_lines pairs last
+pub no_last : (pairs : List CertPair) (last : Option PartialPair) → last ≡ None → pair_lines 0 pairs ≡ body_lines pairs last
 no_last pairs last is = sym (append-nil (pair_lines 0 pairs)) ∙ ap (λ o. body_lines pairs o) (sym is)

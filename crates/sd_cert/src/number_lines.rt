@@ -3,7 +3,7 @@ ghost use Rattle.std.specs.Prelude.{◌≡◌, ◌≢◌, [], ◌∷◌, Some, I
 ghost use Rattle.sd_cert.specs.declared.keyword.Keyword.TheVariants as word;
 ghost use Rattle.sd_cert.specs.Fields.{IsReadAs};
 ghost use Rattle.sd_cert.specs.Lines.{IsLine};
-ghost use Rattle.sd_cert.specs.Numbered.{numbered};
+ghost use Rattle.sd_cert.specs.NumberLines.{word_and_numbers};
 
 use crate::keyword::Keyword;
 use crate::line::Line;
@@ -13,12 +13,12 @@ use sd_kernel::{NodeLine, RowLine, Step};
 use std::alloc::Global;
 
 /// The line of this word and these numbers.
-pub(crate) fn numbered_line(
+pub(crate) fn number_line(
     alloc: Global,
     keyword: Keyword,
     numbers: &[u64],
 ) -> Result<Option<Line>, NoMemory>
-    ensures { IfOk result (IsReadAs numbered IsLine (Some (keyword, numbers.now))) }
+    ensures { IfOk result (IsReadAs word_and_numbers IsLine (Some (keyword, numbers.now))) }
 {
     match keyword {
         Keyword::Chain => chain_line(alloc, numbers),
@@ -34,7 +34,7 @@ pub(crate) fn numbered_line(
 
 /// The chain of these numbers.
 fn chain_line(alloc: Global, numbers: &[u64]) -> Result<Option<Line>, NoMemory>
-    ensures { IfOk result (IsReadAs numbered IsLine (Some (word.Chain, numbers.now))) }
+    ensures { IfOk result (IsReadAs word_and_numbers IsLine (Some (word.Chain, numbers.now))) }
 {
     let [first, others @ ..] = numbers else {
         return Ok(None);
@@ -50,7 +50,7 @@ fn chain_line(alloc: Global, numbers: &[u64]) -> Result<Option<Line>, NoMemory>
 
 fn line_of_one(keyword: Keyword, number: u64) -> Option<Line>
     requires { keyword ≢ word.Chain }
-    ensures { IsReadAs numbered IsLine (Some (keyword, number ∷ [])) result }
+    ensures { IsReadAs word_and_numbers IsLine (Some (keyword, number ∷ [])) result }
 {
     match keyword {
         Keyword::Version => Some(Line::Version(number)),
@@ -68,7 +68,7 @@ fn line_of_one(keyword: Keyword, number: u64) -> Option<Line>
 
 fn line_of_two(keyword: Keyword, first: u64, second: u64) -> Option<Line>
     requires { keyword ≢ word.Chain }
-    ensures { IsReadAs numbered IsLine (Some (keyword, first ∷ second ∷ [])) result }
+    ensures { IsReadAs word_and_numbers IsLine (Some (keyword, first ∷ second ∷ [])) result }
 {
     let a = small(first)?;
     let b = small(second)?;
@@ -84,7 +84,7 @@ fn line_of_two(keyword: Keyword, first: u64, second: u64) -> Option<Line>
 
 fn line_of_three(keyword: Keyword, first: u64, second: u64, third: u64) -> Option<Line>
     requires { keyword ≢ word.Chain }
-    ensures { IsReadAs numbered IsLine (Some (keyword, first ∷ second ∷ third ∷ [])) result }
+    ensures { IsReadAs word_and_numbers IsLine (Some (keyword, first ∷ second ∷ third ∷ [])) result }
 {
     match keyword {
         Keyword::Order => Some(Line::Step(Step::Order(
@@ -98,7 +98,7 @@ fn line_of_three(keyword: Keyword, first: u64, second: u64, third: u64) -> Optio
 
 fn line_of_four(keyword: Keyword, first: u64, by: u64, second: u64, with: u64) -> Option<Line>
     requires { keyword ≢ word.Chain }
-    ensures { IsReadAs numbered IsLine (Some (keyword, first ∷ by ∷ second ∷ with ∷ [])) result }
+    ensures { IsReadAs word_and_numbers IsLine (Some (keyword, first ∷ by ∷ second ∷ with ∷ [])) result }
 {
     match keyword {
         Keyword::Add => Some(Line::Row(RowLine::Add(small(first)?, by, small(second)?, with))),
