@@ -1,6 +1,6 @@
 -- The terms of a body over truth values are over truth values.
 use Rattle.std.proofs.Common.{◌≡◌, ℕ, zero, suc, ◌+◌, List, [], ◌∷◌, ◌++◌, length, get_or, sym, subst, refl}
-use Rattle.std.specs.Prelude.{Bool, true, false, Option, Some, None, map, set, slice_get}
+use Rattle.std.specs.Prelude.{Bool, true, false, Option, Some, None, map, set}
 use Rattle.std.specs.List.{AllByRecursion}
 use Rattle.sd_base.proofs.Lists.{all-at, all-append}
 use Rattle.sd_base.specs.declared.Sort.{Sort, Int, Bool as BoolSort}
@@ -62,7 +62,6 @@ set_all-boolean : (ts : List Tree) (ms : List ℕ) (us : List Tree) → AllBoole
 set_all-boolean ts [] us h k = h
 set_all-boolean ts (m ∷ ms) [] h k = h
 set_all-boolean ts (m ∷ ms) (u ∷ us) h k = set_all-boolean (set ts m u) ms us (set-boolean ts m u h k.0) k.1
-
 
 -- ---- types
 

@@ -27,7 +27,7 @@ use Rattle.sd_term.specs.Tree.{and-left, and-right}
 use Rattle.sd_cand.specs.declared.candidate.Candidate.{Candidate}
 use Rattle.sd_cand.specs.declared.candidate.Relation.{Relation}
 use Rattle.sd_cand.specs.Candidates.{equal_from, equal_inputs, flag_candidates, output_candidates, candidates_in}
-use Rattle.sd_product.specs.Query.{Claimed, Work}
+use Rattle.sd_product.specs.Query.{Work}
 use Rattle.sd_product.specs.Work.{PairedPrograms, claims_of}
 use Rattle.sd_product.specs.Fits.{FitsAt, Fits, FitsBoth, FitsPair, entry_sorts, exit_sorts}
 use Rattle.sd_product.proofs.SpotFits.{Agrees, Alike, stand-self, stand-after, alike, alike-append, alike-take, alike-past, ins-agree, outs-agree, shared-agree, spots-agree}

@@ -1,16 +1,15 @@
 -- The numbers of the candidates of one pair.
-use Rattle.std.proofs.Common.{◌≡◌, ◌∙◌, sym, ap, refl, ℕ, zero, suc, ◌+◌, ◌-◌, ◌<◌, ◌≤◌, List, [], ◌∷◌, ◌++◌, length, get_or, take, map, arith}
+use Rattle.std.proofs.Common.{◌≡◌, ◌∙◌, sym, ap, refl, ℕ, zero, suc, ◌+◌, ◌-◌, ◌<◌, ◌≤◌, List, [], ◌∷◌, ◌++◌, length, take, map, arith}
 use Rattle.std.specs.Prelude.{Option, Some, None, slice_get}
 use Rattle.std.proofs.lemmas.List.{length-map}
-use Rattle.std.proofs.lemmas.Option.{slice_get-get_or, slice_get_within, get_or_from_slice_get, same_Some}
+use Rattle.std.proofs.lemmas.Option.{same_Some}
 use Rattle.sd_base.proofs.Lists.{slice_get-append_right}
 use Rattle.sd_match.specs.declared.pair.Pair.{Pair}
 use Rattle.sd_cand.specs.declared.candidate.Candidate.{Candidate}
 use Rattle.sd_product.specs.Query.{Claimed}
 use Rattle.sd_product.specs.Work.{PairedPrograms, candidates_in_pair, candidate_lists, claims_of, claims_in, pairs_in}
 use Rattle.sd_product.specs.Bodies.{IsAbout, count_before}
-use Rattle.sd_product.specs.Numbering.{firsts_from}
-use Rattle.sd_product.proofs.FirstLemmas.{firsts_at, one_pair}
+use Rattle.sd_product.proofs.FirstLemmas.{one_pair}
 
 abbrev claim : Pair → Candidate → Claimed
 claim pair c = record { pair = pair; candidate = c }

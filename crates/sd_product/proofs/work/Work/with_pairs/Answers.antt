@@ -1,6 +1,5 @@
-use Rattle.std.proofs.Common.{◌∙◌, ap, subst, List}
-use Rattle.sd_core.specs.declared.CoreProc.{CoreProc}
-use Rattle.sd_runs.specs.Infallible.{AreTheInfallible, entry_at, infallible_of}
+use Rattle.std.proofs.Common.{◌∙◌, ap}
+use Rattle.sd_runs.specs.Infallible.{entry_at, infallible_of}
 use Rattle.sd_runs.proofs.Greatest.{are_greatest, are_one}
 use Rattle.sd_product.specs.Numbering.{firsts_from, places_from}
 use Rattle.sd_product.proofs.AscendingLemmas.{are_ascending_in}
