@@ -15,7 +15,7 @@ use crate::calls::Claims;
 use crate::facts::Obligation;
 use crate::tables::{candidate_places, first_numbers, pairs_by_old};
 use sd_base::NoMemory;
-use sd_cand::{Candidate, LiveTable, candidates};
+use sd_cand::{CandError, Candidate, LiveTable, candidates};
 use sd_config::Settings;
 use sd_core::CoreProgram;
 use sd_match::{MatchError, Pairs, pair_up};
@@ -61,6 +61,17 @@ impl From<MatchError> for WorkError {
                 WorkError::Match(MatchError::FunctionSignatures(name))
             }
         }
+    }
+}
+
+impl From<CandError> for WorkError {
+    ghost use Rattle.std.specs.Prelude.{◌≡◌};
+    ghost use Rattle.sd_product.specs.declared.work.WorkError.TheVariants.{NoMemory};
+
+    ghost from_gives = { λ _ e. e ≡ NoMemory };
+
+    fn from(_: CandError) -> WorkError {
+        WorkError::NoMemory
     }
 }
 
@@ -116,7 +127,8 @@ impl Work {
         ensures refused { IfErr result (λ e. Tells e (refusal_of old new)) }
     {
         let pairs = pair_up(alloc, &old, &new, settings)?;
-        let work = Work::with_pairs(alloc, old, new, pairs)?;
+        let candidates = candidates(alloc, &old, &new, &pairs, settings)?;
+        let work = Work::with_pairs(alloc, old, new, pairs, candidates)?;
         Ok(work)
     }
 
@@ -125,15 +137,16 @@ impl Work {
         old: CoreProgram,
         new: CoreProgram,
         pairs: Pairs,
+        candidates: Vec<Items<Candidate>>,
     ) -> Result<Work, NoMemory>
         requires old { WellFormed old }
         requires new { WellFormed new }
         requires pairs { pairs ≡ pairs_in (record { old = old; new = new }) }
+        requires candidates { candidates.items ≡ candidate_lists (record { old = old; new = new }) pairs }
         ensures programs { IfOk result (λ work. (work.old ≡ old) × (work.new ≡ new)) }
     {
         let old_infallible = infallible_procedures(alloc, old.procs.as_slice())?;
         let new_infallible = infallible_procedures(alloc, new.procs.as_slice())?;
-        let candidates = candidates(alloc, &pairs)?;
         let pair_of_old = pairs_by_old(alloc, &pairs, old.procs.len())?;
         let first = first_numbers(alloc, candidates.as_slice())?;
         let places = candidate_places(alloc, candidates.as_slice())?;
