@@ -2,7 +2,7 @@
 ghost use Rattle.std.specs.Prelude.{◌≡◌, ℕ, ◌<◌, ◌≤◌, ◌+◌, IfOk, IfErr, OnOk, Some, None, length, slice_get};
 ghost use Rattle.sd_core.specs.Formed.{WellFormed};
 ghost use Rattle.sd_match.specs.Refusals.{refusal_of};
-ghost use Rattle.sd_vcgen.specs.Numbers.{context_of};
+ghost use Rattle.sd_vcgen.specs.Numbers.{context_of, KeepsAll};
 ghost use Rattle.sd_product.specs.Query.{old_context, new_context};
 ghost use Rattle.sd_product.specs.Work as work;
 ghost use Rattle.sd_product.specs.Work.{IsAt, pairs_in, candidate_lists, claims_in, work_of};
@@ -82,6 +82,9 @@ pub struct Work {
     new: CoreProgram,
     old_infallible: Vec<bool>,
     new_infallible: Vec<bool>,
+    /// By procedure: whether its calls are kept, which all are.
+    old_kept: Vec<bool>,
+    new_kept: Vec<bool>,
     pairs: Pairs,
     candidates: Vec<Items<Candidate>>,
     /// By the place of an old procedure: its pair.
@@ -147,6 +150,8 @@ impl Work {
     {
         let old_infallible = infallible_procedures(alloc, old.procs.as_slice())?;
         let new_infallible = infallible_procedures(alloc, new.procs.as_slice())?;
+        let old_kept = vec![in alloc; true; old.procs.len()]?;
+        let new_kept = vec![in alloc; true; new.procs.len()]?;
         let pair_of_old = pairs_by_old(alloc, &pairs, old.procs.len())?;
         let first = first_numbers(alloc, candidates.as_slice())?;
         let places = candidate_places(alloc, candidates.as_slice())?;
@@ -155,6 +160,8 @@ impl Work {
             new,
             old_infallible,
             new_infallible,
+            old_kept,
+            new_kept,
             pairs,
             candidates,
             pair_of_old,
@@ -236,23 +243,29 @@ impl Work {
         }
     }
 
-    /// The old program, with its infallible procedures.
+    /// The old program, with its infallible procedures. All calls are kept.
     pub(crate) fn old_context(&self) -> Context<'_>
-        ensures { context_of result ≡ old_context (work_of self.now) (work.infallibles_in self.now) }
+        ensures context { context_of result ≡ old_context (work_of self.now) (work.infallibles_in self.now) }
+        ensures kept { KeepsAll result }
     {
         Context {
             program: &self.old,
             infallible: self.old_infallible.as_slice(),
+            kept: self.old_kept.as_slice(),
+            depth: 0,
         }
     }
 
-    /// The new program, with its infallible procedures.
+    /// The new program, with its infallible procedures. All calls are kept.
     pub(crate) fn new_context(&self) -> Context<'_>
-        ensures { context_of result ≡ new_context (work_of self.now) (work.infallibles_in self.now) }
+        ensures context { context_of result ≡ new_context (work_of self.now) (work.infallibles_in self.now) }
+        ensures kept { KeepsAll result }
     {
         Context {
             program: &self.new,
             infallible: self.new_infallible.as_slice(),
+            kept: self.new_kept.as_slice(),
+            depth: 0,
         }
     }
 

@@ -19,8 +19,8 @@ returns-clause-sorted c =
     let h = c.args.self.now in
     let formed = well_formed w c.self.invariant h c.self.view_is in
     let own : Work = work_of h in
-    let old : c.old_context.result.program.now ≡ h.old = ap (λ (C : Context). C.program) c.old_context.ensures in
-    let new : c.new_context.result.program.now ≡ h.new = ap (λ (C : Context). C.program) c.new_context.ensures in
+    let old : c.old_context.result.program.now ≡ h.old = ap (λ (C : Context). C.program) c.old_context.ensures.context in
+    let new : c.new_context.result.program.now ≡ h.new = ap (λ (C : Context). C.program) c.new_context.ensures.context in
     let same : own ≡ record { old = c.old_context.result.program.now; new = c.new_context.result.program.now; claims = claims_of c.claims.result } = λ j. record { old = sym old j; new = sym new j; claims = sym c.claims.ensures.claims j } in
     let all : AllByRecursion (FitsPair own) own.claims = claims_fit h own formed.old_formed formed.new_formed in
     let x : Claimed = record { pair = c.pair.result.now; candidate = c.index-candidates_of-place.result } in
