@@ -7,6 +7,7 @@ use Rattle.std.proofs.Math.Seq.{take-append_seam, drop-append_seam}
 use Rattle.std.proofs.lemmas.Bool.{eqb-true}
 use Rattle.std.proofs.lemmas.List.{append_assoc, append-nil}
 use Rattle.std.proofs.lemmas.Option.{same_Some}
+use Rattle.sd_base.proofs.Options.{none-is}
 use Rattle.sd_base.proofs.Lists.{all-append, all-filter}
 use Rattle.sd_base.specs.declared.Sort.{Sort}
 use Rattle.sd_base.specs.declared.Var.{Var}
@@ -140,10 +141,6 @@ root-found n (p ∷ ps) f j (suc k) q e at here =
     go : (b : Bool) → (if b then Some n else root_from (suc n) ps f) ≡ Some j → (root_from (suc n) ps f ≡ Some j → is_none q.parent ≡ true) → is_none q.parent ≡ true
     go true found rest = absurd (let same : n ≡ j = same_Some n j found in omega (arith, same, at))
     go false found rest = rest found
-
-none-is : {A : Type 0} (o : Option A) → is_none o ≡ true → o ≡ None
-none-is None h = refl
-none-is (Some x) h = let bad : ◌≡◌ {A = Bool} false true = h in absurd (cc)
 
 -- procedure q at place j is that of loop k of another with the types of this one
 record IsPartner (Q : CoreProgram) (own : CoreProc) (k : ℕ) (q : CoreProc) : Type 0 where

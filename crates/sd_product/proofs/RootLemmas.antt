@@ -4,6 +4,7 @@ use Rattle.std.specs.Prelude.{◌&&◌, Option, Some, None, map, slice_get, if�
 use Rattle.std.specs.Option.{is_none}
 use Rattle.std.specs.List.{AllByRecursion}
 use Rattle.std.proofs.lemmas.Option.{same_Some}
+use Rattle.sd_base.proofs.Options.{none-is}
 use Rattle.sd_base.proofs.Lists.{all-append}
 use Rattle.sd_base.specs.Value.{Text, same_text}
 use Rattle.sd_core.specs.declared.CoreProc.{CoreProc}
@@ -18,10 +19,6 @@ use Rattle.sd_cand.specs.Candidates.{candidates_in}
 use Rattle.sd_product.specs.Query.{Claimed}
 use Rattle.sd_product.specs.Summaries.{IsRootPair}
 use Rattle.sd_product.specs.Work.{PairedPrograms, candidates_in_pair, claims_of, claims_in, work_of}
-
-none-is : {A : Type 0} (o : Option A) → is_none o ≡ true → o ≡ None
-none-is None e = refl
-none-is (Some x) e = absurd (let bad : false ≡ true = e in cc)
 
 -- ---- procedures of the texts
 
