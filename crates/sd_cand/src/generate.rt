@@ -4,10 +4,42 @@ ghost use Rattle.sd_cand.specs.Candidates.{equal_from, flag_candidates, output_c
 
 use crate::candidate::{Candidate, Claim, Relation};
 use sd_base::NoMemory;
+use sd_config::Settings;
+use sd_core::CoreProgram;
 use sd_match::{Pair, PairState, Pairs, SpotPair};
 use sd_term::Kind;
 use sqlite_items::Items;
-use std::alloc::Global;
+use std::alloc::{AllocFailed, Global};
+use thiserror::Error;
+
+/// Why there are no candidates. There is no limit on their number yet, so that they are too many can't come.
+#[derive(Debug, Drop, Error)]
+pub enum CandError {
+    #[error("out of memory")]
+    NoMemory,
+}
+
+impl From<NoMemory> for CandError {
+    ghost use Rattle.std.specs.Prelude.{◌≡◌};
+    ghost use Rattle.sd_cand.specs.declared.generate.CandError.TheVariants.{NoMemory};
+
+    ghost from_gives = { λ _ e. e ≡ NoMemory };
+
+    fn from(_: NoMemory) -> CandError {
+        CandError::NoMemory
+    }
+}
+
+impl<T: Drop> From<AllocFailed<T>> for CandError {
+    ghost use Rattle.std.specs.Prelude.{◌≡◌};
+    ghost use Rattle.sd_cand.specs.declared.generate.CandError.TheVariants.{NoMemory};
+
+    ghost from_gives = { λ _ e. e ≡ NoMemory };
+
+    fn from(_: AllocFailed<T>) -> CandError {
+        CandError::NoMemory
+    }
+}
 
 /// Equality at a place.
 fn equal_at(place: usize) -> Relation
@@ -95,8 +127,18 @@ pub fn candidates_of(alloc: Global, pair: &Pair) -> Result<Items<Candidate>, NoM
     Ok(list)
 }
 
-/// The candidates of each pair.
-pub fn candidates(alloc: Global, pairs: &Pairs) -> Result<Vec<Items<Candidate>>, NoMemory>
+/// The candidates of each pair of two programs.
+///
+/// # Errors
+///
+/// Out of memory alone.
+pub fn candidates(
+    alloc: Global,
+    _old: &CoreProgram,
+    _new: &CoreProgram,
+    pairs: &Pairs,
+    _settings: &Settings,
+) -> Result<Vec<Items<Candidate>>, CandError>
     ensures { IfOk result (λ all. all.items ≡ all_candidates pairs.now) }
 {
     let mut all = Vec::new(alloc);

@@ -6,5 +6,5 @@ mod generate;
 mod live;
 
 pub use candidate::{Candidate, Claim, Relation};
-pub use generate::{candidates, candidates_of};
+pub use generate::{CandError, candidates, candidates_of};
 pub use live::LiveTable;

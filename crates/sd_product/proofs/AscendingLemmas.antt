@@ -2,7 +2,7 @@
 use Rattle.std.proofs.Common.{◌≡◌, ◌≢◌, ◌∙◌, sym, ap, refl, subst, inl, inr, ℕ, zero, suc, ◌+◌, ◌<◌, ◌≤◌, List, [], ◌∷◌, ◌++◌, length, get_or, set, arith}
 use Rattle.std.specs.Prelude.{◌⊎◌, Option, Some, None, slice_get}
 use Rattle.std.proofs.lemmas.Bool.{cases_lt}
-use Rattle.std.proofs.lemmas.Option.{slice_get_within}
+use Rattle.std.proofs.lemmas.Option.{slice_get_within, same_Some}
 use Rattle.std.proofs.lemmas.List.{get_or-set_same, get_or-set_other}
 use Rattle.sd_core.specs.declared.CoreProc.{CoreProc}
 use Rattle.sd_core.specs.declared.CoreProgram.{CoreProgram}
@@ -48,9 +48,6 @@ in_order : (P Q : CoreProgram) (i m : ℕ) (ps : List CoreProc) → i + length p
 in_order P Q i m [] le = tt
 in_order P Q i m (p ∷ ps) le = by_first P Q i m p (partner P Q p) (pairs_from P Q (suc i) ps) (omega arith) (in_order P Q (suc i) m ps (omega arith))
 
-some_is : {A : Type 0} (a b : A) → ◌≡◌ {A = Option A} (Some a) (Some b) → a ≡ b
-some_is a b e = cc
-
 record Between (n m : ℕ) (p : Pair) : Type 0 where
   from : n ≤ p.old
   within : p.old < m
@@ -58,7 +55,7 @@ record Between (n m : ℕ) (p : Pair) : Type 0 where
 between : (n m : ℕ) (ps : List Pair) (i : ℕ) (p : Pair) → InOrder n m ps → slice_get ps i ≡ Some p → Between n m p
 between n m [] i p h e = absurd (let bad : ◌≡◌ {A = Option Pair} None (Some p) = e in cc)
 between n m (q ∷ ps) zero p h e =
-    let is : q.old ≡ p.old = ap (λ (x : Pair). x.old) (some_is q p e) in
+    let is : q.old ≡ p.old = ap (λ (x : Pair). x.old) (same_Some q p e) in
     record { from = omega (arith, h.0); within = omega (arith, h.1) }
 between n m (q ∷ ps) (suc i) p h e =
     let b = between (suc q.old) m ps i p h.2 e in
@@ -68,7 +65,7 @@ ascends : (n m : ℕ) (ps : List Pair) (i j : ℕ) (p q : Pair) → InOrder n m 
 ascends n m [] i j p q h lt e f = absurd (let bad : ◌≡◌ {A = Option Pair} None (Some p) = e in cc)
 ascends n m (r ∷ ps) i zero p q h lt e f = absurd (omega arith)
 ascends n m (r ∷ ps) zero (suc j) p q h lt e f =
-    let is : r.old ≡ p.old = ap (λ (x : Pair). x.old) (some_is r p e) in
+    let is : r.old ≡ p.old = ap (λ (x : Pair). x.old) (same_Some r p e) in
     let b = between (suc r.old) m ps j q h.2 f in
     omega (arith, b.from)
 ascends n m (r ∷ ps) (suc i) (suc j) p q h lt e f = ascends (suc r.old) m ps i j p q h.2 (omega arith) e f
@@ -103,7 +100,7 @@ finds_more n m entries next pairs pair order long here is before i p lt at = ap 
         get_or-set_other entries pair.old p.old (Some n) None apart ∙ before i p earlier at
     go (inr late) =
         let same : i ≡ n = omega arith in
-        let one : p ≡ pair = some_is p pair (sym at ∙ ap (slice_get pairs) same ∙ here) in
+        let one : p ≡ pair = same_Some p pair (sym at ∙ ap (slice_get pairs) same ∙ here) in
         ap (λ (x : Pair). get_or (set entries pair.old (Some n)) x.old None) one ∙ get_or-set_same entries pair.old (Some n) None within ∙ ap Some (sym same)
 
 -- and then of all

@@ -34,9 +34,6 @@ module _ (w : Work) (z : Infallibles) (table : List Bool) (x : Claimed) (bank : 
 
 -- ---- of a work
 
-pub some_is : {A : Type 0} (a b : A) → ◌≡◌ {A = Option A} (Some a) (Some b) → a ≡ b
-some_is a b e = cc
-
 -- the bodies of a pair are those of an obligation about it
 pub sides_for : (h : PairedPrograms) (q : Obligation) (bank : List Tree) (o : Option Sides) (own : Pair) → work_in q ≡ work_of h → infallibles_in q ≡ paired.infallibles_in h → own ≡ q.pair.now
     → AreSides (old_context (work_of h) (paired.infallibles_in h)) (new_context (work_of h) (paired.infallibles_in h)) bank (slice_get h.old.procs own.old) (slice_get h.new.procs own.new) o → AreSidesFor q bank o

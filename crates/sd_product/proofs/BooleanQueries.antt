@@ -1,7 +1,8 @@
 -- The facts about two programs over truth values are over truth values.
-use Rattle.std.proofs.Common.{◌≡◌, ℕ, suc, ◌+◌, List, [], ◌∷◌, ◌++◌, length, sym, subst, refl}
-use Rattle.std.specs.Prelude.{Bool, true, false, ◌&&◌, Option, Some, None, map, slice_get, if◌then◌else◌}
+use Rattle.std.proofs.Common.{◌≡◌, ℕ, ◌+◌, List, [], ◌∷◌, ◌++◌, length, sym, subst}
+use Rattle.std.specs.Prelude.{Bool, true, Option, Some, None, map, slice_get}
 use Rattle.std.specs.List.{AllByRecursion}
+use Rattle.sd_base.proofs.Lists.{all-at}
 use Rattle.sd_base.specs.declared.Var.{Var}
 use Rattle.sd_core.specs.declared.CoreExpr.{CoreExpr}
 use Rattle.sd_core.specs.declared.CoreProc.{CoreProc}
@@ -21,11 +22,11 @@ use Rattle.sd_cand.specs.declared.candidate.Claim.{Claim}
 use Rattle.sd_cand.specs.declared.candidate.Claim.TheVariants.{Flag, Output}
 use Rattle.sd_kernel.specs.Boolean.{IsBoolean, AllBoolean}
 use Rattle.sd_kernel.proofs.Propositions.{not-boolean, or-boolean}
-use Rattle.sd_vcgen.specs.Body.{Site, State, Context, nothing, symbols, term_in, count_all, body_of, outs_of}
-use Rattle.sd_product.specs.Relations.{entry, exit, term_at, term_of, claim_term}
-use Rattle.sd_product.specs.Query.{Claimed, Work, Infallibles, old_context, new_context, is_live, inputs_from, input_count, Side, side_of, side_from, first_call, old_side, new_side, under, site_inputs, site_ends, implication, is_about, calls_related, with_each, all_related, no_terms, axioms_of, apart, conditions_of, claim_of, premises_of, facts_of, query_by, query_of}
-use Rattle.sd_product.proofs.Booleans.{constant-boolean, eq-boolean, implies-boolean, append-boolean, all-found, truth-sorts, symbols-boolean, BooleanStore, read-boolean, reads-boolean, BooleanSite, BooleanState, body-boolean}
-use Rattle.sd_product.proofs.OnlyEqual.{IsEqual, IsEqualClaim, IsOnlyEqual, IsEqualClaimed, claims-equal}
+use Rattle.sd_vcgen.specs.Body.{Context, nothing, term_in, body_of, outs_of}
+use Rattle.sd_product.specs.Relations.{exit, term_at, term_of, claim_term}
+use Rattle.sd_product.specs.Query.{Claimed, Work, inputs_from, Side, side_from, all_related, no_terms, axioms_of, apart, conditions_of, claim_of, premises_of, facts_of}
+use Rattle.sd_product.proofs.Booleans.{constant-boolean, eq-boolean, implies-boolean, append-boolean, truth-sorts, symbols-boolean, BooleanStore, read-boolean, reads-boolean, BooleanState, body-boolean}
+use Rattle.sd_product.proofs.OnlyEqual.{IsEqual, IsEqualClaim, IsEqualClaimed}
 
 -- ---- relations
 
@@ -67,7 +68,7 @@ pub side-boolean : (C : Context) (q : ℕ) (p : CoreProc) → WellFormed C.progr
 side-boolean C q p formed truths found i k =
     let inputs = inputs_from i C.program p in
     let s = body_of C p k inputs.slots inputs.globals in
-    let own : IsBooleanProc p = all-found IsBooleanProc C.program.procs q p truths.procs found in
+    let own : IsBooleanProc p = all-at IsBooleanProc C.program.procs q p truths.procs found in
     let begin : BooleanStore inputs = inputs-boolean i C.program p truths own in
     let end : BooleanState s = body-boolean C p truths own (formed.procs q p found).body k inputs.slots inputs.globals begin.slots begin.globals in
     record {

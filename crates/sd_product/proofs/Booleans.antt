@@ -1,7 +1,8 @@
 -- The terms of a body over truth values are over truth values.
 use Rattle.std.proofs.Common.{◌≡◌, ℕ, zero, suc, ◌+◌, List, [], ◌∷◌, ◌++◌, length, get_or, sym, subst, refl}
-use Rattle.std.specs.Prelude.{Bool, true, false, Option, Some, None, map, set, slice_get}
+use Rattle.std.specs.Prelude.{Bool, true, false, Option, Some, None, map, set}
 use Rattle.std.specs.List.{AllByRecursion}
+use Rattle.sd_base.proofs.Lists.{all-at, all-append}
 use Rattle.sd_base.specs.declared.Sort.{Sort, Int, Bool as BoolSort}
 use Rattle.sd_base.specs.declared.Var.{Var}
 use Rattle.sd_base.specs.Sorts.{MapOf}
@@ -62,15 +63,6 @@ set_all-boolean ts [] us h k = h
 set_all-boolean ts (m ∷ ms) [] h k = h
 set_all-boolean ts (m ∷ ms) (u ∷ us) h k = set_all-boolean (set ts m u) ms us (set-boolean ts m u h k.0) k.1
 
-pub all-found : {A : Type 0} (K : A → Type 0) (xs : List A) (n : ℕ) (x : A) → AllByRecursion K xs → slice_get xs n ≡ Some x → K x
-all-found K [] n x h e = cc
-all-found K (y ∷ ys) zero x h e = let same : y ≡ x = cc in subst K same h.0
-all-found K (y ∷ ys) (suc n) x h e = all-found K ys n x h.1 e
-
-pub all-append : {A : Type 0} (K : A → Type 0) (xs ys : List A) → AllByRecursion K xs → AllByRecursion K ys → AllByRecursion K (xs ++ ys)
-all-append K [] ys h k = k
-all-append K (x ∷ xs) ys h k = (h.0, all-append K xs ys h.1 k)
-
 -- ---- types
 
 abbrev pub IsTruth : Sort → Type 0
@@ -93,8 +85,8 @@ state-truths P p g h = record {
 }
 
 truth-at : (S : Store Sort) (p : Spot) (s : Sort) → StateTruths S → sort_at S p ≡ Some s → IsTruth s
-truth-at S (Slot n) s h e = all-found IsTruth S.slots n s h.slots e
-truth-at S (Global n) s h e = all-found IsTruth S.globals n s h.globals e
+truth-at S (Slot n) s h e = all-at IsTruth S.slots n s h.slots e
+truth-at S (Global n) s h e = all-at IsTruth S.globals n s h.globals e
 
 get-truth : (ss : List Sort) (i : ℕ) → AllByRecursion IsTruth ss → IsTruth (get_or ss i BoolSort)
 get-truth [] i h = refl
@@ -277,7 +269,7 @@ module _ (C : Context) (truths : IsBooleanCore C.program) (p : CoreProc) (own : 
         (row-boolean a m.1 is.1 k (and_of path t) s (and-boolean path t c test) h)
     step-boolean (Call ps q es) m is k path s c h =
         subst (λ (o : Option CoreProc). BooleanState (call_term C k path o ps q es s)) (sym is.found)
-        (call-boolean q is.callee ps es (all-found IsBooleanProc P.procs q is.callee truths.procs is.found) m is.ins k path s c h)
+        (call-boolean q is.callee ps es (all-at IsBooleanProc P.procs q is.callee truths.procs is.found) m is.ins k path s c h)
     step-boolean (Assume e) m is k path s c h =
         let t = term_in F s.store e in
         let new = implies-boolean (guard_of path s) t (guard-boolean path s c h) (test-boolean s e m is h) in

@@ -1,11 +1,9 @@
 -- Unique constants among the terms of facts.
 use Rattle.std.proofs.Common.{◌≡◌, ℕ, ◌+◌, ◌<◌, Bool, true, false, cond, List, [], ◌∷◌, ◌++◌, length, drop, get_or, refl, sym, ap, ◌∙◌}
-use Rattle.std.specs.Prelude.{◌&&◌, ◌||◌, ◌↔◌, IsTrue, map, if◌then◌else◌}
+use Rattle.std.specs.Prelude.{◌&&◌, ◌||◌, map, if◌then◌else◌}
 use Rattle.std.specs.List.{flat_map}
 use Rattle.std.proofs.Math.Bool.{and-true}
-use Rattle.std.specs.Cmp.Lexicographic.{bytes_decides}
 use Rattle.sd_base.specs.declared.Var.{Var}
-use Rattle.sd_base.specs.Value.{Text, same_text}
 use Rattle.sd_core.specs.Formed.{same_sort}
 use Rattle.sd_term.specs.declared.node.Head.{Head}
 use Rattle.sd_term.specs.Tree.{Tree, leaf, call, tree, applied, subterms, same_tree, same_tree-true}
@@ -16,15 +14,6 @@ use Rattle.sd_product.specs.Query.{is_constant, any_constant, occurs, constant_t
 use Rattle.sd_product.specs.Unique.{present, differ_two, differ_from, differ}
 
 -- ---- tests
-
-pub same_text-test : (s t : Text) (r : Bool) → (IsTrue r ↔ (s ≡ t)) → r ≡ same_text s t
-same_text-test s t r h = go r (same_text s t) h refl
-  where
-    go : (r b : Bool) → (IsTrue r ↔ (s ≡ t)) → same_text s t ≡ b → r ≡ b
-    go true true h e = refl
-    go false false h e = refl
-    go true false h e = absurd (let a = (bytes_decides s t).1 (h.0 refl) in cc)
-    go false true h e = h.1 ((bytes_decides s t).0 e)
 
 -- a term with parts is no constant
 applied-call : (c : Var) (f x : Tree) (xs : List Tree) → is_constant c (applied (call f x) xs) ≡ false
@@ -99,9 +88,6 @@ and-false : (b : Bool) → (b && false) ≡ false
 and-false true = refl
 and-false false = refl
 
-and-both : (a b : Bool) → a ≡ true → b ≡ true → (a && b) ≡ true
-and-both a b e f = (λ i. e i && f i)
-
 absent_from : (facts : List Tree) (c : Var) (cs : List Var) → occurs facts c ≡ false → apart_from facts c cs ≡ []
 absent_from facts c [] e = refl
 absent_from facts c (d ∷ ds) e =
@@ -114,7 +100,7 @@ from-by : (terms facts : List Tree) (c d : Var) (ds : List Var) → any_constant
 from-by terms facts c d ds same e rest true is =
     let t = not_of (eq_of (constant_term c) (constant_term d)) in
     let sorts = same_sort c.sort d.sort in
-    let test : (sorts && (occurs facts c && occurs facts d)) ≡ sorts = ap (λ (b : Bool). sorts && b) (and-both (occurs facts c) (occurs facts d) e is) ∙ and-true sorts in
+    let test : (sorts && (occurs facts c && occurs facts d)) ≡ sorts = ap (λ (b : Bool). sorts && b) (λ i. e i && is i) ∙ and-true sorts in
     ap (λ (b : Bool). differ_from (constant_term c) ((if b then constant_term d ∷ [] else []) ++ present terms ds)) (same ∙ is)
     ∙ (λ i. (if sym test i then t ∷ [] else []) ++ rest i)
 from-by terms facts c d ds same e rest false is =

@@ -1,12 +1,11 @@
 -- What a program declares is true: its axioms, and that its unique constants differ.
 use Rattle.std.proofs.Common.{◌≡◌, ℕ, List, [], ◌∷◌, refl, sym, ap, ◌∙◌}
-use Rattle.std.specs.Prelude.{◌≢◌, true, false, not, ◌&&◌, map, IsTrue}
+use Rattle.std.specs.Prelude.{◌≢◌, false, not, ◌&&◌, map, IsTrue}
 use Rattle.std.specs.List.{AllByRecursion}
-use Rattle.std.specs.Cmp.Lexicographic.{bytes_decides}
-use Rattle.sd_base.specs.declared.Sort.{Sort, Int, Bool as BoolSort, Named}
+use Rattle.sd_base.proofs.SortLemmas.{same_sort-is}
+use Rattle.sd_base.specs.declared.Sort.{Sort, Bool as BoolSort}
 use Rattle.sd_base.specs.declared.Var.{Var}
 use Rattle.sd_base.specs.Value.{Value, same_value}
-use Rattle.sd_base.specs.Sorts.{MapOf}
 use Rattle.sd_base.specs.Cast.{cast}
 use Rattle.sd_base.specs.Meaning.{Meaning, interpretation, truth_of}
 use Rattle.sd_base.proofs.ValueLemmas.{value_is}
@@ -22,7 +21,7 @@ use Rattle.sd_term.specs.Truth.{Valuation, value, MakesTrue}
 use Rattle.sd_term.proofs.Typed.{cast-same, sorted-has}
 use Rattle.sd_vcgen.specs.Body.{term_in}
 use Rattle.sd_vcgen.specs.Laws.{Reads}
-use Rattle.sd_vcgen.proofs.Truths.{not_truth, first_on, second_on}
+use Rattle.sd_vcgen.proofs.Truths.{not_truth, first_on}
 use Rattle.sd_vcgen.proofs.Values.{term-value}
 use Rattle.sd_product.specs.Query.{no_terms, axioms_of, occurs, constant_term, apart_from, apart}
 use Rattle.sd_product.proofs.Truths.{split, true-value, makes-append, makes-if}
@@ -36,16 +35,6 @@ reads-meaning P M meaning symbol =
       constants = λ c g e. cast-same g.result (M.constant c) (sorted-has g.result (M.constant c) (fits.constants c g e));
       functions = λ f g xs e h. cast-same g.result ((interpretation M).apply f xs) (sorted-has g.result ((interpretation M).apply f xs) (fits.functions f g xs e h));
     }
-
-sort-is : (s t : Sort) → same_sort s t ≡ true → s ≡ t
-sort-is Int Int h = refl
-sort-is BoolSort BoolSort h = refl
-sort-is (Named t) (Named u) h = ap Named ((bytes_decides t u).0 h)
-sort-is (MapOf i v) (MapOf j w) h =
-    let p = sort-is i j (first_on (same_sort i j) (same_sort v w) h) in
-    let q = sort-is v w (second_on (same_sort i j) (same_sort v w) h) in
-    λ k. MapOf (p k) (q k)
-sort-is _ _ h = absurd (cc)
 
 differ-false : (x y : Value) → (x ≢ y) → same_value x y ≡ false
 differ-false x y d = split (same_value x y ≡ false) (same_value x y) (λ on. absurd (d (value_is x y on))) (λ off. off)
@@ -65,7 +54,7 @@ module _ (P : CoreProgram) (M : Meaning) (v : Valuation) (reads : Reads P.functi
   apart_from-true facts c (d ∷ ds) k ks h =
       makes-append v _ (apart_from facts c ds)
       (makes-if v (same_sort c.sort d.sort && (occurs facts c && occurs facts d)) (not_of (eq_of (constant_term c) (constant_term d))) (λ on.
-      let same = sort-is c.sort d.sort (first_on (same_sort c.sort d.sort) (occurs facts c && occurs facts d) on) in
+      let same = same_sort-is c.sort d.sort (first_on (same_sort c.sort d.sort) (occurs facts c && occurs facts d) on) in
       not_truth v (eq_of (constant_term c) (constant_term d))
       ∙ (λ i. not (same_value (constant-is c k i) (constant-is d ks.0 i)))
       ∙ ap not (differ-false (M.constant c.name) (M.constant d.name) (h.0 same))))

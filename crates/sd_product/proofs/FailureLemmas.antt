@@ -2,6 +2,7 @@
 use Rattle.std.proofs.Common.{◌≡◌, ℕ, suc, ◌+◌, List, [], ◌∷◌, ◌++◌, length, Option, Some, refl, sym, ap, ◌∙◌, subst}
 use Rattle.std.specs.Prelude.{Bool, true, false, not, ◌&&◌, ◌||◌, IsTrue, map, pos, slice_get}
 use Rattle.std.specs.List.{AllByRecursion}
+use Rattle.sd_base.proofs.Lists.{all-at}
 use Rattle.sd_base.specs.declared.Sort.{Sort}
 use Rattle.sd_base.specs.Value.{Value, Number}
 use Rattle.sd_base.specs.Sorts.{HasSort}
@@ -39,7 +40,7 @@ use Rattle.sd_product.proofs.Carried.{vars-length}
 use Rattle.sd_product.proofs.EqualInputs.{AreEqual}
 use Rattle.sd_product.proofs.EqualConditions.{inputs-equal, places-equal}
 use Rattle.sd_product.proofs.NoCalls.{body-no-sites, program-boolean}
-use Rattle.sd_product.proofs.Booleans.{all-found, none-declared}
+use Rattle.sd_product.proofs.Booleans.{none-declared}
 use Rattle.sd_product.proofs.OnlyEqual.{IsEqual, IsEqualClaim, IsEqualClaimed, from-equal}
 use Rattle.sd_product.proofs.BooleanQueries.{BooleanSide, side-boolean, facts-boolean}
 
@@ -101,7 +102,7 @@ module _ (C : Context) (formed : WellFormed C.program) (propositional : IsPropos
 
   side-no-sites : ◌≡◌ {A = List Site} a.body.sites []
   side-no-sites =
-      let own = all-found IsPropositionalProc P.procs n p propositional.procs found in
+      let own = all-at IsPropositionalProc P.procs n p propositional.procs found in
       body-no-sites C p k a.inputs.slots a.inputs.globals own.body
 
   module _ (v : Valuation) where

@@ -6,6 +6,9 @@ use Rattle.std.specs.List.{AllByRecursion}
 use Rattle.std.proofs.Math.Seq.{take-append_seam, drop-append_seam}
 use Rattle.std.proofs.lemmas.Bool.{eqb-true}
 use Rattle.std.proofs.lemmas.List.{append_assoc, append-nil}
+use Rattle.std.proofs.lemmas.Option.{same_Some}
+use Rattle.sd_base.proofs.Options.{none-is}
+use Rattle.sd_base.proofs.Lists.{all-append, all-filter}
 use Rattle.sd_base.specs.declared.Sort.{Sort}
 use Rattle.sd_base.specs.declared.Var.{Var}
 use Rattle.sd_base.specs.Value.{Text, same_text}
@@ -25,10 +28,10 @@ use Rattle.sd_term.specs.Tree.{and-left, and-right}
 use Rattle.sd_cand.specs.declared.candidate.Candidate.{Candidate}
 use Rattle.sd_cand.specs.declared.candidate.Relation.{Relation}
 use Rattle.sd_cand.specs.Candidates.{equal_from, equal_inputs, flag_candidates, output_candidates, candidates_in}
-use Rattle.sd_product.specs.Query.{Claimed, Work}
+use Rattle.sd_product.specs.Query.{Work}
 use Rattle.sd_product.specs.Work.{PairedPrograms, claims_of}
 use Rattle.sd_product.specs.Fits.{FitsAt, Fits, FitsBoth, FitsPair, entry_sorts, exit_sorts}
-use Rattle.sd_product.proofs.SpotFits.{Agrees, Alike, all-append, all-filter, stand-self, stand-after, alike, alike-append, alike-take, alike-past, ins-agree, outs-agree, shared-agree, spots-agree, some_is}
+use Rattle.sd_product.proofs.SpotFits.{Agrees, Alike, stand-self, stand-after, alike, alike-append, alike-take, alike-past, ins-agree, outs-agree, shared-agree, spots-agree}
 
 -- ---- two procedures and the ones that they stand in
 
@@ -120,7 +123,7 @@ root-above n [] f j e = absurd (let bad : ◌≡◌ {A = Option ℕ} None (Some 
 root-above n (p ∷ ps) f j e = go (is_none p.parent && same_text f p.name) e (root-above (suc n) ps f j)
   where
     go : (b : Bool) → (if b then Some n else root_from (suc n) ps f) ≡ Some j → (root_from (suc n) ps f ≡ Some j → suc n ≤ j) → n ≤ j
-    go true here rest = let same : n ≡ j = some_is n j here in omega arith
+    go true here rest = let same : n ≡ j = same_Some n j here in omega arith
     go false here rest = let after = rest here in omega (arith, after)
 
 -- what is found is a procedure of the text
@@ -129,19 +132,15 @@ root-found n [] f j k q e at here = absurd (let bad : ◌≡◌ {A = Option Core
 root-found n (p ∷ ps) f j zero q e at here = go (is_none p.parent && same_text f p.name) refl e
   where
     go : (b : Bool) → (is_none p.parent && same_text f p.name) ≡ b → (if b then Some n else root_from (suc n) ps f) ≡ Some j → is_none q.parent ≡ true
-    go true is found = ap (λ (r : CoreProc). is_none r.parent) (sym (some_is p q here)) ∙ and-left (is_none p.parent) (same_text f p.name) is
+    go true is found = ap (λ (r : CoreProc). is_none r.parent) (sym (same_Some p q here)) ∙ and-left (is_none p.parent) (same_text f p.name) is
     go false is found = absurd (let after = root-above (suc n) ps f j found in omega (arith, after, at))
 root-found n (p ∷ ps) f j (suc k) q e at here =
     let next : j ≡ suc n + k = omega arith in
     go (is_none p.parent && same_text f p.name) e (λ found. root-found (suc n) ps f j k q found next here)
   where
     go : (b : Bool) → (if b then Some n else root_from (suc n) ps f) ≡ Some j → (root_from (suc n) ps f ≡ Some j → is_none q.parent ≡ true) → is_none q.parent ≡ true
-    go true found rest = absurd (let same : n ≡ j = some_is n j found in omega (arith, same, at))
+    go true found rest = absurd (let same : n ≡ j = same_Some n j found in omega (arith, same, at))
     go false found rest = rest found
-
-none-is : {A : Type 0} (o : Option A) → is_none o ≡ true → o ≡ None
-none-is None h = refl
-none-is (Some x) h = let bad : ◌≡◌ {A = Bool} false true = h in absurd (cc)
 
 -- procedure q at place j is that of loop k of another with the types of this one
 record IsPartner (Q : CoreProgram) (own : CoreProc) (k : ℕ) (q : CoreProc) : Type 0 where
@@ -164,7 +163,7 @@ loop-found Q m k j q (Some r) at e there = go (is_loop_of m k r.parent) refl e
   where
     go : (b : Bool) → is_loop_of m k r.parent ≡ b → (if b then Some (m + k) else None) ≡ Some j → q.parent ≡ Some (m, k)
     go true is found =
-        let same : r ≡ q = some_is r q (sym at ∙ ap (slice_get Q.procs) (some_is (m + k) j found) ∙ there) in
+        let same : r ≡ q = same_Some r q (sym at ∙ ap (slice_get Q.procs) (same_Some (m + k) j found) ∙ there) in
         ap (λ (s : CoreProc). s.parent) (sym same) ∙ parent-is m k r.parent is
     go false is found = absurd (let bad : ◌≡◌ {A = Option ℕ} None (Some j) = found in cc)
 
@@ -208,7 +207,7 @@ module _ (P Q : CoreProgram) (formed : WellFormed P) (formed' : WellFormed Q) (i
       let looked : loop_partner_at Q l.root parent.1 (root_from 0 Q.procs l.root.name) ≡ Some j = sym (ap (λ (o : Option CoreProc). loop_partner_in Q o parent.1) l.found) ∙ sym (ap (partner_by P Q p) e) ∙ partnered in
       let f = partner-at Q l.root parent.1 j q (root_from 0 Q.procs l.root.name) looked there in
       let r = loop_is Q j q (f.place, parent.1) formed' there f.parent in
-      let same : r.root ≡ f.other = some_is r.root f.other (sym r.found ∙ f.found) in
+      let same : r.root ≡ f.other = same_Some r.root f.other (sym r.found ∙ f.found) in
       let types : same_types l.root r.root ≡ true = ap (same_types l.root) same ∙ f.types in
       let old_root : root_of P p ≡ Some l.root = ap (root_by P) e ∙ l.found in
       let new_root : root_of Q q ≡ Some r.root = ap (root_by Q) f.parent ∙ r.found in
@@ -278,7 +277,7 @@ pair-fits : (w : Work) (pair : Pair) (p q : CoreProc) → slice_get w.old.procs 
     → AllByRecursion (FitsPair w) (map (λ c. record { pair = pair; candidate = c }) cs)
 pair-fits w pair p q here there [] h = tt
 pair-fits w pair p q here there (c ∷ cs) h = (
-  λ a b at at'. subst (λ (x : CoreProc). FitsBoth w (record { pair = pair; candidate = c }) x b) (some_is p a (sym here ∙ at)) (subst (λ (y : CoreProc). FitsBoth w (record { pair = pair; candidate = c }) p y) (some_is q b (sym there ∙ at')) h.0),
+  λ a b at at'. subst (λ (x : CoreProc). FitsBoth w (record { pair = pair; candidate = c }) x b) (same_Some p a (sym here ∙ at)) (subst (λ (y : CoreProc). FitsBoth w (record { pair = pair; candidate = c }) p y) (same_Some q b (sym there ∙ at')) h.0),
   pair-fits w pair p q here there cs h.1,
 )
 
@@ -312,9 +311,3 @@ module _ (h : PairedPrograms) (w : Work) (formed : WellFormed w.old) (formed' : 
   -- so of two programs
   pub claims_fit : AllByRecursion (FitsPair w) (claims_of h (pairs_of w.old w.new))
   claims_fit = from-fits 0 w.old.procs (λ k p e. let whole : 0 + k ≡ k = omega arith in ap (slice_get w.old.procs) whole ∙ e)
-
--- each of them
-pub fits_each : (w : Work) (xs : List Claimed) (n : ℕ) (x : Claimed) → AllByRecursion (FitsPair w) xs → slice_get xs n ≡ Some x → FitsPair w x
-fits_each w [] n x h e = absurd (let bad : ◌≡◌ {A = Option Claimed} None (Some x) = e in cc)
-fits_each w (y ∷ ys) zero x h e = subst (FitsPair w) (some_is y x e) h.0
-fits_each w (y ∷ ys) (suc n) x h e = fits_each w ys n x h.1 e

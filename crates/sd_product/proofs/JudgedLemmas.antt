@@ -1,9 +1,10 @@
 -- A judged candidate that claims the flag tells of its two procedures.
-use Rattle.std.proofs.Common.{◌≡◌, ℕ, zero, suc, ◌+◌, Bool, true, false, List, [], ◌∷◌, refl, sym, ap, subst, ◌∙◌, arith}
+use Rattle.std.proofs.Common.{◌≡◌, ℕ, zero, suc, ◌+◌, Bool, true, false, List, [], ◌∷◌, sym, ap, subst, ◌∙◌, arith}
 use Rattle.std.specs.Prelude.{Option, Some, None, slice_get, Contains}
 use Rattle.std.specs.Option.{option_map}
 use Rattle.std.specs.List.{AllByRecursion}
-use Rattle.std.proofs.lemmas.Option.{slice_get-map, get_or_from_slice_get}
+use Rattle.std.proofs.lemmas.Option.{slice_get-map, get_or_from_slice_get, same_Some}
+use Rattle.sd_base.proofs.Lists.{all-at, contains-head, contains-tail}
 use Rattle.sd_term.specs.Tree.{Tree}
 use Rattle.sd_cube.specs.OpenCube.{IsOpenCube}
 use Rattle.sd_kernel.specs.Proof.{Proves}
@@ -21,17 +22,10 @@ use Rattle.sd_product.specs.Work.{PairedPrograms, AreWellFormed, work_of, infall
 use Rattle.sd_product.specs.Inductive.{live_from, proved_of, IsHow, IsProved, AreProved, IsInductive}
 use Rattle.sd_product.specs.Failures.{IsPropositionalClaim, OpenCubesAreFailures}
 use Rattle.sd_product.specs.Judged.{IsFlagAt, LiveFlagsAreSafe, OpenFlagsAreFailures}
-use Rattle.sd_product.proofs.Booleans.{all-found}
 use Rattle.sd_product.proofs.FitLemmas.{claims_fit}
 use Rattle.sd_product.proofs.OnlyEqual.{claims-equal, IsEqualClaimed}
-use Rattle.sd_product.proofs.RootLemmas.{some-is, claims-rooted, IsRootedClaim}
+use Rattle.sd_product.proofs.RootLemmas.{claims-rooted, IsRootedClaim}
 use Rattle.sd_product.proofs.WellQuery.{query-well}
-
-contains-head : {A : Type 0} (x : A) (xs : List A) → Contains (x ∷ xs) x
-contains-head x xs = (0, omega arith, refl)
-
-contains-tail : {A : Type 0} (y : A) (xs : List A) (x : A) → Contains xs x → Contains (y ∷ xs) x
-contains-tail y xs x (k, within, is) = (suc k, omega arith, is)
 
 -- ---- live candidates
 
@@ -46,7 +40,7 @@ live-contains n (true ∷ bs) zero e = let h : n ≡ n + 0 = omega arith in subs
 live-contains n (true ∷ bs) (suc c) e =
     let h : suc n + c ≡ n + suc c = omega arith in
     contains-tail n (live_from (suc n) bs) (n + suc c) (subst (λ (k : ℕ). Contains (live_from (suc n) bs) k) h (live-contains (suc n) bs c e))
-live-contains n (false ∷ bs) zero e = absurd (let bad : false ≡ true = some-is false true e in cc)
+live-contains n (false ∷ bs) zero e = absurd (let bad : false ≡ true = same_Some false true e in cc)
 live-contains n (false ∷ bs) (suc c) e =
     let h : suc n + c ≡ n + suc c = omega arith in
     subst (λ (k : ℕ). Contains (live_from (suc n) bs) k) h (live-contains (suc n) bs c e)
@@ -75,7 +69,7 @@ live-proved : (queries : List (List Tree)) (table : List Bool) (proofs : List Pr
 live-proved queries table proofs inductive c facts live query =
     let number : Contains (live_from 0 table) c = let h : 0 + c ≡ c = omega arith in subst (λ (k : ℕ). Contains (live_from 0 table) k) h (live-contains 0 table c live) in
     let e : Entry queries c = entry-of queries proofs c inductive.proved (subst (λ (ks : List ℕ). Contains ks c) (sym inductive.numbers) number) in
-    let same : e.proved.facts ≡ facts = some-is e.proved.facts facts (sym e.proved.query ∙ (ap (λ k. slice_get queries k) e.named ∙ query)) in
+    let same : e.proved.facts ≡ facts = same_Some e.proved.facts facts (sym e.proved.query ∙ (ap (λ k. slice_get queries k) e.named ∙ query)) in
     subst (λ (fs : List Tree). HasProof fs) same (proof-of e.proved.facts e.entry.how e.proved.how)
 
 -- ---- a work
@@ -98,14 +92,14 @@ module _ (h : PairedPrograms) (formed : AreWellFormed h) where
       let fit = claims_fit h W formed.old_formed formed.new_formed in
       let facts = query_of W Z table x in
       let proof = live-proved (queries_of h table) table proofs inductive n facts (live-is table n live) (query-at table n x at) in
-      let well = query-well W table Z x formed.old_formed formed.new_formed fit (all-found (FitsPair W) (claims_in h) n x fit at) in
+      let well = query-well W table Z x formed.old_formed formed.new_formed fit (all-at (FitsPair W) (claims_in h) n x fit at) in
       accepted-unsatisfiable facts proof.steps well (proves-accepted facts proof.steps proof.proves)
 
   root-pair : (n : ℕ) (x : Claimed) → IsFlagAt h n x → IsRootPair W x
-  root-pair n x f = all-found (IsRootedClaim h.old h.new) (claims_in h) n x (claims-rooted h.old h.new) f.at f.old f.found f.root
+  root-pair n x f = all-at (IsRootedClaim h.old h.new) (claims_in h) n x (claims-rooted h.old h.new) f.at f.old f.found f.root
 
   flag-claim : (n : ℕ) (x : Claimed) → IsFlagAt h n x → IsFlagClaim x
-  flag-claim n x f = record { claim = f.flag; only_equal = (all-found IsEqualClaimed (claims_in h) n x (claims-equal h (pairs_in h)) f.at).when }
+  flag-claim n x f = record { claim = f.flag; only_equal = (all-at IsEqualClaimed (claims_in h) n x (claims-equal h (pairs_in h)) f.at).when }
 
 pub live-flags-safe : NoNewFailure → LiveFlagsAreSafe
 live-flags-safe safe h table proofs n x formed inductive f live failure =
@@ -122,5 +116,5 @@ open-flags-fail fails h seen n x facts cube formed old_propositional new_proposi
       claim = record { claim = f.flag; when = when };
       roots = root-pair h formed n x f;
     } in
-    let same : facts ≡ query_of W Z seen x = some-is facts (query_of W Z seen x) (sym query ∙ query-at h formed seen n x f.at) in
+    let same : facts ≡ query_of W Z seen x = same_Some facts (query_of W Z seen x) (sym query ∙ query-at h formed seen n x f.at) in
     fails W Z seen x cube claim (subst (λ (fs : List Tree). IsOpenCube fs cube) same is_open)

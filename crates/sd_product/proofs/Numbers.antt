@@ -3,6 +3,7 @@ use Rattle.std.proofs.Common.{◌≡◌, ℕ, zero, suc, ◌+◌, ◌-◌, ◌<�
 use Rattle.std.specs.Prelude.{All, map, Some, None, slice_get}
 use Rattle.std.proofs.lemmas.List.{map-append, append_assoc, append-nil}
 use Rattle.std.proofs.lemmas.List.Elements.{All-push}
+use Rattle.sd_match.proofs.ListLemmas.{get_or-map}
 use Rattle.sd_core.specs.declared.Spot.{Spot}
 use Rattle.sd_core.specs.declared.Spot.TheVariants.{Slot, Global}
 use Rattle.sd_core.specs.Store.{read}
@@ -25,11 +26,6 @@ found P [] i x e h = cc
 found {A} P (y ∷ xs) zero x e h = let same : y ≡ x = cc in subst P same (h 0 y (omega arith))
 found P (y ∷ xs) (suc i) x e h = found P xs i x e (λ k d lt. h (suc k) d (omega (arith, lt)))
 
-found-map : {A B : Type 0} (f : A → B) (xs : List A) (i : ℕ) (x : A) (d : B) → slice_get xs i ≡ Some x → get_or (map f xs) i d ≡ f x
-found-map f [] i x d e = cc
-found-map {A} f (y ∷ xs) zero x d e = let same : y ≡ x = cc in ap f same
-found-map f (y ∷ xs) (suc i) x d e = found-map f xs i x d e
-
 pub all-append : {A : Type 0} (P : A → Type 0) (xs ys : List A) → All P xs → All P ys → All P (xs ++ ys)
 all-append P [] ys h k i d lt = k i d lt
 all-append P (x ∷ xs) ys h k zero d lt = h 0 d (omega arith)
@@ -40,11 +36,11 @@ all-append P (x ∷ xs) ys h k (suc i) d lt = all-append P xs ys (λ j e l. h (s
 pub number_at-some : (bank : List Tree) (n : StateTerms) (s : Spot) (id : ℕ) → AreWithin bank n → number_at (numbers_of n) s ≡ Some id → Denotes bank id (read nothing (store_at bank n) s)
 number_at-some bank n (Slot i) id w e = record {
   within = found (λ k. k < length bank) (n.ins.now ++ n.outs.now) i id e (all-append (λ k. k < length bank) n.ins.now n.outs.now w.ins w.outs);
-  tree = sym (found-map (tree_at bank) (n.ins.now ++ n.outs.now) i id nothing e);
+  tree = sym (get_or-map (tree_at bank) (n.ins.now ++ n.outs.now) i id nothing e);
 }
 number_at-some bank n (Global i) id w e = record {
   within = found (λ k. k < length bank) n.globals.now i id e w.globals;
-  tree = sym (found-map (tree_at bank) n.globals.now i id nothing e);
+  tree = sym (get_or-map (tree_at bank) n.globals.now i id nothing e);
 }
 
 pub number_at-none : (bank : List Tree) (n : StateTerms) (s : Spot) → number_at (numbers_of n) s ≡ None → read nothing (store_at bank n) s ≡ nothing

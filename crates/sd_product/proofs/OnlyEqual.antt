@@ -2,6 +2,7 @@
 use Rattle.std.proofs.Common.{◌≡◌, ℕ, suc, List, [], ◌∷◌, refl}
 use Rattle.std.specs.Prelude.{map}
 use Rattle.std.specs.List.{AllByRecursion}
+use Rattle.sd_base.proofs.Lists.{all-append}
 use Rattle.sd_term.specs.declared.build.Kind.TheVariants as kind
 use Rattle.sd_match.specs.declared.pair.SpotPair.{SpotPair}
 use Rattle.sd_match.specs.declared.pair.PairState.{PairState}
@@ -14,7 +15,6 @@ use Rattle.sd_cand.specs.declared.candidate.Candidate.{Candidate}
 use Rattle.sd_cand.specs.Candidates.{equal_from, equal_inputs, flag_candidates, output_candidates, candidates_in}
 use Rattle.sd_product.specs.Query.{Claimed}
 use Rattle.sd_product.specs.Work.{PairedPrograms, candidates_in_pair, claims_of}
-use Rattle.sd_product.proofs.Booleans.{all-append}
 
 abbrev pub IsEqual : Relation → Type 0
 IsEqual r = r.kind ≡ kind.Eq

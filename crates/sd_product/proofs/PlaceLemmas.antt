@@ -1,13 +1,14 @@
 -- Each number of a candidate leads to its place.
-use Rattle.std.proofs.Common.{◌≡◌, ◌∙◌, sym, ap, refl, ℕ, zero, suc, ◌+◌, ◌<◌, List, [], ◌∷◌, ◌++◌, length, get_or, drop, map, arith, append_assoc}
+use Rattle.std.proofs.Common.{◌≡◌, ◌∙◌, sym, ap, refl, ℕ, zero, suc, ◌+◌, ◌<◌, List, [], ◌∷◌, ◌++◌, length, get_or, drop, arith, append_assoc}
 use Rattle.std.specs.Prelude.{Option, Some, None, slice_get}
 use Rattle.std.proofs.Math.Seq.{drop-cons}
-use Rattle.std.proofs.lemmas.List.{length-map}
-use Rattle.std.proofs.lemmas.Option.{slice_get-get_or}
+use Rattle.std.proofs.lemmas.Option.{get_or_from_slice_get, same_Some}
+use Rattle.sd_base.proofs.Lists.{slice_get-map_some}
 use Rattle.sd_match.specs.declared.pair.Pair.{Pair}
 use Rattle.sd_cand.specs.declared.candidate.Candidate.{Candidate}
 use Rattle.sd_product.specs.Query.{Claimed}
 use Rattle.sd_product.specs.Work.{PairedPrograms, candidates_in_pair, candidate_lists, claims_of, claims_in, pairs_in, IsAt}
+use Rattle.sd_product.specs.Claims.{claimed}
 use Rattle.sd_product.specs.Numbering.{firsts_from, places_in, places_from}
 
 -- ---- the tables are made list by list
@@ -56,25 +57,18 @@ record Found (h : PairedPrograms) (pairs : List Pair) (xs : List Claimed) (n : �
   claim_is : slice_get xs n ≡ Some claimed
   stands : Stands h pairs claimed place
 
-some_is : {A : Type 0} (a b : A) → ◌≡◌ {A = Option A} (Some a) (Some b) → a ≡ b
-some_is a b e = cc
-
 each-at : (h : PairedPrograms) (pairs : List Pair) (xs : List Claimed) (ls : List (ℕ × ℕ)) (n : ℕ) (l : ℕ × ℕ) → EachStands h pairs xs ls → slice_get ls n ≡ Some l → Found h pairs xs n l
 each-at h pairs [] [] n l r e = absurd (let bad : ◌≡◌ {A = Option (ℕ × ℕ)} None (Some l) = e in cc)
 each-at h pairs [] (m ∷ ls) n l r e = absurd r
 each-at h pairs (x ∷ xs) [] n l r e = absurd r
 each-at h pairs (x ∷ xs) (m ∷ ls) zero l r e =
-    let is = some_is m l e in
+    let is = same_Some m l e in
     record { claimed = x; claim_is = refl; stands = record { pair_is = ap (λ (p : ℕ × ℕ). slice_get pairs p.0) (sym is) ∙ r.0.pair_is; candidate_is = ap (λ (p : ℕ × ℕ). slice_get (candidates_in_pair h x.pair) p.1) (sym is) ∙ r.0.candidate_is } }
 each-at h pairs (x ∷ xs) (m ∷ ls) (suc n) l r e =
     let f = each-at h pairs xs ls n l r.1 e in
     record { claimed = f.claimed; claim_is = f.claim_is; stands = f.stands }
 
--- the candidates of one pair with it
-abbrev claimed_of : Pair → List Candidate → List Claimed
-claimed_of pair = map (λ c. record { pair = pair; candidate = c })
-
-each_in : (h : PairedPrograms) (pairs : List Pair) (pair : Pair) (i k : ℕ) (cs : List Candidate) → slice_get pairs i ≡ Some pair → ((j : ℕ) (c : Candidate) → slice_get cs j ≡ Some c → slice_get (candidates_in_pair h pair) (k + j) ≡ Some c) → EachStands h pairs (claimed_of pair cs) (places_in i k cs)
+each_in : (h : PairedPrograms) (pairs : List Pair) (pair : Pair) (i k : ℕ) (cs : List Candidate) → slice_get pairs i ≡ Some pair → ((j : ℕ) (c : Candidate) → slice_get cs j ≡ Some c → slice_get (candidates_in_pair h pair) (k + j) ≡ Some c) → EachStands h pairs (claimed pair cs) (places_in i k cs)
 each_in h pairs pair i k [] here at = tt
 each_in h pairs pair i k (c ∷ cs) here at =
     let none : k ≡ k + 0 = omega arith in (
@@ -86,7 +80,7 @@ each_from : (h : PairedPrograms) (pairs : List Pair) (i : ℕ) (ps : List Pair) 
 each_from h pairs i [] at = tt
 each_from h pairs i (p ∷ ps) at =
     let none : i ≡ i + 0 = omega arith in
-    each-append h pairs (claimed_of p (candidates_in_pair h p)) (claims_of h ps) (places_in i 0 (candidates_in_pair h p)) (places_from (suc i) (candidate_lists h ps))
+    each-append h pairs (claimed p (candidates_in_pair h p)) (claims_of h ps) (places_in i 0 (candidates_in_pair h p)) (places_from (suc i) (candidate_lists h ps))
     (each_in h pairs p i 0 (candidates_in_pair h p) (ap (slice_get pairs) none ∙ at 0 p refl) (λ j c e. let whole : 0 + j ≡ j = omega arith in ap (slice_get (candidates_in_pair h p)) whole ∙ e))
     (each_from h pairs (suc i) ps (λ j q e. let next : suc i + j ≡ i + suc j = omega arith in ap (slice_get pairs) next ∙ at (suc j) q e))
 
@@ -105,21 +99,11 @@ is_at h n place e =
 
 -- ---- the candidate at a place
 
-list-of : (h : PairedPrograms) (pairs : List Pair) (i : ℕ) (pair : Pair) (list : List Candidate) → slice_get pairs i ≡ Some pair → slice_get (candidate_lists h pairs) i ≡ Some list → candidates_in_pair h pair ≡ list
-list-of h [] i pair list e f = absurd (let bad : ◌≡◌ {A = Option Pair} None (Some pair) = e in cc)
-list-of h (p ∷ ps) zero pair list e f = ap (candidates_in_pair h) (some_is pair p (sym e)) ∙ some_is (candidates_in_pair h p) list f
-list-of h (p ∷ ps) (suc i) pair list e f = list-of h ps i pair list e f
-
-element-of : {A : Type 0} (xs : List A) (k : ℕ) (x d : A) → slice_get xs k ≡ Some x → get_or xs k d ≡ x
-element-of {A} [] k x d e = absurd (let bad : ◌≡◌ {A = Option A} None (Some x) = e in cc)
-element-of (y ∷ ys) zero x d e = some_is y x e
-element-of (y ∷ ys) (suc k) x d e = element-of ys k x d e
-
 -- what is read there is the candidate of this number, with its pair
 pub claim_at : (h : PairedPrograms) (n : ℕ) (place : ℕ × ℕ) (pairs : List Pair) (pair : Pair) (list : List Candidate) (c : Candidate) → IsAt h n place.0 place.1 → pairs ≡ pairs_in h → slice_get pairs place.0 ≡ Some pair
     → slice_get (candidate_lists h (pairs_in h)) place.0 ≡ Some list → c ≡ get_or list place.1 c → slice_get (claims_in h) n ≡ Some (record { pair = pair; candidate = c })
 claim_at h n place pairs pair list c f are here listed is =
-    let one : f.pair ≡ pair = some_is f.pair pair (sym f.pair_is ∙ ap (λ (ps : List Pair). slice_get ps place.0) (sym are) ∙ here) in
-    let own : candidates_in_pair h f.pair ≡ list = list-of h (pairs_in h) place.0 f.pair list f.pair_is listed in
-    let read : f.candidate ≡ c = sym (element-of list place.1 f.candidate c (ap (λ (l : List Candidate). slice_get l place.1) (sym own) ∙ f.candidate_is)) ∙ sym is in
+    let one : f.pair ≡ pair = same_Some f.pair pair (sym f.pair_is ∙ ap (λ (ps : List Pair). slice_get ps place.0) (sym are) ∙ here) in
+    let own : candidates_in_pair h f.pair ≡ list = same_Some (candidates_in_pair h f.pair) list (sym (slice_get-map_some (candidates_in_pair h) (pairs_in h) place.0 f.pair f.pair_is) ∙ listed) in
+    let read : f.candidate ≡ c = sym (get_or_from_slice_get list place.1 f.candidate c (ap (λ (l : List Candidate). slice_get l place.1) (sym own) ∙ f.candidate_is)) ∙ sym is in
     f.claim_is ∙ ap Some (λ i. record { pair = one i; candidate = read i })

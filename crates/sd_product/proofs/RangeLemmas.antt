@@ -1,28 +1,25 @@
 -- The numbers of the candidates of one pair.
-use Rattle.std.proofs.Common.{◌≡◌, ◌∙◌, sym, ap, refl, ℕ, zero, suc, ◌+◌, ◌-◌, ◌<◌, ◌≤◌, List, [], ◌∷◌, ◌++◌, length, get_or, take, map, arith}
+use Rattle.std.proofs.Common.{◌≡◌, ◌∙◌, sym, ap, refl, ℕ, zero, suc, ◌+◌, ◌-◌, ◌<◌, ◌≤◌, List, [], ◌∷◌, ◌++◌, length, take, map, arith}
 use Rattle.std.specs.Prelude.{Option, Some, None, slice_get}
 use Rattle.std.proofs.lemmas.List.{length-map}
-use Rattle.std.proofs.lemmas.Option.{slice_get-get_or, slice_get_within, get_or_from_slice_get}
+use Rattle.std.proofs.lemmas.Option.{same_Some}
+use Rattle.sd_base.proofs.Lists.{slice_get-append_right}
 use Rattle.sd_match.specs.declared.pair.Pair.{Pair}
 use Rattle.sd_cand.specs.declared.candidate.Candidate.{Candidate}
 use Rattle.sd_product.specs.Query.{Claimed}
 use Rattle.sd_product.specs.Work.{PairedPrograms, candidates_in_pair, candidate_lists, claims_of, claims_in, pairs_in}
 use Rattle.sd_product.specs.Bodies.{IsAbout, count_before}
-use Rattle.sd_product.specs.Numbering.{firsts_from}
-use Rattle.sd_product.proofs.FirstLemmas.{firsts_at, one_pair}
+use Rattle.sd_product.proofs.FirstLemmas.{one_pair}
 
 abbrev claim : Pair → Candidate → Claimed
 claim pair c = record { pair = pair; candidate = c }
-
-some_is : {A : Type 0} (a b : A) → ◌≡◌ {A = Option A} (Some a) (Some b) → a ≡ b
-some_is a b e = cc
 
 -- ---- how many there are
 
 count_more : (h : PairedPrograms) (ps : List Pair) (i : ℕ) (p : Pair) → slice_get ps i ≡ Some p → length (claims_of h (take (suc i) ps)) ≡ length (claims_of h (take i ps)) + length (candidates_in_pair h p)
 count_more h [] i p e = absurd (let bad : ◌≡◌ {A = Option Pair} None (Some p) = e in cc)
 count_more h (q ∷ ps) zero p e =
-    let same : length (candidates_in_pair h q) ≡ length (candidates_in_pair h p) = ap (λ (r : Pair). length (candidates_in_pair h r)) (some_is q p e) in
+    let same : length (candidates_in_pair h q) ≡ length (candidates_in_pair h p) = ap (λ (r : Pair). length (candidates_in_pair h r)) (same_Some q p e) in
     omega (arith, one_pair h q [], same)
 count_more h (q ∷ ps) (suc i) p e = omega (arith, one_pair h q (take (suc i) ps), one_pair h q (take i ps), count_more h ps i p e)
 
@@ -39,14 +36,13 @@ here_in p (c ∷ cs) rest zero lt = (c, refl)
 here_in p (c ∷ cs) rest (suc n) lt = here_in p cs rest n (omega arith)
 
 later_in : (p : Pair) (cs : List Candidate) (rest : List Claimed) (n : ℕ) → slice_get (map (claim p) cs ++ rest) (length cs + n) ≡ slice_get rest n
-later_in p [] rest n = let e : 0 + n ≡ n = omega arith in ap (slice_get rest) e
-later_in p (c ∷ cs) rest n = let e : suc (length cs) + n ≡ suc (length cs + n) = omega arith in ap (slice_get (claim p c ∷ (map (claim p) cs ++ rest))) e ∙ later_in p cs rest n
+later_in p cs rest n = ap (λ (k : ℕ). slice_get (map (claim p) cs ++ rest) (k + n)) (sym (length-map cs (claim p))) ∙ slice_get-append_right (map (claim p) cs) rest n
 
 own_at : (h : PairedPrograms) (ps : List Pair) (i n : ℕ) (p : Pair) → slice_get ps i ≡ Some p → length (claims_of h (take i ps)) ≤ n → n < length (claims_of h (take (suc i) ps)) → (c : Candidate) × (slice_get (claims_of h ps) n ≡ Some (claim p c))
 own_at h [] i n p e lo hi = absurd (let bad : ◌≡◌ {A = Option Pair} None (Some p) = e in cc)
 own_at h (q ∷ ps) zero n p e lo hi =
     let f = here_in q (candidates_in_pair h q) (claims_of h ps) n (omega (arith, one_pair h q [])) in
-    (f.0, f.1 ∙ ap (λ (r : Pair). Some (claim r f.0)) (some_is q p e))
+    (f.0, f.1 ∙ ap (λ (r : Pair). Some (claim r f.0)) (same_Some q p e))
 own_at h (q ∷ ps) (suc i) n p e lo hi =
     let count = length (candidates_in_pair h q) in
     let back : n ≡ count + (n - count) = omega (arith, one_pair h q (take i ps)) in
@@ -56,7 +52,7 @@ own_at h (q ∷ ps) (suc i) n p e lo hi =
 
 pair_with : (h : PairedPrograms) (ps : List Pair) (i : ℕ) (list : List Candidate) → slice_get (candidate_lists h ps) i ≡ Some list → (p : Pair) × (slice_get ps i ≡ Some p) × (candidates_in_pair h p ≡ list)
 pair_with h [] i list e = absurd (let bad : ◌≡◌ {A = Option (List Candidate)} None (Some list) = e in cc)
-pair_with h (p ∷ ps) zero list e = (p, refl, some_is (candidates_in_pair h p) list e)
+pair_with h (p ∷ ps) zero list e = (p, refl, same_Some (candidates_in_pair h p) list e)
 pair_with h (p ∷ ps) (suc i) list e = pair_with h ps i list e
 
 -- the numbers from the first one on, and before the end

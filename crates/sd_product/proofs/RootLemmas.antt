@@ -3,6 +3,9 @@ use Rattle.std.proofs.Common.{◌≡◌, ℕ, suc, ◌+◌, Bool, true, false, L
 use Rattle.std.specs.Prelude.{◌&&◌, Option, Some, None, map, slice_get, if◌then◌else◌}
 use Rattle.std.specs.Option.{is_none}
 use Rattle.std.specs.List.{AllByRecursion}
+use Rattle.std.proofs.lemmas.Option.{same_Some}
+use Rattle.sd_base.proofs.Options.{none-is}
+use Rattle.sd_base.proofs.Lists.{all-append}
 use Rattle.sd_base.specs.Value.{Text, same_text}
 use Rattle.sd_core.specs.declared.CoreProc.{CoreProc}
 use Rattle.sd_core.specs.declared.CoreProgram.{CoreProgram}
@@ -16,14 +19,6 @@ use Rattle.sd_cand.specs.Candidates.{candidates_in}
 use Rattle.sd_product.specs.Query.{Claimed}
 use Rattle.sd_product.specs.Summaries.{IsRootPair}
 use Rattle.sd_product.specs.Work.{PairedPrograms, candidates_in_pair, claims_of, claims_in, work_of}
-use Rattle.sd_product.proofs.Booleans.{all-append}
-
-pub some-is : {A : Type 0} (a b : A) → ◌≡◌ {A = Option A} (Some a) (Some b) → a ≡ b
-some-is a b e = cc
-
-none-is : {A : Type 0} (o : Option A) → is_none o ≡ true → o ≡ None
-none-is None e = refl
-none-is (Some x) e = absurd (let bad : false ≡ true = e in cc)
 
 -- ---- procedures of the texts
 
@@ -36,7 +31,7 @@ record IsRootAt (n : ℕ) (ps : List CoreProc) (m : ℕ) : Type 0 where
   root : proc.parent ≡ None
 
 root-step : (n : ℕ) (p : CoreProc) (ps : List CoreProc) (rest : Option ℕ) (m : ℕ) (c : Bool) → (c ≡ true → p.parent ≡ None) → (rest ≡ Some m → IsRootAt (suc n) ps m) → (if c then Some n else rest) ≡ Some m → IsRootAt n (p ∷ ps) m
-root-step n p ps rest m true r h e = let same : n ≡ m = some-is n m e in record { place = 0; counted = omega (arith, same); proc = p; found = refl; root = r refl }
+root-step n p ps rest m true r h e = let same : n ≡ m = same_Some n m e in record { place = 0; counted = omega (arith, same); proc = p; found = refl; root = r refl }
 root-step n p ps rest m false r h e = let a = h e in let counted = a.counted in record { place = suc a.place; counted = omega (arith, counted); proc = a.proc; found = a.found; root = a.root }
 
 root-at : (n : ℕ) (ps : List CoreProc) (f : Text) (m : ℕ) → root_from n ps f ≡ Some m → IsRootAt n ps m
@@ -64,7 +59,7 @@ module _ (P Q : CoreProgram) where
       let a = root-at 0 Q.procs p.name j (ap (partner_by P Q p) (sym top) ∙ e) in
       let counted = a.counted in
       let place : a.place ≡ j = omega (arith, counted) in
-      let same : q ≡ a.proc = some-is q a.proc (sym found ∙ (ap (slice_get Q.procs) (sym place) ∙ a.found)) in
+      let same : q ≡ a.proc = same_Some q a.proc (sym found ∙ (ap (slice_get Q.procs) (sym place) ∙ a.found)) in
       ap (λ (r : CoreProc). r.parent) same ∙ a.root
 
   state-types : (a b : ℕ) (p q : CoreProc) (o r : Option CoreProc) → o ≡ Some p → r ≡ Some q → state_of P Q a b o r ≡ Open → same_types p q ≡ true
@@ -74,7 +69,7 @@ module _ (P Q : CoreProgram) where
 
   with-rooted : (i j : ℕ) (p q : CoreProc) → slice_get P.procs i ≡ Some p → slice_get Q.procs j ≡ Some q → (p.parent ≡ None → q.parent ≡ None) → (s : PairState) → (p.parent ≡ None → s ≡ Open → same_types p q ≡ true) → IsRooted (pair_with s P Q i j p q)
   with-rooted i j p q found found' root Open types is c r at top =
-      let same : p ≡ r = some-is p r (sym found ∙ at) in
+      let same : p ≡ r = same_Some p r (sym found ∙ at) in
       let old_top : p.parent ≡ None = ap (λ (s : CoreProc). s.parent) same ∙ top in
       record { old = p; new = q; old_found = found; new_found = found'; old_root = old_top; new_root = root old_top; types = types old_top refl; inputs = refl }
   with-rooted i j p q found found' root Signature types is c r at top = absurd (let bad : Signature ≡ Open = is in cc)

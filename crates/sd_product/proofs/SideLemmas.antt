@@ -2,6 +2,7 @@
 use Rattle.std.proofs.Common.{◌≡◌, ℕ, suc, ◌+◌, ◌<◌, List, [], ◌∷◌, ◌++◌, length, drop, get_or, refl, sym, ap, subst, ◌∙◌, arith}
 use Rattle.std.specs.Prelude.{All, map, Bool}
 use Rattle.std.proofs.lemmas.List.{map-append, append-nil}
+use Rattle.sd_base.proofs.Lists.{All-back}
 use Rattle.sd_base.specs.declared.Sort.{Sort}
 use Rattle.sd_base.specs.declared.Var.{Var}
 use Rattle.sd_core.specs.declared.CoreProc.{CoreProc}
@@ -128,15 +129,11 @@ inputs_within bank k n hi ho hg w = record {
   globals = subst (All (λ i. i < length bank)) (sym hg) w.globals.within;
 }
 
-all-back : {A : Type 0} (P : A → Type 0) (xs ys : List A) → All P (xs ++ ys) → All P ys
-all-back P [] ys h = h
-all-back P (x ∷ xs) ys h = all-back P xs ys (λ k d lt. h (suc k) d (omega (arith, lt)))
-
 pub ends_within : (bank : List Tree) (k : EndTerms) (n : Side) → k.state.ins.now ≡ n.ins → k.state.outs.now ≡ n.body.outs → k.state.globals.now ≡ n.body.globals → k.flag ≡ n.body.flag → IsSideWithin bank n → IsEndWithin bank k
 ends_within bank k n hi ho hg hf w = record {
   state = record {
     ins = subst (All (λ i. i < length bank)) (sym hi) w.ins.within;
-    outs = subst (All (λ i. i < length bank)) (sym ho) (all-back (λ i. i < length bank) n.ins n.body.outs w.slots.within);
+    outs = subst (All (λ i. i < length bank)) (sym ho) (All-back (λ i. i < length bank) n.ins n.body.outs w.slots.within);
     globals = subst (All (λ i. i < length bank)) (sym hg) w.after.within;
   };
   flag = subst (λ (i : ℕ). i < length bank) (sym hf) w.flag.within;

@@ -1,7 +1,9 @@
 -- What stands at the two places of a pair of inputs, or of outputs, has one type.
 use Rattle.std.proofs.Common.{◌≡◌, ◌∙◌, sym, ap, refl, subst, ℕ, zero, suc, ◌+◌, ◌≤◌, Bool, true, false, List, [], ◌∷◌, ◌++◌, length, get_or, take, drop, arith}
 use Rattle.std.specs.Prelude.{◌&&◌, Option, Some, None, slice_get, if◌then◌else◌}
-use Rattle.std.specs.List.{AllByRecursion, filter}
+use Rattle.std.specs.List.{AllByRecursion}
+use Rattle.std.proofs.lemmas.Option.{same_Some}
+use Rattle.sd_base.proofs.Lists.{all-append}
 use Rattle.sd_base.specs.declared.Sort.{Sort, Bool as BoolSort}
 use Rattle.sd_base.specs.declared.Var.{Var}
 use Rattle.sd_base.specs.Value.{same_text}
@@ -19,10 +21,6 @@ use Rattle.sd_term.specs.Tree.{and-left, and-right}
 -- what stands at a pair of places has one type
 abbrev pub Agrees : Store Sort → Store Sort → SpotPair → Type 0
 Agrees S T s = read BoolSort S s.old ≡ read BoolSort T s.new
-
-pub all-append : {A : Type 0} (P : A → Type 0) (xs ys : List A) → AllByRecursion P xs → AllByRecursion P ys → AllByRecursion P (xs ++ ys)
-all-append P [] ys h k = k
-all-append P (x ∷ xs) ys h k = (h.0, all-append P xs ys h.1 k)
 
 -- the types of variables stand from place i on
 abbrev pub Stand : List Sort → ℕ → List Var → Type 0
@@ -104,9 +102,6 @@ position-agrees S T i j (x ∷ xs) (y ∷ ys) h k a = (h.0 ∙ a.0 ∙ sym k.0, 
 
 -- ---- by name
 
-pub some_is : {A : Type 0} (a b : A) → ◌≡◌ {A = Option A} (Some a) (Some b) → a ≡ b
-some_is a b e = cc
-
 -- the type at the place of a variable is its own
 named-sort : (ss : List Sort) (j n : ℕ) (ys : List Var) (x : Var) (k : ℕ) → Stand ss (j + n) ys → place_from n ys x ≡ Some k → get_or ss (j + k) BoolSort ≡ x.sort
 named-sort ss j n [] x k h e = absurd (let bad : ◌≡◌ {A = Option ℕ} None (Some k) = e in cc)
@@ -117,7 +112,7 @@ named-sort ss j n (y ∷ ys) x k h e =
     go : (b : Bool) → (same_text x.name y.name && same_sort x.sort y.sort) ≡ b → (if b then Some n else place_from (suc n) ys x) ≡ Some k → (place_from (suc n) ys x ≡ Some k → get_or ss (j + k) BoolSort ≡ x.sort)
         → get_or ss (j + k) BoolSort ≡ x.sort
     go true is here rest =
-        let at : n ≡ k = some_is n k here in
+        let at : n ≡ k = same_Some n k here in
         let sort : x.sort ≡ y.sort = sort_is x.sort y.sort (and-right (same_text x.name y.name) (same_sort x.sort y.sort) is) in
         ap (λ (m : ℕ). get_or ss (j + m) BoolSort) (sym at) ∙ h.0 ∙ sym sort
     go false is here rest = rest here
@@ -149,14 +144,6 @@ pub shared-agree : (S T : Store Sort) (n : ℕ) (olds news : List Var) → Stand
 shared-agree S T n [] news h k = tt
 shared-agree S T n (x ∷ olds) news h k =
     all-append (SharedAgrees S T) (shared_at n (place_from 0 news x)) (shared_from (suc n) olds news) (shared-at S T n x news (place_from 0 news x) h.0 k refl) (shared-agree S T (suc n) olds news h.1 k)
-
-pub all-filter : {A : Type 0} (P : A → Type 0) (f : A → Bool) (xs : List A) → AllByRecursion P xs → AllByRecursion P (filter f xs)
-all-filter P f [] h = tt
-all-filter P f (x ∷ xs) h = go (f x) (all-filter P f xs h.1)
-  where
-    go : (b : Bool) → AllByRecursion P (filter f xs) → AllByRecursion P (if b then x ∷ filter f xs else filter f xs)
-    go true rest = (h.0, rest)
-    go false rest = rest
 
 spot-agrees : (S T : Store Sort) (s : Shared) (o : Option Var) → SharedAgrees S T s → AllByRecursion (Agrees S T) (shared_pair s o)
 spot-agrees S T s None h = tt

@@ -1,12 +1,11 @@
 -- the facts of queries are truth-valued
-use Rattle.std.proofs.Common.{◌≡◌, ℕ, suc, ◌+◌, List, [], ◌∷◌, ◌++◌, length, sym, ap, refl}
+use Rattle.std.proofs.Common.{◌≡◌, ℕ, suc, ◌+◌, List, [], ◌∷◌, ◌++◌, length, ap, refl}
 use Rattle.std.specs.Prelude.{Bool, true, false, ◌&&◌, Option, Some, None, map, slice_get, if◌then◌else◌}
 use Rattle.std.specs.List.{AllByRecursion}
-use Rattle.sd_base.specs.declared.sort.Sort.{Sort, Bool as BoolSort}
+use Rattle.sd_base.specs.declared.sort.Sort.{Bool as BoolSort}
 use Rattle.sd_base.specs.declared.Var.{Var}
 use Rattle.sd_core.specs.declared.CoreExpr.{CoreExpr}
 use Rattle.sd_core.specs.declared.CoreProc.{CoreProc}
-use Rattle.sd_core.specs.declared.CoreProgram.{CoreProgram}
 use Rattle.sd_core.specs.declared.Function.{Function}
 use Rattle.sd_core.specs.Store.{Store, read}
 use Rattle.sd_core.specs.Formed.{WellFormed, HasType, no_state, same_sort, sorts_of}

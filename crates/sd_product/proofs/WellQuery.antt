@@ -71,7 +71,7 @@ module _ (S T : Store Sort) (st ut : Store Tree) (w : StatesWell S T st ut) wher
   relations-well places [] f = tt
   relations-well places (r ∷ rs) f = (at-well r.kind (slice_get places r.place) f.0, relations-well places rs f.1)
 
-  under-sort : (places : List SpotPair) (rs : List Relation) (claim : Tree) → sort_of claim ≡ BoolSort → sort_of (under (map (term_of places st ut) rs) claim) ≡ BoolSort
+  pub under-sort : (places : List SpotPair) (rs : List Relation) (claim : Tree) → sort_of claim ≡ BoolSort → sort_of (under (map (term_of places st ut) rs) claim) ≡ BoolSort
   under-sort places [] claim e = e
   under-sort places (r ∷ rs) claim e = or-sort (not_of (term_of places st ut r)) (under (map (term_of places st ut) rs) claim)
 
@@ -79,9 +79,6 @@ module _ (S T : Store Sort) (st ut : Store Tree) (w : StatesWell S T st ut) wher
   under-well places [] claim f v e = v
   under-well places (r ∷ rs) claim f v e =
       implies-well (term_of places st ut r) (under (map (term_of places st ut) rs) claim) (at-well r.kind (slice_get places r.place) f.0) (under-well places rs claim f.1 v e) (at-sort r.kind (slice_get places r.place)) (under-sort places rs claim e)
-
-  pub under-truth : (places : List SpotPair) (rs : List Relation) (claim : Tree) → sort_of claim ≡ BoolSort → sort_of (under (map (term_of places st ut) rs) claim) ≡ BoolSort
-  under-truth = under-sort
 
   pub claim-well : (places : List SpotPair) (c : Claim) (flag flag' : Tree) → FitsClaim places S T c → IsWellSorted flag → IsWellSorted flag' → sort_of flag ≡ BoolSort → sort_of flag' ≡ BoolSort → IsWellSorted (claim_term places c st flag ut flag')
   claim-well places Flag flag flag' f v v' e e' = implies-well flag' flag v' v e' e
@@ -150,7 +147,7 @@ module _ (w : Work) (table : List Bool) where
       let sort = claim-sort _ _ _ _ ends x.pair.outputs x.candidate.claim a.flag b.flag in
       let t = under (map (term_of x.pair.inputs (entry a.args a.before) (entry b.args b.before)) x.candidate.when) claim in
       let inner = under-well _ _ _ _ begins x.pair.inputs x.candidate.when claim fits.when well sort in
-      let truth = under-truth _ _ _ _ begins x.pair.inputs x.candidate.when claim sort in
+      let truth = under-sort _ _ _ _ begins x.pair.inputs x.candidate.when claim sort in
       implies-well a.guard (or_of (not_of b.guard) t) ca.terms.guard (implies-well b.guard t cb.terms.guard inner cb.sorts.guard truth) ca.sorts.guard (or-sort (not_of b.guard) t)
 
   if-well : (r : Bool) (t : Tree) → (r ≡ true → IsWellSorted t) → AllWellSorted (if r then t ∷ [] else [])

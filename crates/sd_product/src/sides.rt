@@ -4,7 +4,7 @@ ghost use Rattle.std.specs.Option.{option_copied};
 ghost use Rattle.sd_core.specs.Formed.{sorts_of};
 ghost use Rattle.sd_term.specs.Build.{Extends};
 ghost use Rattle.sd_vcgen.specs.Body.{symbols, count_all};
-ghost use Rattle.sd_vcgen.specs.Numbers.{DenoteAll, context_of};
+ghost use Rattle.sd_vcgen.specs.Numbers.{DenoteAll, context_of, KeepsAll};
 ghost use Rattle.sd_product.specs.Query as query;
 ghost use Rattle.sd_product.specs.Query.{side_from, old_side, new_side};
 ghost use Rattle.sd_product.specs.Sides.{DenotesSide, AreSides};
@@ -68,6 +68,7 @@ fn put_side(
     first: u32,
     calls: u32,
 ) -> Result<Side, NoMemory>
+    requires { KeepsAll context.now }
     ensures side { IfOk result (λ s. DenotesSide bank.new s
         (side_from (context_of context.now) procedure.now first calls)) }
     ensures next { IfOk result (λ s. s.body.next ≡ calls + count_all (context_of context.now) procedure.now.body) }
@@ -104,6 +105,8 @@ fn put_both(
     old: &CoreProc,
     new: &CoreProc,
 ) -> Result<Sides, NoMemory>
+    requires old { KeepsAll old_context.now }
+    requires new { KeepsAll new_context.now }
     ensures old { IfOk result (λ s. DenotesSide bank.new s.old
         (old_side (context_of old_context.now) (context_of new_context.now) old.now new.now)) }
     ensures new { IfOk result (λ s. DenotesSide bank.new s.new
@@ -133,6 +136,8 @@ pub(crate) fn put_sides(
     old: Option<&CoreProc>,
     new: Option<&CoreProc>,
 ) -> Result<Option<Sides>, NoMemory>
+    requires old { KeepsAll old_context.now }
+    requires new { KeepsAll new_context.now }
     ensures { IfOk result (AreSides (context_of old_context.now) (context_of new_context.now) bank.new
         (option_copied old.entry) (option_copied new.entry)) }
 {

@@ -2,7 +2,7 @@
 ghost use Rattle.std.specs.Prelude.{◌≡◌, ℕ, ◌<◌, ◌≤◌, ◌+◌, IfOk, IfErr, OnOk, Some, None, length, slice_get};
 ghost use Rattle.sd_core.specs.Formed.{WellFormed};
 ghost use Rattle.sd_match.specs.Refusals.{refusal_of};
-ghost use Rattle.sd_vcgen.specs.Numbers.{context_of};
+ghost use Rattle.sd_vcgen.specs.Numbers.{context_of, KeepsAll};
 ghost use Rattle.sd_product.specs.Query.{old_context, new_context};
 ghost use Rattle.sd_product.specs.Work as work;
 ghost use Rattle.sd_product.specs.Work.{IsAt, pairs_in, candidate_lists, claims_in, work_of};
@@ -15,7 +15,7 @@ use crate::calls::Claims;
 use crate::facts::Obligation;
 use crate::tables::{candidate_places, first_numbers, pairs_by_old};
 use sd_base::NoMemory;
-use sd_cand::{Candidate, LiveTable, candidates};
+use sd_cand::{CandError, Candidate, LiveTable, candidates};
 use sd_config::Settings;
 use sd_core::CoreProgram;
 use sd_match::{MatchError, Pairs, pair_up};
@@ -64,6 +64,17 @@ impl From<MatchError> for WorkError {
     }
 }
 
+impl From<CandError> for WorkError {
+    ghost use Rattle.std.specs.Prelude.{◌≡◌};
+    ghost use Rattle.sd_product.specs.declared.work.WorkError.TheVariants.{NoMemory};
+
+    ghost from_gives = { λ _ e. e ≡ NoMemory };
+
+    fn from(_: CandError) -> WorkError {
+        WorkError::NoMemory
+    }
+}
+
 /// Two programs with their pairs, and the candidates of all pairs, which are numbered through in order.
 #[derive(Drop)]
 pub struct Work {
@@ -71,6 +82,9 @@ pub struct Work {
     new: CoreProgram,
     old_infallible: Vec<bool>,
     new_infallible: Vec<bool>,
+    /// By procedure: whether its calls are kept, which all are.
+    old_kept: Vec<bool>,
+    new_kept: Vec<bool>,
     pairs: Pairs,
     candidates: Vec<Items<Candidate>>,
     /// By the place of an old procedure: its pair.
@@ -116,7 +130,8 @@ impl Work {
         ensures refused { IfErr result (λ e. Tells e (refusal_of old new)) }
     {
         let pairs = pair_up(alloc, &old, &new, settings)?;
-        let work = Work::with_pairs(alloc, old, new, pairs)?;
+        let candidates = candidates(alloc, &old, &new, &pairs, settings)?;
+        let work = Work::with_pairs(alloc, old, new, pairs, candidates)?;
         Ok(work)
     }
 
@@ -125,15 +140,18 @@ impl Work {
         old: CoreProgram,
         new: CoreProgram,
         pairs: Pairs,
+        candidates: Vec<Items<Candidate>>,
     ) -> Result<Work, NoMemory>
         requires old { WellFormed old }
         requires new { WellFormed new }
         requires pairs { pairs ≡ pairs_in (record { old = old; new = new }) }
+        requires candidates { candidates.items ≡ candidate_lists (record { old = old; new = new }) pairs }
         ensures programs { IfOk result (λ work. (work.old ≡ old) × (work.new ≡ new)) }
     {
         let old_infallible = infallible_procedures(alloc, old.procs.as_slice())?;
         let new_infallible = infallible_procedures(alloc, new.procs.as_slice())?;
-        let candidates = candidates(alloc, &pairs)?;
+        let old_kept = vec![in alloc; true; old.procs.len()]?;
+        let new_kept = vec![in alloc; true; new.procs.len()]?;
         let pair_of_old = pairs_by_old(alloc, &pairs, old.procs.len())?;
         let first = first_numbers(alloc, candidates.as_slice())?;
         let places = candidate_places(alloc, candidates.as_slice())?;
@@ -142,6 +160,8 @@ impl Work {
             new,
             old_infallible,
             new_infallible,
+            old_kept,
+            new_kept,
             pairs,
             candidates,
             pair_of_old,
@@ -223,23 +243,29 @@ impl Work {
         }
     }
 
-    /// The old program, with its infallible procedures.
+    /// The old program, with its infallible procedures. All calls are kept.
     pub(crate) fn old_context(&self) -> Context<'_>
-        ensures { context_of result ≡ old_context (work_of self.now) (work.infallibles_in self.now) }
+        ensures context { context_of result ≡ old_context (work_of self.now) (work.infallibles_in self.now) }
+        ensures kept { KeepsAll result }
     {
         Context {
             program: &self.old,
             infallible: self.old_infallible.as_slice(),
+            kept: self.old_kept.as_slice(),
+            depth: 0,
         }
     }
 
-    /// The new program, with its infallible procedures.
+    /// The new program, with its infallible procedures. All calls are kept.
     pub(crate) fn new_context(&self) -> Context<'_>
-        ensures { context_of result ≡ new_context (work_of self.now) (work.infallibles_in self.now) }
+        ensures context { context_of result ≡ new_context (work_of self.now) (work.infallibles_in self.now) }
+        ensures kept { KeepsAll result }
     {
         Context {
             program: &self.new,
             infallible: self.new_infallible.as_slice(),
+            kept: self.new_kept.as_slice(),
+            depth: 0,
         }
     }
 

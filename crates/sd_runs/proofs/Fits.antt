@@ -3,9 +3,9 @@ use Rattle.std.proofs.Common.{◌≡◌, ℕ, zero, suc, List, [], ◌∷◌, �
 use Rattle.std.specs.Prelude.{Bool, true, false, ◌&&◌, not, map, set, Some, slice_get, if◌then◌else◌}
 use Rattle.std.specs.List.{AllByRecursion}
 use Rattle.std.specs.Cmp.Lexicographic.{bytes_decides}
-use Rattle.sd_base.specs.declared.Sort.{Sort, Int, Bool as BoolSort, Named}
-use Rattle.sd_base.specs.Value.{Text, same_text, Value, Number, Truth, Element, Map}
-use Rattle.sd_base.specs.Sorts.{MapOf, HasSort, IsIndexOf}
+use Rattle.sd_base.specs.declared.Sort.{Sort, Int, Bool as BoolSort}
+use Rattle.sd_base.specs.Value.{Text, same_text, Value, Number, Truth}
+use Rattle.sd_base.specs.Sorts.{MapOf, HasSort}
 use Rattle.sd_base.specs.Meaning.{Meaning, Interpretation, interpretation, same_values, result_at, index_of}
 use Rattle.sd_base.proofs.MapLemmas.{write_keeps, read_keeps}
 use Rattle.sd_base.proofs.SortLemmas.{index_of-sorted}
@@ -19,7 +19,7 @@ use Rattle.sd_core.specs.declared.Function.{Function}
 use Rattle.sd_core.specs.declared.CoreProgram.{CoreProgram}
 use Rattle.sd_core.specs.Store.{Store, read, write, write_all}
 use Rattle.sd_core.specs.Run.{nothing, apply, value_in, values_in}
-use Rattle.sd_core.specs.Formed.{sort_at, declared_as, IsIndexSort, Takes, HasType, HaveTypes, AllHaveTypes, AreSpotsOf}
+use Rattle.sd_core.specs.Formed.{sort_at, declared_as, Takes, HasType, HaveTypes, AllHaveTypes, AreSpotsOf}
 use Rattle.sd_core.specs.Meanings.{HaveSorts, FitsTable, FitsBy, Fits, IsMeaningOf}
 
 -- ---- lists of values

@@ -12,7 +12,7 @@ use Rattle.sd_base.specs.Meaning.{Interpretation, interpretation, truth_of}
 use Rattle.sd_core.specs.declared.Spot.{Spot}
 use Rattle.sd_core.specs.declared.Spot.TheVariants.{Slot, Global}
 use Rattle.sd_core.specs.declared.CoreExpr.{CoreExpr}
-use Rattle.sd_core.specs.declared.CoreStmt.{CoreStmt, Assign, If', Call, Assume, Fail, Return, Row_of-CoreStmt, end_of-CoreStmt, more_of-CoreStmt}
+use Rattle.sd_core.specs.declared.CoreStmt.{CoreStmt, Assign, If', Call, Assume, Row_of-CoreStmt, end_of-CoreStmt, more_of-CoreStmt}
 use Rattle.sd_core.specs.declared.CoreProc.{CoreProc}
 use Rattle.sd_core.specs.declared.CoreProgram.{CoreProgram}
 use Rattle.sd_core.specs.Store.{Store, read, write, write_all, set_all}

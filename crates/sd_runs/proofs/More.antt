@@ -3,7 +3,7 @@ use Rattle.std.proofs.Common.{◌≡◌, ℕ, zero, suc, ◌⊎◌, inl, inr, Li
 use Rattle.std.specs.Prelude.{Bool, true, false, map, slice_get, if◌then◌else◌}
 use Rattle.sd_base.specs.Value.{Value}
 use Rattle.sd_base.specs.Meaning.{Interpretation, truth_of}
-use Rattle.sd_core.specs.declared.CoreStmt.{CoreStmt, Assign, If', Call, Assume, Fail, Return, Row_of-CoreStmt, end_of-CoreStmt, more_of-CoreStmt}
+use Rattle.sd_core.specs.declared.CoreStmt.{CoreStmt, If', Call, Row_of-CoreStmt, end_of-CoreStmt, more_of-CoreStmt}
 use Rattle.sd_core.specs.declared.CoreProc.{CoreProc}
 use Rattle.sd_core.specs.Store.{Store}
 use Rattle.sd_core.specs.Run.{value_in, End, Unfinished, Step, Goes, Stops, Blocks, Lacks, Calls, receive, then_run, run, run_row, run_all, enter, end_of, run_number, calls_within}

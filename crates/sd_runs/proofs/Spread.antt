@@ -1,7 +1,7 @@
 -- A mark that spreads to callers leaves the infallible procedures unmarked.
 use Rattle.std.proofs.Common.{◌≡◌, ℕ, zero, suc, ◌+◌, ◌<◌, ◌⊎◌, inl, inr, List, [], ◌∷◌, ◌++◌, length, replicate, get_or, Option, refl, sym, ap, ◌∙◌, subst, ⊎_elim, arith, length-append}
-use Rattle.std.specs.Prelude.{Bool, true, false, not, ◌&&◌, set, Some, slice_get, Contains, nat_lt, if◌then◌else◌}
-use Rattle.std.specs.List.{AllByRecursion, list_all}
+use Rattle.std.specs.Prelude.{Bool, true, false, not, set, Some, slice_get, Contains, nat_lt, if◌then◌else◌}
+use Rattle.std.specs.List.{list_all}
 use Rattle.std.proofs.lemmas.List.{length-set, length-replicate, get_or-set_same, get_or-set_other, get_or-replicate, get_or_read}
 use Rattle.std.proofs.lemmas.List.Elements.{Contains-append_left, Contains-push, Contains-push_cases}
 use Rattle.std.proofs.lemmas.Bool.{cases_eq, ltb-true, lt-ltb, and_from, not-true, and_parts}
@@ -9,7 +9,7 @@ use Rattle.sd_core.specs.declared.CoreProc.{CoreProc}
 use Rattle.sd_runs.specs.Calls.{callees_of, any_fail}
 use Rattle.sd_runs.specs.Infallible.{IsInfallibleBody, IsInfallibleSet, AreIn, AreTheInfallible, entry_at}
 use Rattle.sd_runs.specs.Marks.{callees_in, callees_at, Marks, marked, all_marked, may_be_infallible, refuted_from, with_callers}
-use Rattle.sd_runs.proofs.Contained.{contains_first, contains_later, contains_none, contains_cases}
+use Rattle.sd_runs.proofs.Contained.{contains_first, contains_later, contains_none, contains_cases, all_at, all_by, all_in, all_of}
 use Rattle.sd_runs.proofs.Callers.{AreCallers, are_callers, at}
 
 -- ---- truth values
@@ -153,33 +153,14 @@ moves_all (r ∷ rs) m = moves_then r rs m (marked r m) (all_marked rs (marked r
 
 -- ---- what bodies tell
 
-each_below : (n : ℕ) (cs : List ℕ) → list_all (λ q. nat_lt q n) cs ≡ true → (q : ℕ) → Contains cs q → q < n
-each_below n [] h q c = contains_none q c
-each_below n (d ∷ cs) h q c =
-    let hs = and_parts (nat_lt d n) (list_all (λ q. nat_lt q n) cs) h in
-    ⊎_elim
-    (λ (s : d ≡ q). subst (λ (j : ℕ). j < n) s (below d hs.0))
-    (λ (k : Contains cs q). each_below n cs hs.1 q k)
-    (contains_cases q d cs c)
-  where
-    below : (d : ℕ) → nat_lt d n ≡ true → d < n
-    below d e = ltb-true d n e
-
-all_below : (n : ℕ) (infallible : ℕ → Bool) → ((q : ℕ) → infallible q ≡ true → q < n) → (cs : List ℕ) → AllByRecursion (λ q. infallible q ≡ true) cs → list_all (λ q. nat_lt q n) cs ≡ true
-all_below n infallible h [] a = refl
-all_below n infallible h (d ∷ cs) a = and_from (nat_lt d n) (list_all (λ q. nat_lt q n) cs) (below d (h d a.0)) (all_below n infallible h cs a.1)
-  where
-    below : (d : ℕ) → d < n → nat_lt d n ≡ true
-    below d e = lt-ltb d n e
-
 pub may-parts : (n : ℕ) (p : CoreProc) → may_be_infallible n p ≡ true → (any_fail p.body ≡ false) × ((q : ℕ) → Contains (callees_of p.body) q → q < n)
 may-parts n p h =
     let hs = and_parts (not (any_fail p.body)) (list_all (λ q. nat_lt q n) (callees_of p.body)) h in
-    (not-true (any_fail p.body) hs.0, each_below n (callees_of p.body) hs.1)
+    (not-true (any_fail p.body) hs.0, λ q c. ltb-true q n (all_at (λ q. nat_lt q n) (callees_of p.body) q (all_of (λ q. nat_lt q n) (callees_of p.body) hs.1) c))
 
 pub infallible-may : (procs : List CoreProc) (infallible : ℕ → Bool) → AreIn procs infallible → (p : CoreProc) → IsInfallibleBody infallible p → may_be_infallible (length procs) p ≡ true
 infallible-may procs infallible h p b =
-    and_from (not (any_fail p.body)) (list_all (λ q. nat_lt q (length procs)) (callees_of p.body)) (ap not b.no_fail) (all_below (length procs) infallible h (callees_of p.body) b.callees)
+    and_from (not (any_fail p.body)) (list_all (λ q. nat_lt q (length procs)) (callees_of p.body)) (ap not b.no_fail) (all_in infallible (λ q. nat_lt q (length procs)) (λ q e. lt-ltb q (length procs) (h q e)) (callees_of p.body) b.callees)
 
 -- ---- the first marks
 
@@ -235,17 +216,6 @@ caller_found : (procs : List CoreProc) (r q : ℕ) → Contains (callees_at proc
 caller_found [] r q c = contains_none q c
 caller_found (p ∷ procs) zero q c = (p, refl, c)
 caller_found (p ∷ procs) (suc r) q c = caller_found procs r q c
-
-all_at : (infallible : ℕ → Bool) (cs : List ℕ) (q : ℕ) → AllByRecursion (λ c. infallible c ≡ true) cs → Contains cs q → infallible q ≡ true
-all_at infallible [] q a c = contains_none q c
-all_at infallible (d ∷ cs) q a c = ⊎_elim
-    (λ (s : d ≡ q). subst (λ (j : ℕ). infallible j ≡ true) s a.0)
-    (λ (k : Contains cs q). all_at infallible cs q a.1 k)
-    (contains_cases q d cs c)
-
-all_by : (infallible : ℕ → Bool) (cs : List ℕ) → ((q : ℕ) → Contains cs q → infallible q ≡ true) → AllByRecursion (λ c. infallible c ≡ true) cs
-all_by infallible [] h = tt
-all_by infallible (d ∷ cs) h = (h d (contains_first d cs), all_by infallible cs (λ q c. h q (contains_later d q cs c)))
 
 pub spread_begins : (procs : List CoreProc) → Spreads procs (all_marked (refuted_from (length procs) 0 procs) (replicate (length procs) true, []))
 spread_begins procs =

@@ -1,5 +1,5 @@
 -- Which trees the numbers that a body is run with stand for.
-use Rattle.std.specs.Prelude.{◌≡◌, ℕ, ◌<◌, false, List, [], ◌∷◌, All, map, length, get_or, Option, slice_get}
+use Rattle.std.specs.Prelude.{◌≡◌, ℕ, ◌<◌, true, false, List, [], ◌∷◌, All, map, length, replicate, get_or, Option, slice_get}
 use Rattle.sd_core.specs.declared.CoreProc.{CoreProc}
 use Rattle.sd_core.specs.declared.Spot.{Spot}
 use Rattle.sd_core.specs.declared.Spot.TheVariants.{Slot, Global}
@@ -52,6 +52,10 @@ pub record AreTermsOf (bank : List Tree) (terms : BodyTerms) (p : CoreProc) (s :
 -- what a body is run in
 abbrev pub context_of : Context → spec.Context
 context_of c = record { program = c.program.now; infallible = λ q. get_or c.infallible.now q false }
+
+-- the calls of all procedures are kept
+abbrev pub KeepsAll : Context → Type 0
+KeepsAll c = c.kept.now ≡ replicate (length c.program.now.procs) true
 
 -- ---- while it runs
 

@@ -9,7 +9,7 @@ ghost use Rattle.sd_term.specs.Bank.{tree_at};
 ghost use Rattle.sd_term.specs.Build.{Extends, not_of, and_of};
 ghost use Rattle.sd_vcgen.specs.Body as spec;
 ghost use Rattle.sd_vcgen.specs.Body.{nothing, term_in, guard_of, assign, step, all_steps, begun, count, count_all};
-ghost use Rattle.sd_vcgen.specs.Numbers.{Denotes, DenoteAll, AreWithin, store_of, AreTermsOf, Stands, state_of, IsWithin, context_of};
+ghost use Rattle.sd_vcgen.specs.Numbers.{Denotes, DenoteAll, AreWithin, store_of, AreTermsOf, Stands, state_of, IsWithin, context_of, KeepsAll};
 
 use crate::call::{Context, Site, run_call};
 use crate::expression::{put_expression, put_expressions};
@@ -51,7 +51,8 @@ pub(crate) struct BodyState {
 /// A statement counts where its path is taken, which joins the conditions of the choices around it, and where the
 /// body hasn't ended before it. An assignment keeps the old term elsewhere (Lahiri and others 2012). What a call
 /// leaves in the outs of its callee and in the globals that the callee modifies are symbols, and so is its flag where
-/// the callee isn't infallible (Hawblitzel and others 2013).
+/// the callee isn't infallible (Hawblitzel and others 2013). No body is run in place of a call yet, so all calls are to
+/// be kept.
 pub fn body_of(
     alloc: Global,
     bank: &mut Bank,
@@ -63,6 +64,7 @@ pub fn body_of(
 ) -> Result<BodyTerms, NoMemory>
     requires ins { All (λ id. id < length bank.old) ins.now }
     requires globals { All (λ id. id < length bank.old) globals.now }
+    requires calls { KeepsAll context.now }
     ensures terms { IfOk result (λ terms. AreTermsOf bank.new terms procedure.now
         (spec.body_of (context_of context.now) procedure.now first (map (tree_at bank.old) ins.now)
         (map (tree_at bank.old) globals.now))) }

@@ -26,6 +26,10 @@ use std::alloc::Global;
 pub struct Context<'a> {
     pub program: &'a CoreProgram,
     pub infallible: &'a [bool],
+    /// By place: whether calls of the procedure are kept. The bodies of others are to run in place of their calls.
+    pub kept: &'a [bool],
+    /// In how many calls inside each other, run in place, a body stands.
+    pub depth: u32,
 }
 
 /// A call that a body makes: where it counts, its arguments and the globals before it, and the outs, the globals

@@ -10,8 +10,8 @@ pub invariant_of-result : goal.invariant_of-result
 invariant_of-result c =
     let h = c.args.work.now in
     let own = c.pair-own.result.now in
-    let old = c.old_context-old.ensures in
-    let new = c.new_context-new.ensures in
+    let old = c.old_context-old.ensures.context in
+    let new = c.new_context-new.ensures.context in
     let p = c.get-old_procedure.ensures.value ∙ ap (λ (C : Context). slice_get C.program.procs own.old) old in
     let q = c.get-new_procedure.ensures.value ∙ ap (λ (C : Context). slice_get C.program.procs own.new) new in
     record {
