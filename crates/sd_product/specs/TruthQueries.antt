@@ -11,4 +11,5 @@ AreTruths facts = AllByRecursion (λ t. is_truth_valued t ≡ true) facts
 -- each fact of each query is truth-valued, under every table
 abbrev pub QueriesAreTruths : Type 0
 QueriesAreTruths =
-    (work : PairedPrograms) → AreWellFormed work → (table : List Bool) → AllByRecursion AreTruths (queries_of work table)
+    (work : PairedPrograms) → AreWellFormed work → (table : List Bool) →
+    AllByRecursion AreTruths (queries_of work table)

@@ -37,12 +37,13 @@ pub record IsLegalDeath (leaves : ℕ) (work : PairedPrograms) (before : List �
 -- deaths in order, of which the first comes after these
 abbrev pub AreLegal : ℕ → PairedPrograms → List ℕ → List Death → Type 0
 AreLegal leaves work before [] = Unit {0}
-AreLegal leaves work before (d ∷ ds) = IsLegalDeath leaves work before d × AreLegal leaves work (before ++ d.candidate ∷ []) ds
+AreLegal leaves work before (d ∷ ds) =
+    IsLegalDeath leaves work before d × AreLegal leaves work (before ++ d.candidate ∷ []) ds
 
 -- The table is the full one less the candidates of the deaths, which are legal, and each live candidate has a proof
 -- of its query under this table.
-pub record IsSettled (leaves : ℕ) (work : PairedPrograms) (table : List Bool) (deaths : List Death) (proofs : List Proved)
-    : Type 0 where
+pub record IsSettled (leaves : ℕ) (work : PairedPrograms) (table : List Bool) (deaths : List Death)
+    (proofs : List Proved) : Type 0 where
   pub size : length table ≡ length (claims_in work)
   pub table_is : table ≡ cleared (replicate (length (claims_in work)) true) (dead_of deaths)
   pub legal : AreLegal leaves work [] deaths
