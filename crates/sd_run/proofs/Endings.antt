@@ -12,7 +12,7 @@ use Rattle.sd_run.specs.TextRefusals.{refusal_status}
 use Rattle.sd_run.specs.Words.{JobNames, verify, job_of}
 use Rattle.sd_run.specs.Report.{is_safe}
 use Rattle.sd_product.specs.Work.{Held}
-use Rattle.sd_run.specs.Texts.{Texts}
+use Rattle.sd_run.specs.Texts.{Texts, AreMatched}
 use Rattle.sd_run.specs.Outcome.{Outcome, message, status_of, IsCertified}
 use Rattle.sd_run.specs.Answer.{Answer, no_job, old_refused, new_refused, clashing, compared, too_long, certificate_refused, replayed, Headline, UnknownIsFailure, CertificateWriteRose}
 use Rattle.sd_run.specs.Writing.{outcome, IsBroken, FilesAfter, FileRose}
@@ -49,8 +49,8 @@ module _ (words : List (List ℕ)) (content : List ℕ → Option (List ℕ)) (o
   row_status (clashing job t r a b c is) = message_status o 4 _ is (omega arith)
   row_status (compared job t name a b c r) = zero_or_one_status (list_all (λ v. is_safe v.state) o.pairs) o.status r.is_report.status
   row_status (too_long job t name a b c d is) = inr (ap (λ (p : Outcome). p.status) is)
-  row_status (certificate_refused job t name bytes e a b c d r is) = message_status o 5 _ is (omega arith)
-  row_status (replayed job t name bytes a b c d r) = zero_or_one_status (list_all (λ v. is_safe v.state) o.pairs) o.status r.is_report.status
+  row_status (certificate_refused job t name bytes e a b c d l r is) = message_status o 5 _ is (omega arith)
+  row_status (replayed job t name bytes a b c d l r) = zero_or_one_status (list_all (λ v. is_safe v.state) o.pairs) o.status r.is_report.status
 
   pub row_apart : Answer words content o → (o.status ≡ 6) ⊎ ((o.status ≡ 7) ⊎ (o.status ≡ 8)) → ⊥
   row_apart a h = apart o.status (row_status a) h
@@ -61,6 +61,8 @@ module _ (words : List (List ℕ)) (content : List ℕ → Option (List ℕ)) (o
     job : JobNames
     named : job_of words ≡ Some job
     task : job.task ≡ verify (Some file.0)
+    texts : Texts
+    matched : AreMatched content job texts
 
   no_file : (file : List ℕ × List ℕ) (certificate : Option (List ℕ × List ℕ)) → certificate ≡ None → certificate ≡ Some file → ⊥
   no_file file certificate none some = let bad : ◌≡◌ {A = Option (List ℕ × List ℕ)} None (Some file) = sym none ∙ some in cc
@@ -79,17 +81,18 @@ module _ (words : List (List ℕ)) (content : List ℕ → Option (List ℕ)) (o
   row_file file (old_refused job r a b is) e = absurd (message_file file (refusal_status r) _ is e)
   row_file file (new_refused job old r a b c is) e = absurd (message_file file (refusal_status r) _ is e)
   row_file file (clashing job t r a b c is) e = absurd (message_file file 4 _ is e)
-  row_file file (compared job t name a b c r) e = record { job = job; named = a; task = b ∙ ap verify (certified_file t r.work r.live name o.certificate file r.certified e) }
+  row_file file (compared job t name a b c r) e = record { job = job; named = a; task = b ∙ ap verify (certified_file t r.work r.live name o.certificate file r.certified e); texts = t; matched = c }
   row_file file (too_long job t name a b c d is) e = absurd (message_file file 9 _ is e)
-  row_file file (certificate_refused job t name bytes x a b c d r is) e = absurd (message_file file 5 _ is e)
-  row_file file (replayed job t name bytes a b c d r) e = absurd (no_file file o.certificate r.no_certificate e)
+  row_file file (certificate_refused job t name bytes x a b c d l r is) e = absurd (message_file file 5 _ is e)
+  row_file file (replayed job t name bytes a b c d l r) e = absurd (no_file file o.certificate r.no_certificate e)
 
   -- the count rose from an earlier moment on, since which it had stayed
   pub file_rose : (certificate : Option (List ℕ × List ℕ)) (first before now : List ℕ → ℕ) → Answer words content o → o.certificate ≡ certificate
-      → ((name : List ℕ) → before name ≡ first name) → FileRose certificate before now → CertificateWriteRose words first now
+      → ((name : List ℕ) → before name ≡ first name) → FileRose certificate before now → CertificateWriteRose words content first now
   file_rose None first before now a e same rose = absurd rose
   file_rose (Some file) first before now a e same rose =
-      let n = row_file file a e in (n.job, file.0, n.named, n.task, subst (λ (k : ℕ). Rose k (now file.0)) (same file.0) rose)
+      let n = row_file file a e in
+      record { job = n.job; named = n.named; name = file.0; task = n.task; texts = n.texts; matched = n.matched; rose = subst (λ (k : ℕ). Rose k (now file.0)) (same file.0) rose }
 
 -- ---- what the end of a run tells
 

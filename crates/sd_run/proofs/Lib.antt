@@ -8,3 +8,5 @@ pub mod Certified
 pub mod Rows
 pub mod Endings
 pub mod ComparedTrees
+pub mod Booleans
+pub mod ComparedLemmas

@@ -15,6 +15,7 @@ use Rattle.sd_product.specs.Work.{claims_of}
 use Rattle.sd_run.specs.declared.verdict.PairVerdict.{PairVerdict}
 use Rattle.sd_run.specs.declared.verdict.Otherwise.{Otherwise}
 use Rattle.sd_run.specs.Verdicts.{is_flag, flag_live, verdict_of, verdicts_of}
+use Rattle.sd_run.proofs.Booleans.{and_join}
 
 drop-drop : {X : Type 0} (m n : ℕ) (xs : List X) → drop m (drop n xs) ≡ drop (n + m) xs
 drop-drop m zero xs = let e : m ≡ 0 + m = omega arith in ap (λ k. drop k xs) e
@@ -28,9 +29,6 @@ flag_step : (cs : List Candidate) (t : List Bool) (i n : ℕ) (c : Candidate) (b
     → flag_live (drop i cs) (drop n t) ≡ ((is_flag c.claim && b) || flag_live (drop (i + 1) cs) (drop (n + 1) t))
 flag_step cs t i n c b within below at is k = flag_live (drop-at cs i c within at k) (drop-some t n b is k)
 
-both : (a b : Bool) → a ≡ true → b ≡ true → (a && b) ≡ true
-both a b e f = ap (λ x. x && b) e ∙ f
-
 no_second : (a b : Bool) → b ≡ false → (a && b) ≡ false
 no_second true b e = e
 no_second false b e = refl
@@ -39,7 +37,7 @@ no_second false b e = refl
 pub flag_here : (cs : List Candidate) (t : List Bool) (i n : ℕ) (c : Candidate) (b : Bool) → i < length cs → n < length t → c ≡ get_or cs i c → slice_get t n ≡ Some b → is_flag c.claim ≡ true → b ≡ true
     → flag_live (drop i cs) (drop n t) ≡ true
 flag_here cs t i n c b within below at is flag live =
-    flag_step cs t i n c b within below at is ∙ ap (λ x. x || flag_live (drop (i + 1) cs) (drop (n + 1) t)) (both (is_flag c.claim) b flag live)
+    flag_step cs t i n c b within below at is ∙ ap (λ x. x || flag_live (drop (i + 1) cs) (drop (n + 1) t)) (and_join (is_flag c.claim) b flag live)
 
 -- a dead one
 pub flag_dead : (cs : List Candidate) (t : List Bool) (i n : ℕ) (c : Candidate) (b : Bool) → i < length cs → n < length t → c ≡ get_or cs i c → slice_get t n ≡ Some b → b ≡ false

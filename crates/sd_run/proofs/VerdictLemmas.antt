@@ -38,6 +38,7 @@ use Rattle.sd_run.specs.declared.verdict.VerdictState.TheVariants.{Safe, Unknown
 use Rattle.sd_run.specs.declared.verdict.Otherwise.{Otherwise}
 use Rattle.sd_run.specs.declared.verdict.Otherwise.TheVariants as otherwise
 use Rattle.sd_run.proofs.Tables.{count_first}
+use Rattle.sd_run.proofs.Booleans.{and_split}
 use Rattle.sd_rounds.specs.declared.settle.Death.{Death}
 use Rattle.sd_run.specs.Verdicts.{is_flag, flag_live, said, state_of, verdict_by, verdict_of, verdicts_of, is_spent, IsSpentPair}
 
@@ -73,10 +74,6 @@ flag_is : (c : Claim) → is_flag c ≡ true → c ≡ Flag
 flag_is Flag e = refl
 flag_is (Output r) e = absurd (let bad : false ≡ true = e in cc)
 
-and_both : (a b : Bool) → (a && b) ≡ true → (a ≡ true) × (b ≡ true)
-and_both true b e = (refl, e)
-and_both false b e = absurd (let bad : false ≡ true = e in cc)
-
 later : (c : Candidate) (cs : List Candidate) (b : Bool) (table : List Bool) (live : Bool) → FlagIn cs table live → FlagIn (c ∷ cs) (b ∷ table) live
 later c cs b table live f = record { place = suc f.place; candidate = f.candidate; at = f.at; flag = f.flag; is = f.is }
 
@@ -86,7 +83,7 @@ live_in (c ∷ cs) [] e = absurd (let bad : false ≡ true = e in cc)
 live_in (c ∷ cs) (b ∷ table) e = go (live_in cs table) (is_flag c.claim && b) refl e
   where
     go : (flag_live cs table ≡ true → FlagIn cs table true) → (x : Bool) → (is_flag c.claim && b) ≡ x → (x || flag_live cs table) ≡ true → FlagIn (c ∷ cs) (b ∷ table) true
-    go rest true is h = let both = and_both (is_flag c.claim) b is in record { place = 0; candidate = c; at = refl; flag = flag_is c.claim both.0; is = ap Some both.1 }
+    go rest true is h = let both = and_split (is_flag c.claim) b is in record { place = 0; candidate = c; at = refl; flag = flag_is c.claim both.0; is = ap Some both.1 }
     go rest false is h = later c cs b table true (rest h)
 
 or_none : (a b : Bool) → (a || b) ≡ false → (a ≡ false) × (b ≡ false)

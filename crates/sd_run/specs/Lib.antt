@@ -3,6 +3,7 @@ pub mod Jobs
 pub mod Texts
 pub mod Report
 pub mod Compared
+pub mod ComparedPrograms
 pub mod TextRefusals
 pub mod MatchErrors
 pub mod CertificateErrors

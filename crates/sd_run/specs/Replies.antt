@@ -1,5 +1,5 @@
 -- The texts and the reply of the code, as they are spoken of.
-use Rattle.std.specs.Prelude.{◌≡◌, ◌⊎◌, ◌<◌, ℕ, List, Option, None, Some, length}
+use Rattle.std.specs.Prelude.{◌≡◌, ◌⊎◌, ◌<◌, ◌≤◌, ℕ, List, Option, None, Some, length}
 use Rattle.sd_kernel.specs.declared.proved.Proved.{Proved}
 use Rattle.sd_rounds.specs.declared.settle.Death.{Death}
 use Rattle.sd_product.specs.Work.{Held}
@@ -91,7 +91,7 @@ IsJudged bytes t o = IsReplay bytes t o ⊎ ((e : CertError) × IsRefused bytes 
 abbrev pub IsReplayReply : Option (List ℕ) → Texts → Outcome → Type 0
 IsReplayReply known t o =
     (WhereKnown known (λ bytes. 9223372036854775807 < length bytes) × (o ≡ message 9 certificate_size))
-    ⊎ ((bytes : List ℕ) × Holds known bytes × IsJudged bytes t o)
+    ⊎ ((bytes : List ℕ) × Holds known bytes × (length bytes ≤ 9223372036854775807) × IsJudged bytes t o)
 
 -- what a task on two texts comes to
 abbrev pub IsTaskReply : Task → (List ℕ → Option (List ℕ)) → Texts → Outcome → Type 0

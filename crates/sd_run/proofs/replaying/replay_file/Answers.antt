@@ -9,5 +9,6 @@ returns-clause-reply g c =
     inr (
       c.in-Ok.bytes.items,
       λ bytes known. sym (front_is 9223372036854775807 bytes c.in-Ok.bytes.items (c.in-Ok.ensures.front bytes known) short),
+      short,
       subst (λ (b : List ℕ). IsJudged b (texts_of c.args.matched.now.old c.args.matched.now.new) (outcome_of c.in_ok-judge.field-0)) c.as_slice.ensures.value c.in_ok-judge.ensures,
     )
