@@ -17,7 +17,7 @@ use Rattle.sd_run.specs.declared.verdict.Otherwise.{Otherwise}
 use Rattle.sd_run.specs.Verdicts.{is_flag, flag_live, verdict_of, verdicts_of}
 use Rattle.sd_run.proofs.Booleans.{and_join}
 
-drop-drop : {X : Type 0} (m n : ℕ) (xs : List X) → drop m (drop n xs) ≡ drop (n + m) xs
+pub drop-drop : {X : Type 0} (m n : ℕ) (xs : List X) → drop m (drop n xs) ≡ drop (n + m) xs
 drop-drop m zero xs = let e : m ≡ 0 + m = omega arith in ap (λ k. drop k xs) e
 drop-drop m (suc n) [] = drop-nil m ∙ sym (drop-nil (suc n + m))
 drop-drop m (suc n) (x ∷ xs) = let e : suc n + m ≡ suc (n + m) = omega arith in drop-drop m n xs ∙ ap (λ k. drop k (x ∷ xs)) (sym e)

@@ -49,10 +49,10 @@ slice_get-front [] ys c x e = absurd (none-some x e)
 slice_get-front (y ∷ xs) ys zero x e = e
 slice_get-front (y ∷ xs) ys (suc c) x e = slice_get-front xs ys c x e
 
-slice_get-drop : {X : Type 0} (k : ℕ) (xs : List X) (c : ℕ) (x : X) → slice_get (drop k xs) c ≡ Some x → slice_get xs (k + c) ≡ Some x
-slice_get-drop zero xs c x e = let z : 0 + c ≡ c = omega arith in ap (λ n. slice_get xs n) z ∙ e
-slice_get-drop (suc k) [] c x e = absurd (none-some x e)
-slice_get-drop (suc k) (y ∷ xs) c x e = let z : suc k + c ≡ suc (k + c) = omega arith in ap (λ n. slice_get (y ∷ xs) n) z ∙ slice_get-drop k xs c x e
+pub slice_get-drop : {X : Type 0} (k : ℕ) (xs : List X) (c : ℕ) → slice_get (drop k xs) c ≡ slice_get xs (k + c)
+slice_get-drop zero xs c = let z : 0 + c ≡ c = omega arith in sym (ap (λ n. slice_get xs n) z)
+slice_get-drop (suc k) [] c = refl
+slice_get-drop (suc k) (y ∷ xs) c = let z : suc k + c ≡ suc (k + c) = omega arith in slice_get-drop k xs c ∙ sym (ap (λ n. slice_get (y ∷ xs) n) z)
 
 length-drop_front : {X : Type 0} (k : ℕ) (xs : List X) (n : ℕ) → length xs ≡ k + n → length (drop k xs) ≡ n
 length-drop_front k xs n e = omega (arith, length-drop k xs)
@@ -60,15 +60,19 @@ length-drop_front k xs n e = omega (arith, length-drop k xs)
 abbrev claim : Pair → Candidate → Claimed
 claim pair c = record { pair = pair; candidate = c }
 
+pub said_not_safe : (x : Otherwise) → said x ≡ Safe → ⊥
+said_not_safe otherwise.Unknown e = let bad : ◌≡◌ {A = VerdictState} Unknown Safe = e in cc
+said_not_safe otherwise.Unproved e = let bad : ◌≡◌ {A = VerdictState} Unproved Safe = e in cc
+
 -- ---- claims on the flags
 
 -- a claim on the flags at this place, which the table says to be live or not
-record FlagIn (cs : List Candidate) (table : List Bool) (live : Bool) : Type 0 where
-  place : ℕ
-  candidate : Candidate
-  at : slice_get cs place ≡ Some candidate
-  flag : candidate.claim ≡ Flag
-  is : slice_get table place ≡ Some live
+pub record FlagIn (cs : List Candidate) (table : List Bool) (live : Bool) : Type 0 where
+  pub place : ℕ
+  pub candidate : Candidate
+  pub at : slice_get cs place ≡ Some candidate
+  pub flag : candidate.claim ≡ Flag
+  pub is : slice_get table place ≡ Some live
 
 flag_is : (c : Claim) → is_flag c ≡ true → c ≡ Flag
 flag_is Flag e = refl
@@ -77,7 +81,7 @@ flag_is (Output r) e = absurd (let bad : false ≡ true = e in cc)
 later : (c : Candidate) (cs : List Candidate) (b : Bool) (table : List Bool) (live : Bool) → FlagIn cs table live → FlagIn (c ∷ cs) (b ∷ table) live
 later c cs b table live f = record { place = suc f.place; candidate = f.candidate; at = f.at; flag = f.flag; is = f.is }
 
-live_in : (cs : List Candidate) (table : List Bool) → flag_live cs table ≡ true → FlagIn cs table true
+pub live_in : (cs : List Candidate) (table : List Bool) → flag_live cs table ≡ true → FlagIn cs table true
 live_in [] table e = absurd (let bad : false ≡ true = e in cc)
 live_in (c ∷ cs) [] e = absurd (let bad : false ≡ true = e in cc)
 live_in (c ∷ cs) (b ∷ table) e = go (live_in cs table) (is_flag c.claim && b) refl e
@@ -163,10 +167,6 @@ module _ (P Q : Program) (old_typed : WellTyped P) (new_typed : WellTyped Q) whe
     where
       kept : AreKept h.old h.new
       kept = subst (λ (C : CoreProgram). AreKept C h.new) (sym old_is) (subst (λ (D : CoreProgram). AreKept (core_program P) D) (sym new_is) failures-kept)
-
-      said_not_safe : (x : Otherwise) → said x ≡ Safe → ⊥
-      said_not_safe otherwise.Unknown e = let bad : ◌≡◌ {A = VerdictState} Unknown Safe = e in cc
-      said_not_safe otherwise.Unproved e = let bad : ◌≡◌ {A = VerdictState} Unproved Safe = e in cc
 
       said_unknown : (x : Otherwise) → said x ≡ Unknown → x ≡ otherwise.Unknown
       said_unknown otherwise.Unknown e = refl
@@ -278,7 +278,7 @@ module _ (P Q : Program) (old_typed : WellTyped P) (new_typed : WellTyped Q) whe
                 ap (λ m. slice_get (claims_in h) m) (sym shift) ∙ here.claims (length first + k) x (slice_get-append_right first (claims_of pairs) k ∙ e);
             rest = λ k b e.
                 let shift : n + (count + k) ≡ (n + count) + k = omega arith in
-                ap (λ m. slice_get live m) (sym shift) ∙ here.rest (count + k) b (slice_get-drop count table k b e);
+                ap (λ m. slice_get live m) (sym shift) ∙ here.rest (count + k) b (sym (slice_get-drop count table k) ∙ e);
             size = length-drop_front count table (length (claims_of pairs)) (here.size ∙ count_first pair pairs);
           } in
           all-append (IsRight P Q deaths) (verdict_of o h.old h.new pair (flag_live (candidates_of pair) table)) (verdicts_of o h.old h.new pairs (drop count table))

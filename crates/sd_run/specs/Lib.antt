@@ -8,8 +8,10 @@ pub mod TextRefusals
 pub mod MatchErrors
 pub mod CertificateErrors
 pub mod Verdicts
+pub mod PlainVerdicts
 pub mod TextFaults
 pub mod Outcome
 pub mod Replies
 pub mod Answer
+pub mod OneAnswer
 pub mod Writing
