@@ -1,12 +1,11 @@
 -- The test for programs that are compared is exact.
-use Rattle.std.proofs.Common.{◌≡◌, ◌∙◌, sym, ap, refl, subst, ℕ, Bool, true, false, ◌&&◌, List, [], ◌∷◌, ◌++◌, map, ◌↔◌, Contains, inl, inr, arith}
+use Rattle.std.proofs.Common.{◌≡◌, ◌∙◌, sym, ap, refl, subst, Bool, true, false, ◌&&◌, List, ◌∷◌, ◌++◌, map, ◌↔◌, Contains, inl, inr, arith}
 use Rattle.std.specs.Prelude.{Option, Some, None}
 use Rattle.std.specs.List.{list_all, AllByRecursion}
 use Rattle.std.proofs.lemmas.List.Folds.{list_all-map}
 use Rattle.std.proofs.lemmas.List.Elements.{Contains-append_left, Contains-append_right}
 use Rattle.sd_base.specs.declared.Sort.{Sort, Int, Bool as BoolSort}
 use Rattle.sd_base.specs.declared.Var.{Var}
-use Rattle.sd_base.specs.declared.Place.{Place}
 use Rattle.sd_base.proofs.Lists.{contains-head, contains-tail}
 use Rattle.sd_ast.specs.declared.BinOp.{BinOp}
 use Rattle.sd_ast.specs.declared.BinOp.TheVariants.{Mul}
@@ -22,12 +21,10 @@ use Rattle.sd_ast.specs.declared.Head.{Head}
 use Rattle.sd_ast.specs.declared.Body.{Body}
 use Rattle.sd_ast.specs.declared.Decl.{Decl}
 use Rattle.sd_ast.specs.declared.Decl.TheVariants.{Globals, Procedure, Implementation}
-use Rattle.sd_ast.specs.declared.Program.{Program}
 use Rattle.sd_ast.specs.Tree.{OldOf, UnaryOf, BinaryOf, SelectOf, StoreOf}
-use Rattle.sd_run.specs.Compared.{is_plain_sort, are_plain, is_no_product, has_no_product, have_no_product, none_has_product, is_compared, have_compared, are_compared, is_compared_spec, is_compared_head, is_compared_body, maybe_compared_body, is_compared_decl, is_compared_program}
-use Rattle.sd_run.specs.ComparedPrograms.{expressions_of, parts_of, Multiplies, product, part, statements_of, blocks_of, values_of, HasProduct, value, index, inner, IsPlainSort, locals_in, body_in, variables_of, clauses_of, body_of, IsComparedClause, IsComparedDecl, IsComparedProgram, ComparedIsExact}
+use Rattle.sd_run.specs.Compared.{is_plain_sort, are_plain, is_no_product, has_no_product, have_no_product, none_has_product, is_compared, have_compared, are_compared, is_compared_spec, is_compared_head, is_compared_body, maybe_compared_body, is_compared_decl}
+use Rattle.sd_run.specs.ComparedPrograms.{expressions_of, parts_of, Multiplies, product, part, statements_of, blocks_of, values_of, HasProduct, value, index, inner, IsPlainSort, locals_in, body_in, IsComparedClause, IsComparedDecl, ComparedIsExact}
 use Rattle.sd_run.proofs.Booleans.{and_join, and_split, contains_true, true_contains, append_join, append_split, all_exact}
-
 
 -- ---- expressions
 
@@ -180,7 +177,6 @@ body_exact = all_exact (λ (s : Stmt). is_compared s.kind) (λ s. HasProduct s.k
 maybe_body : (b : Option Body) → maybe_compared_body b ≡ (are_plain (locals_in b) && are_compared (body_in b))
 maybe_body None = refl
 maybe_body (Some b) = refl
-
 
 module _ (h : Head) (locals : List Var) (stmts : List Stmt) where
   vars_split : is_compared_head h ≡ true → are_plain locals ≡ true → are_plain (h.ins ++ (h.outs ++ locals)) ≡ true

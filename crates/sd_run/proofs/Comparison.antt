@@ -1,11 +1,10 @@
 -- What a comparison of two programs tells of their runs.
-use Rattle.std.proofs.Common.{◌≡◌, ◌<◌, sym, subst, ℕ, Bool, true, false, List, [], ◌∷◌, length, arith}
-use Rattle.std.specs.Prelude.{Option, Some, None, Result, Ok, Err, slice_get}
+use Rattle.std.proofs.Common.{◌≡◌, sym, subst, ℕ, List}
+use Rattle.std.specs.Prelude.{Option, Result, Ok}
 use Rattle.std.specs.List.{AllByRecursion}
 use Rattle.std.proofs.lemmas.Option.{slice_get_within}
 use Rattle.sd_base.proofs.Lists.{all-weaker}
 use Rattle.sd_ast.specs.declared.Program.{Program}
-use Rattle.sd_meaning.specs.NewFailure.{NewFailure}
 use Rattle.sd_parse.specs.declared.answer.ReadError.{ReadError}
 use Rattle.sd_parse.proofs.AnswerLaws.{one_answer}
 use Rattle.sd_core.specs.declared.CoreProgram.{CoreProgram}
@@ -14,11 +13,9 @@ use Rattle.sd_core.specs.Propositional.{IsPropositionalCore}
 use Rattle.sd_extract.specs.Propositional.{IsPropositionalProgram}
 use Rattle.sd_extract.specs.Programs.{core_program}
 use Rattle.sd_extract.proofs.Propositional.{propositional_kept}
-use Rattle.sd_kernel.specs.declared.proved.Proved.{Proved}
 use Rattle.sd_cand.specs.Candidates.{equal_inputs}
 use Rattle.sd_product.specs.Query.{Claimed}
-use Rattle.sd_product.specs.Work.{Held, claims_in, queries_under}
-use Rattle.sd_product.specs.Inductive.{IsInductive}
+use Rattle.sd_product.specs.Work.{Held, claims_in}
 use Rattle.sd_product.specs.Judged.{IsFlagAt}
 use Rattle.sd_product.specs.Judged.{LiveFlagsAreSafe, OpenFlagsAreFailures}
 use Rattle.sd_product.proofs.JudgedLemmas.{live-flags-safe, open-flags-fail}
@@ -30,7 +27,6 @@ use Rattle.sd_runs.proofs.InfallibleRuns.{infallible_runs_within}
 use Rattle.sd_vcgen.proofs.Runs.{runs-are-valuations}
 use Rattle.sd_vcgen.proofs.Valuations.{valuations-are-runs}
 use Rattle.sd_run.specs.declared.verdict.PairVerdict.{PairVerdict}
-use Rattle.sd_run.specs.declared.verdict.VerdictState.TheVariants.{Safe, Unknown}
 use Rattle.sd_run.specs.declared.verdict.Otherwise.{Otherwise}
 use Rattle.sd_run.specs.declared.verdict.Otherwise.TheVariants as otherwise
 use Rattle.sd_run.specs.TextRefusals.{IsAccepted}

@@ -3,7 +3,7 @@ use Rattle.std.proofs.Common.{◌≡◌, ◌∙◌, sym, ap, subst, refl, ℕ, �
 use Rattle.std.specs.Prelude.{Option, None, Some, ◌⊎◌, ◌↔◌, IsTrue, if◌then◌else◌}
 use Rattle.std.specs.List.{list_all}
 use Rattle.sd_base.specs.Causes.{Rose}
-use Rattle.sd_base.specs.Outside.{appended, emptied, AllStay, OthersStay}
+use Rattle.sd_base.specs.Outside.{appended, emptied, AllStay}
 use Rattle.sd_run.specs.declared.running.Ended.{Ended}
 use Rattle.sd_run.specs.declared.running.CertificateFile.{CertificateFile}
 use Rattle.sd_run.specs.declared.running.CertificateFile.TheVariants.{Untouched, NotStarted, Cut, Whole}
@@ -13,10 +13,10 @@ use Rattle.sd_run.specs.Words.{JobNames, verify, job_of}
 use Rattle.sd_run.specs.Report.{is_safe}
 use Rattle.sd_product.specs.Work.{Held}
 use Rattle.sd_run.specs.Texts.{Texts, AreMatched}
-use Rattle.sd_run.specs.Outcome.{Outcome, message, status_of, IsCertified}
+use Rattle.sd_run.specs.Outcome.{Outcome, message, IsCertified}
 use Rattle.sd_run.specs.Answer.{Answer, no_job, old_refused, new_refused, clashing, compared, too_long, certificate_refused, replayed, Headline, UnknownIsFailure, CertificateWriteRose}
 use Rattle.sd_run.specs.Writing.{outcome, IsBroken, FilesAfter, FileRose}
-use Rattle.sd_run.proofs.Rows.{row_known, refusal_status_is, row_headline, row_unknown}
+use Rattle.sd_run.proofs.Rows.{refusal_status_is, row_headline, row_unknown}
 
 -- ---- the status of a row is none of those of a stop
 

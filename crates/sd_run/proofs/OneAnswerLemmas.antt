@@ -1,5 +1,5 @@
 -- An input has one answer.
-use Rattle.std.proofs.Common.{◌≡◌, ◌≢◌, ◌∙◌, sym, ap, subst, refl, ℕ, ◌<◌, ◌≤◌, Bool, true, false, List, map, length, inl, inr, arith}
+use Rattle.std.proofs.Common.{◌≡◌, ◌≢◌, ◌∙◌, sym, ap, subst, refl, ℕ, Bool, true, false, List, map, length, inl, inr, arith}
 use Rattle.std.specs.Prelude.{Option, None, Some, Result, Ok, Err, ◌⊎◌, codes, if◌then◌else◌}
 use Rattle.std.specs.List.{list_all}
 use Rattle.std.proofs.lemmas.Option.{none-some, same_Some}
@@ -12,26 +12,30 @@ use Rattle.sd_parse.proofs.AnswerLaws.{one_answer as one_reading}
 use Rattle.sd_types.specs.Declarations.{first_broken}
 use Rattle.sd_core.specs.declared.CoreProc.{CoreProc}
 use Rattle.sd_core.specs.declared.CoreProgram.{CoreProgram}
-use Rattle.sd_runs.specs.Infallible.{AreTheInfallible, entry_at}
+use Rattle.sd_extract.specs.Programs.{core_program}
+use Rattle.sd_runs.specs.Infallible.{AreTheInfallible}
 use Rattle.sd_match.specs.Pairs.{pairs_of}
 use Rattle.sd_match.specs.Refusals.{Refusal}
 use Rattle.sd_product.specs.Query.{query_of}
-use Rattle.sd_product.specs.Work.{Held, infallibles_in, claims_of, claims_in, pairs_in, queries_under}
+use Rattle.sd_product.specs.Work.{Held, infallibles_in, claims_of, queries_under}
 use Rattle.sd_product.specs.Inductive.{IsInductive}
 use Rattle.sd_cert.specs.declared.digest.Digests.{Digests}
 use Rattle.sd_cert.specs.declared.fault.CertError.{CertError}
 use Rattle.sd_cert.specs.declared.shape.Shape.{Shape}
+use Rattle.sd_cert.specs.OneTable.{ShowsOneTable}
 use Rattle.sd_cert.specs.Shapes.{shape_of, shapes_of}
 use Rattle.sd_cert.specs.Accepts.{FitsPairs, Accepts, proofs_from}
 use Rattle.sd_run.specs.declared.text.TextRefusal.{TextRefusal}
 use Rattle.sd_run.specs.declared.text.TextRefusal.TheVariants.{Reading, Typing, NotYet}
 use Rattle.sd_run.specs.declared.verdict.PairVerdict.{PairVerdict}
 use Rattle.sd_run.specs.Words.{Task, JobNames, verify, replay, job_of}
-use Rattle.sd_run.specs.Report.{usage_text, is_safe}
+use Rattle.sd_run.specs.declared.verdict.Otherwise.{Otherwise}
+use Rattle.sd_run.specs.declared.verdict.Otherwise.TheVariants.{Unproved}
+use Rattle.sd_run.specs.Report.{usage_text, is_safe, report}
 use Rattle.sd_run.specs.MatchErrors.{match_error}
-use Rattle.sd_run.specs.Texts.{Holds, Texts, IsWorkOf, AreRead, AreMatched, clash_of, digests_of}
+use Rattle.sd_run.specs.Texts.{Texts, IsWorkOf, AreRead, AreMatched, digests_of}
 use Rattle.sd_run.specs.TextRefusals.{IsAccepted, IsTextRefusal, refusal_status, text_error}
-use Rattle.sd_run.specs.Outcome.{Outcome, message, status_of, IsReplay, IsRefused}
+use Rattle.sd_run.specs.Outcome.{Outcome, message, status_of, IsReport, IsReplay, IsRefused}
 use Rattle.sd_run.specs.Replies.{IsJudged, IsReplayReply, IsTaskReply, IsTextsReply}
 use Rattle.sd_run.specs.Answer.{Answer, no_job, old_refused, new_refused, clashing, compared, too_long, certificate_refused, replayed}
 use Rattle.sd_run.specs.OneAnswer.{IsKnown, IsCertificateKnown, AreKnown, IsReported, AreAlike, same, refused, reports, OneAnswer}
@@ -129,37 +133,51 @@ zero_or_one o is = go (list_all (λ (v : PairVerdict). is_safe v.state) o.pairs)
 status_is : (o : Outcome) (code : ℕ) (text : List ℕ) → o ≡ message code text → o.status ≡ code
 status_is o code text e = ap (λ (p : Outcome). p.status) e
 
-module _ (o p : Outcome) where
-  judged_alike : (bytes : List ℕ) (t : Texts) → IsJudged bytes t o → IsJudged bytes t p → AreAlike o p
-  judged_alike bytes t (inl r) (inl s) = reports (zero_or_one o r.is_report.status) (zero_or_one p s.is_report.status)
+-- two reports from one table
+report_same : (w : Otherwise) (t : Texts) (live : List Bool) (o p : Outcome) → IsReport w t live o → IsReport w t live p → o.deaths ≡ p.deaths → o.certificate ≡ p.certificate → o ≡ p
+report_same w t live o p a b deaths certificate =
+    let pairs = a.verdicts ∙ sym b.verdicts in
+    let table = a.words ∙ sym b.words in
+    let status = a.status ∙ (ap status_of pairs ∙ sym b.status) in
+    let text = a.text ∙ (ap (report (core_program t.old) (core_program t.new)) pairs ∙ sym b.text) in
+    λ i. record { status = status i; text = text i; pairs = pairs i; table = table i; deaths = deaths i; certificate = certificate i }
+
+module _ (one_table : ShowsOneTable) (words : List (List ℕ)) (o p : Outcome) where
+  replay_same : (bytes : List ℕ) (t : Texts) → IsReplay bytes t o → IsReplay bytes t p → o ≡ p
+  replay_same bytes t r s =
+      let live = one_table s.work (digests_of t) bytes r.live s.live (accepts_same t r.work s.work r.is_work s.is_work (digests_of t) bytes r.live r.accepted) s.accepted in
+      report_same Unproved t s.live o p (subst (λ (l : List Bool). IsReport Unproved t l o) live r.is_report) s.is_report (r.no_death ∙ sym s.no_death) (r.no_certificate ∙ sym s.no_certificate)
+
+  judged_alike : (bytes : List ℕ) (t : Texts) → IsJudged bytes t o → IsJudged bytes t p → AreAlike words o p
+  judged_alike bytes t (inl r) (inl s) = same (replay_same bytes t r s)
   judged_alike bytes t (inl r) (inr (e, f, is)) = absurd (not_refused bytes t o e r f)
   judged_alike bytes t (inr (e, f, is)) (inl r) = absurd (not_refused bytes t p e r f)
   judged_alike bytes t (inr (e, f, is)) (inr (d, g, js)) = refused (status_is o 5 _ is) (status_is p 5 _ js)
 
-  replay_alike : (known : Option (List ℕ)) (t : Texts) → IsKnown known → IsReplayReply known t o → IsReplayReply known t p → AreAlike o p
+  replay_alike : (known : Option (List ℕ)) (t : Texts) → IsKnown known → IsReplayReply known t o → IsReplayReply known t p → AreAlike words o p
   replay_alike known t (bytes, k) (inl (long, is)) (inl (long', js)) = same (is ∙ sym js)
   replay_alike known t (bytes, k) (inl (long, is)) (inr (b, holds, short, judged)) = absurd (omega (arith, long bytes k, short, ap length (holds bytes k)))
   replay_alike known t (bytes, k) (inr (b, holds, short, judged)) (inl (long, is)) = absurd (omega (arith, long bytes k, short, ap length (holds bytes k)))
   replay_alike known t (bytes, k) (inr (b, holds, short, judged)) (inr (c, holds', short', judged')) =
       judged_alike bytes t (subst (λ (x : List ℕ). IsJudged x t o) (sym (holds bytes k)) judged) (subst (λ (x : List ℕ). IsJudged x t p) (sym (holds' bytes k)) judged')
 
-  module _ (content : List ℕ → Option (List ℕ)) where
-    task_alike : (task : Task) (t : Texts) → IsCertificateKnown task content → IsTaskReply task content t o → IsTaskReply task content t p → AreAlike o p
-    task_alike (verify name) t known a b = reports (zero_or_one o a.is_report.status) (zero_or_one p b.is_report.status)
-    task_alike (replay name) t known a b = replay_alike (content name) t known a b
+  module _ (content : List ℕ → Option (List ℕ)) (job : JobNames) (named : job_of words ≡ Some job) where
+    task_alike : (task : Task) → job.task ≡ task → (t : Texts) → IsCertificateKnown task content → IsTaskReply task content t o → IsTaskReply task content t p → AreAlike words o p
+    task_alike (verify name) task t known a b = reports job name named task (zero_or_one o a.is_report.status) (zero_or_one p b.is_report.status)
+    task_alike (replay name) task t known a b = replay_alike (content name) t known a b
 
-    texts_alike : (task : Task) (t : Texts) → IsCertificateKnown task content → IsTextsReply task content t o → IsTextsReply task content t p → AreAlike o p
-    texts_alike task t known (inl (r, clash, is)) (inl (s, clash', js)) = same (is ∙ (ap (λ (x : Refusal). message 4 (match_error x)) (same_Some r s (sym clash ∙ clash')) ∙ sym js))
-    texts_alike task t known (inl (r, clash, is)) (inr (none, b)) = absurd (none-some r (sym none ∙ clash))
-    texts_alike task t known (inr (none, a)) (inl (r, clash, is)) = absurd (none-some r (sym none ∙ clash))
-    texts_alike task t known (inr (none, a)) (inr (none', b)) = task_alike task t known a b
+    texts_alike : (t : Texts) → IsCertificateKnown job.task content → IsTextsReply job.task content t o → IsTextsReply job.task content t p → AreAlike words o p
+    texts_alike t known (inl (r, clash, is)) (inl (s, clash', js)) = same (is ∙ (ap (λ (x : Refusal). message 4 (match_error x)) (same_Some r s (sym clash ∙ clash')) ∙ sym js))
+    texts_alike t known (inl (r, clash, is)) (inr (none, b)) = absurd (none-some r (sym none ∙ clash))
+    texts_alike t known (inr (none, a)) (inl (r, clash, is)) = absurd (none-some r (sym none ∙ clash))
+    texts_alike t known (inr (none, a)) (inr (none', b)) = task_alike job.task refl t known a b
 
 -- a text is refused, with this word in the answer
 abbrev IsRefusedText : Option (List ℕ) → List ℕ → Outcome → Type 0
 IsRefusedText known word o = (r : TextRefusal) × WhereKnown known (λ bytes. IsTextRefusal bytes r) × (o ≡ message (refusal_status r) (text_error word r))
 
-refused_alike : (known : Option (List ℕ)) (word : List ℕ) (o p : Outcome) → IsKnown known → IsRefusedText known word o → IsRefusedText known word p → AreAlike o p
-refused_alike known word o p (bytes, k) (r, a, is) (s, b, js) =
+refused_alike : (words : List (List ℕ)) (known : Option (List ℕ)) (word : List ℕ) (o p : Outcome) → IsKnown known → IsRefusedText known word o → IsRefusedText known word p → AreAlike words o p
+refused_alike words known word o p (bytes, k) (r, a, is) (s, b, js) =
     same (is ∙ (ap (λ (x : TextRefusal). message (refusal_status x) (text_error word x)) (one_refusal bytes r s (a bytes k) (b bytes k)) ∙ sym js))
 
 module _ (words : List (List ℕ)) (content : List ℕ → Option (List ℕ)) where
@@ -202,27 +220,27 @@ module _ (words : List (List ℕ)) (content : List ℕ → Option (List ℕ)) wh
   staged o (certificate_refused job t name bytes e named task m holds short r is) = task_row o job t (replay name) named task m (inr (bytes, holds, short, inr (e, r, is)))
   staged o (replayed job t name bytes named task m holds short r) = task_row o job t (replay name) named task m (inr (bytes, holds, short, inl r))
 
-  module _ (o p : Outcome) where
-    new_alike : (job : JobNames) → IsKnown (content job.old) → IsKnown (content job.new) → IsCertificateKnown job.task content → AfterNew job o → AfterNew job p → AreAlike o p
-    new_alike job old new c (inl a) (inl b) = refused_alike (content job.new) (codes "new") o p new a b
-    new_alike job old (bytes, k) c (inl (r, a, is)) (inr (t, h, b)) = absurd (not_both bytes r t.new (a bytes k) (new_accepted job t bytes k h))
-    new_alike job old (bytes, k) c (inr (t, h, b)) (inl (r, a, is)) = absurd (not_both bytes r t.new (a bytes k) (new_accepted job t bytes k h))
-    new_alike job old new c (inr (t, h, a)) (inr (s, g, b)) =
-        texts_alike o p content job.task t c a (subst (λ (x : Texts). IsTextsReply job.task content x p) (one_texts job s t old new g h) b)
+  module _ (one_table : ShowsOneTable) (o p : Outcome) where
+    new_alike : (job : JobNames) → job_of words ≡ Some job → IsKnown (content job.old) → IsKnown (content job.new) → IsCertificateKnown job.task content → AfterNew job o → AfterNew job p → AreAlike words o p
+    new_alike job named old new c (inl a) (inl b) = refused_alike words (content job.new) (codes "new") o p new a b
+    new_alike job named old (bytes, k) c (inl (r, a, is)) (inr (t, h, b)) = absurd (not_both bytes r t.new (a bytes k) (new_accepted job t bytes k h))
+    new_alike job named old (bytes, k) c (inr (t, h, b)) (inl (r, a, is)) = absurd (not_both bytes r t.new (a bytes k) (new_accepted job t bytes k h))
+    new_alike job named old new c (inr (t, h, a)) (inr (s, g, b)) =
+        texts_alike one_table words o p content job named t c a (subst (λ (x : Texts). IsTextsReply job.task content x p) (one_texts job s t old new g h) b)
 
-    old_alike : (job : JobNames) → IsKnown (content job.old) → IsKnown (content job.new) → IsCertificateKnown job.task content → AfterOld job o → AfterOld job p → AreAlike o p
-    old_alike job old new c (inl a) (inl b) = refused_alike (content job.old) (codes "old") o p old a b
-    old_alike job (bytes, k) new c (inl (r, a, is)) (inr (P, h, b)) = absurd (not_both bytes r P (a bytes k) (h bytes k))
-    old_alike job (bytes, k) new c (inr (P, h, b)) (inl (r, a, is)) = absurd (not_both bytes r P (a bytes k) (h bytes k))
-    old_alike job old new c (inr (P, h, a)) (inr (Q, g, b)) = new_alike job old new c a b
+    old_alike : (job : JobNames) → job_of words ≡ Some job → IsKnown (content job.old) → IsKnown (content job.new) → IsCertificateKnown job.task content → AfterOld job o → AfterOld job p → AreAlike words o p
+    old_alike job named old new c (inl a) (inl b) = refused_alike words (content job.old) (codes "old") o p old a b
+    old_alike job named (bytes, k) new c (inl (r, a, is)) (inr (P, h, b)) = absurd (not_both bytes r P (a bytes k) (h bytes k))
+    old_alike job named (bytes, k) new c (inr (P, h, b)) (inl (r, a, is)) = absurd (not_both bytes r P (a bytes k) (h bytes k))
+    old_alike job named old new c (inr (P, h, a)) (inr (Q, g, b)) = new_alike job named old new c a b
 
-    words_alike : AreKnown words content → AfterWords o → AfterWords p → AreAlike o p
+    words_alike : AreKnown words content → AfterWords o → AfterWords p → AreAlike words o p
     words_alike known (inl (none, is)) (inl (none', js)) = same (is ∙ sym js)
     words_alike known (inl (none, is)) (inr (job, named, b)) = absurd (none-some job (sym none ∙ named))
     words_alike known (inr (job, named, a)) (inl (none, is)) = absurd (none-some job (sym none ∙ named))
     words_alike known (inr (job, named, a)) (inr (j, m, b)) =
         let k = known job named in
-        old_alike job k.0 k.1 k.2 a (subst (λ (x : JobNames). AfterOld x p) (same_Some j job (sym m ∙ named)) b)
+        old_alike job named k.0 k.1 k.2 a (subst (λ (x : JobNames). AfterOld x p) (same_Some j job (sym m ∙ named)) b)
 
-pub one_answer : OneAnswer
-one_answer words content o p known a b = words_alike words content o p known (staged words content o a) (staged words content p b)
+pub one_answer : ShowsOneTable → OneAnswer
+one_answer one_table words content o p known a b = words_alike words content one_table o p known (staged words content o a) (staged words content p b)

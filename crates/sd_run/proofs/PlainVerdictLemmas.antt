@@ -11,20 +11,19 @@ use Rattle.sd_match.specs.declared.pair.SpotPair.{SpotPair}
 use Rattle.sd_match.specs.declared.pair.Pair.{Pair}
 use Rattle.sd_match.specs.Pairs.{pairs_of}
 use Rattle.sd_cand.specs.declared.candidate.Relation.{Relation}
-use Rattle.sd_cand.specs.declared.candidate.Claim.{Claim}
-use Rattle.sd_cand.specs.declared.candidate.Claim.TheVariants.{Flag, Output}
+use Rattle.sd_cand.specs.declared.candidate.Claim.TheVariants.{Flag}
 use Rattle.sd_cand.specs.declared.candidate.Candidate.{Candidate}
 use Rattle.sd_cand.specs.Candidates.{equal_inputs, flag_candidates, output_candidates, candidates_in, candidates_of}
 use Rattle.sd_product.specs.Work.{claims_of}
 use Rattle.sd_run.specs.declared.verdict.PairVerdict.{PairVerdict}
 use Rattle.sd_run.specs.declared.verdict.VerdictState.{VerdictState}
-use Rattle.sd_run.specs.declared.verdict.VerdictState.TheVariants.{Safe, Unknown, Unproved, Signature, UnmatchedRecursion}
+use Rattle.sd_run.specs.declared.verdict.VerdictState.TheVariants.{Safe, Signature, UnmatchedRecursion}
 use Rattle.sd_run.specs.declared.verdict.Otherwise.{Otherwise}
 use Rattle.sd_run.specs.Verdicts.{is_flag, flag_live, said, state_of, verdict_by, verdict_of, verdicts_of}
-use Rattle.sd_run.specs.PlainVerdicts.{HasLiveClaim, IsOfProcedures, IsVerdict, AreVerdicts, none, loops, procedures, VerdictsArePlain}
-use Rattle.sd_run.proofs.Booleans.{and_join, true_or_false}
+use Rattle.sd_run.specs.PlainVerdicts.{HasLiveClaim, AreVerdicts, none, loops, procedures, VerdictsArePlain}
+use Rattle.sd_run.proofs.Booleans.{and_join}
 use Rattle.sd_run.proofs.Tables.{count_first, drop-drop}
-use Rattle.sd_run.proofs.VerdictLemmas.{FlagIn, live_in, said_not_safe, slice_get-drop}
+use Rattle.sd_run.proofs.VerdictLemmas.{live_in, said_not_safe, slice_get-drop}
 
 -- ---- claims on the flags
 

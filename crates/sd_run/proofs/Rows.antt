@@ -1,6 +1,6 @@
 -- What follows from a row of the table of answers.
 use Rattle.std.proofs.Common.{◌≡◌, ◌∙◌, sym, ap, subst, refl, ℕ, Bool, true, false, List, [], ◌∷◌, arith, inl, inr}
-use Rattle.std.specs.Prelude.{Option, None, Some, Contains, ◌⊎◌, Result, Err, codes, if◌then◌else◌}
+use Rattle.std.specs.Prelude.{Option, Some, Contains, ◌⊎◌, Result, Err, codes, if◌then◌else◌}
 use Rattle.std.specs.List.{list_all}
 use Rattle.sd_base.specs.Causes.{Rose, AllSame}
 use Rattle.sd_base.specs.Outside.{WhereKnown}
@@ -16,15 +16,11 @@ use Rattle.sd_run.specs.declared.text.TextFault.{TextFault}
 use Rattle.sd_run.specs.declared.text.TextFault.TheVariants.{Memory, Failed, Refused}
 use Rattle.sd_run.specs.TextRefusals.{IsAccepted, IsTextRefusal, refusal_status}
 use Rattle.sd_extract.specs.Propositional.{IsPropositionalProgram}
-use Rattle.sd_match.specs.Refusals.{Refusal, Answers, global_types, function_signatures}
-use Rattle.sd_match.specs.declared.refusal.MatchError.{MatchError}
-use Rattle.sd_match.specs.declared.refusal.MatchError.TheVariants as matching
-use Rattle.sd_run.specs.Texts.{Holds, Texts, AreRead, AreMatched, clash_of}
+use Rattle.sd_run.specs.Texts.{Holds, Texts, AreRead, AreMatched}
 use Rattle.sd_run.specs.Outcome.{Outcome, message, status_of}
-use Rattle.sd_run.specs.Replies.{IsTextReply, IsClashReply, IsTextsReply, IsReplayReply}
-use Rattle.sd_rounds.specs.declared.settle.Death.{Death}
+use Rattle.sd_run.specs.Replies.{IsTextReply, IsTextsReply, IsReplayReply}
 use Rattle.sd_run.specs.Verdicts.{NoNewFailure, AreNewFailures}
-use Rattle.sd_run.specs.Answer.{Answer, ReadRose, old_rose, new_rose, certificate_rose, no_job, old_refused, new_refused, clashing, compared, too_long, certificate_refused, replayed, ForPrograms, Headline, UnknownIsFailure, CertificateRose}
+use Rattle.sd_run.specs.Answer.{Answer, no_job, old_refused, new_refused, clashing, compared, too_long, certificate_refused, replayed, ForPrograms, Headline, UnknownIsFailure, CertificateRose}
 use Rattle.sd_run.proofs.Comparison.{compared_right, replayed_right, right_safe, right_unknown, one_accepted}
 
 abbrev codes_known : List ℕ

@@ -1,6 +1,6 @@
 -- What a settled table tells of a candidate that is not live.
 use Rattle.std.proofs.Common.{◌≡◌, ◌∙◌, sym, ap, refl, subst, ℕ, suc, zero, ◌<◌, Bool, true, false, List, [], ◌∷◌, ◌++◌, length, set, inl, inr, arith}
-use Rattle.std.specs.Prelude.{Option, Some, ◌⊎◌, replicate, slice_get, Contains}
+use Rattle.std.specs.Prelude.{Some, ◌⊎◌, replicate, slice_get, Contains}
 use Rattle.std.proofs.lemmas.List.{get_or-replicate}
 use Rattle.std.proofs.lemmas.Option.{same_Some, slice_get-get_or}
 use Rattle.sd_base.proofs.Lists.{contains-head, contains-tail}

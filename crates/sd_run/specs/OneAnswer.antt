@@ -1,6 +1,6 @@
 -- That an input has one answer.
 use Rattle.std.specs.Prelude.{◌≡◌, ◌⊎◌, ℕ, List, Option, Some}
-use Rattle.sd_run.specs.Words.{Task, verify, replay}
+use Rattle.sd_run.specs.Words.{Task, JobNames, verify, replay, job_of}
 use Rattle.sd_run.specs.Outcome.{Outcome}
 use Rattle.sd_run.specs.Answer.{Answer, ForJob}
 
@@ -20,14 +20,21 @@ AreKnown words content =
 abbrev pub IsReported : Outcome → Type 0
 IsReported o = (o.status ≡ 0) ⊎ (o.status ≡ 1)
 
--- Two answers are the same, in the status and in every byte; or both refuse the certificate; or both are reports.
-pub data AreAlike (o p : Outcome) : Type 0 where
-  same : o ≡ p → AreAlike o p
-  refused : o.status ≡ 5 → p.status ≡ 5 → AreAlike o p
-  reports : IsReported o → IsReported p → AreAlike o p
+-- Two answers are the same, in the status and in every byte; or both refuse the certificate; or both are reports of a
+-- comparison, whose searches may have gone apart.
+pub data AreAlike (words : List (List ℕ)) (o p : Outcome) : Type 0 where
+  same : o ≡ p → AreAlike words o p
+  refused : o.status ≡ 5 → p.status ≡ 5 → AreAlike words o p
+  reports :
+      (job : JobNames) (name : Option (List ℕ))
+      → job_of words ≡ Some job
+      → job.task ≡ verify name
+      → IsReported o
+      → IsReported p
+      → AreAlike words o p
 
 -- Where the files are known, two answers to the same words are alike. So they have the same status, or both are reports.
 abbrev pub OneAnswer : Type 0
 OneAnswer =
     (words : List (List ℕ)) (content : List ℕ → Option (List ℕ)) (o p : Outcome) → AreKnown words content
-    → Answer words content o → Answer words content p → AreAlike o p
+    → Answer words content o → Answer words content p → AreAlike words o p

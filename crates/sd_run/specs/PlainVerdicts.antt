@@ -1,5 +1,5 @@
 -- What is said of pairs, in plain words.
-use Rattle.std.specs.Prelude.{◌≡◌, ◌≤◌, ◌⊎◌, ◌↔◌, ℕ, suc, ◌+◌, Bool, true, List, [], ◌∷◌, length, take, Option, Some, None, slice_get}
+use Rattle.std.specs.Prelude.{◌≡◌, ◌≤◌, ◌⊎◌, ◌↔◌, ℕ, suc, ◌+◌, Bool, true, List, [], ◌∷◌, length, take, Some, None, slice_get}
 use Rattle.sd_core.specs.declared.CoreProc.{CoreProc}
 use Rattle.sd_core.specs.declared.CoreProgram.{CoreProgram}
 use Rattle.sd_match.specs.declared.pair.PairState.TheVariants as pair_state

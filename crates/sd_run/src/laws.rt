@@ -4,10 +4,12 @@ ghost use Rattle.sd_run.specs.OneAnswer.{OneAnswer};
 ghost use Rattle.sd_run.specs.PlainVerdicts.{VerdictsArePlain};
 
 /// Where the files are known, words have one answer: the same status and the same bytes, or two refusals of the
-/// certificate, or two reports.
+/// certificate, or two reports of a comparison.
 pub fn one_answer()
     ensures { OneAnswer }
-{}
+{
+    sd_cert::laws::one_table();
+}
 
 /// The programs that are compared are those that declare globals, procedures and implementations alone, over truth values
 /// and integers, and multiply nothing.

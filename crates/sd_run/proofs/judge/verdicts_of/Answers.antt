@@ -1,7 +1,7 @@
-use Rattle.std.proofs.Common.{◌≡◌, ◌≤◌, ◌+◌, ◌∙◌, ap, subst, sym, length, drop, arith, List, ◌++◌}
+use Rattle.std.proofs.Common.{◌≡◌, ◌∙◌, ap, sym, length, drop, arith, List, ◌++◌}
 use Rattle.std.specs.Prelude.{Some, slice_get}
 use Rattle.sd_match.specs.declared.pair.Pair.{Pair}
-use Rattle.sd_product.specs.Work.{pairs_in, claims_of}
+use Rattle.sd_product.specs.Work.{pairs_in}
 use Rattle.sd_run.specs.Verdicts.{flag_live, verdict_of}
 use Rattle.sd_run.proofs.Tables.{count_at, candidates_at, pair_step, verdicts_more}
 use Rattle.sd_run.proofs.judge.verdicts_of.Goals as goal

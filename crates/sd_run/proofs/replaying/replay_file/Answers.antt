@@ -1,4 +1,4 @@
-use Rattle.std.proofs.Common.{◌∙◌, List, ℕ, sym, subst, inr, arith, length, ◌≤◌}
+use Rattle.std.proofs.Common.{List, ℕ, sym, subst, inr, arith, length, ◌≤◌}
 use Rattle.sd_run.specs.Replies.{texts_of, outcome_of, IsJudged}
 use Rattle.sd_run.proofs.Texts.{front_is}
 use Rattle.sd_run.proofs.replaying.replay_file.Goals as goal

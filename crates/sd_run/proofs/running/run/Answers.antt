@@ -1,5 +1,4 @@
-use Rattle.std.proofs.Common.{◌∙◌, ap, sym, subst, refl, take, inl, inr, Err}
-use Rattle.std.specs.Prelude.{string_bytes}
+use Rattle.std.proofs.Common.{◌∙◌, ap, sym, refl, take, inl, inr, Err}
 use Rattle.sd_base.specs.Outside.{appended}
 use Rattle.sd_run.specs.Replies.{named, outcome_of}
 use Rattle.sd_run.proofs.Rows.{known_by, six_known, seven_known, eight_known, row_known}
