@@ -22,8 +22,8 @@ use Rattle.sd_run.specs.declared.verdict.PairVerdict.{PairVerdict}
 abbrev pub ForJob : List (List ℕ) → (JobNames → Type 0) → Type 0
 ForJob words P = (job : JobNames) → job_of words ≡ Some job → P job
 
--- A row for each answer, with its cause, its text, and what is said of the pairs. Nothing is said of files whose content
--- isn't known.
+-- A row for each answer, with its cause, its text, and what is said of the pairs. Nothing is said of files whose
+-- content isn't known.
 pub data Answer (words : List (List ℕ)) (content : List ℕ → Option (List ℕ)) (o : Outcome) : Type 0 where
   -- 2: the words name no job.
   no_job :
@@ -102,8 +102,8 @@ ForPrograms words content P =
 abbrev pub Headline : List (List ℕ) → (List ℕ → Option (List ℕ)) → List PairVerdict → Type 0
 Headline words content pairs = ForPrograms words content (λ old new. NoNewFailure old new pairs)
 
--- Where the texts are over truth values, without calls and loops, each pair that is said to be unknown, though no search for a
--- candidate of it was spent, has a new failure.
+-- Where the texts are over truth values, without calls and loops, each pair that is said to be unknown, though no
+-- search for a candidate of it was spent, has a new failure.
 abbrev pub UnknownIsFailure : List (List ℕ) → (List ℕ → Option (List ℕ)) → List Death → List PairVerdict → Type 0
 UnknownIsFailure words content deaths pairs =
     ForPrograms words content (λ old new.

@@ -33,7 +33,7 @@ pub data AreAlike (words : List (List ℕ)) (o p : Outcome) : Type 0 where
       → IsReported p
       → AreAlike words o p
 
--- Where the files are known, two answers to the same words are alike. So they have the same status, or both are reports.
+-- Where the files are known, two answers to the same words are alike: they have the same status, or both are reports.
 abbrev pub OneAnswer : Type 0
 OneAnswer =
     (words : List (List ℕ)) (content : List ℕ → Option (List ℕ)) (o p : Outcome) → AreKnown words content

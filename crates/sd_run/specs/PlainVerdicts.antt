@@ -48,7 +48,8 @@ pub record IsVerdict (o : Otherwise) (P Q : CoreProgram) (pairs : List Pair) (li
   pub unmatched : (x : Text) → pair.state ≡ pair_state.UnmatchedRecursion x → v.state ≡ UnmatchedRecursion x
 
 -- The verdicts from pair i on: one for each pair of procedures, in order, and none for a pair of loops.
-pub data AreVerdicts (o : Otherwise) (P Q : CoreProgram) (pairs : List Pair) (live : List Bool) : ℕ → List PairVerdict → Type 0 where
+pub data AreVerdicts (o : Otherwise) (P Q : CoreProgram) (pairs : List Pair) (live : List Bool)
+    : ℕ → List PairVerdict → Type 0 where
   none : (i : ℕ) → length pairs ≤ i → AreVerdicts o P Q pairs live i []
   loops : (i : ℕ) (pair : Pair) (vs : List PairVerdict)
       → slice_get pairs i ≡ Some pair
