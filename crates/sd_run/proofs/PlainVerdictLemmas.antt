@@ -124,7 +124,7 @@ module _ (o : Otherwise) (P Q : CoreProgram) (pairs : List Pair) (live : List Bo
         rooted : (p q : CoreProc) → slice_get P.procs pair.old ≡ Some p → slice_get Q.procs pair.new ≡ Some q → (parent : Option (ℕ × ℕ)) → p.parent ≡ parent → Rest ((if is_some parent then [] else verdict_with p q ∷ []) ++ vs)
         rooted p q e f None root =
             let s = state_is pair.state refl in
-            procedures i pair (verdict_with p q) vs at (record { old = p; new = q; procedures = record { old_is = e; new_is = f; no_loop = root }; old_name = refl; new_name = refl; safe = s.safe; unsafe = s.unsafe; signature = s.signature; unmatched = s.unmatched }) rest
+            procedures i pair (verdict_with p q) vs at (record { old = p; new = q; procedures = record { old_is = e; new_is = f; no_loop = root }; old_name = refl; new_name = refl; equal = refl; safe = s.safe; unsafe = s.unsafe; signature = s.signature; unmatched = s.unmatched }) rest
         rooted p q e f (Some x) loop =
             loops i pair vs at (λ old new are. none-some x (sym are.no_loop ∙ (ap (λ (r : CoreProc). r.parent) (sym (same_Some p old (sym e ∙ are.old_is))) ∙ loop))) rest
 

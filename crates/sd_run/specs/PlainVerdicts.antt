@@ -1,5 +1,5 @@
 -- What is said of pairs, in plain words.
-use Rattle.std.specs.Prelude.{◌≡◌, ◌≤◌, ◌⊎◌, ◌↔◌, ℕ, suc, ◌+◌, Bool, true, List, [], ◌∷◌, length, take, Some, None, slice_get}
+use Rattle.std.specs.Prelude.{◌≡◌, ◌≤◌, ◌⊎◌, ◌↔◌, ℕ, suc, ◌+◌, Bool, true, false, List, [], ◌∷◌, length, take, Some, None, slice_get}
 use Rattle.sd_core.specs.declared.CoreProc.{CoreProc}
 use Rattle.sd_core.specs.declared.CoreProgram.{CoreProgram}
 use Rattle.sd_match.specs.declared.pair.PairState.TheVariants as pair_state
@@ -34,7 +34,7 @@ pub record IsOfProcedures (P Q : CoreProgram) (pair : Pair) (old new : CoreProc)
   pub no_loop : old.parent ≡ None
 
 -- What is said of pair i: it is safe exactly where it has a live claim; else why it couldn't be judged, or the other
--- word.
+-- word. Its outputs are never said to be equal.
 pub record IsVerdict (o : Otherwise) (P Q : CoreProgram) (pairs : List Pair) (live : List Bool) (i : ℕ) (pair : Pair)
     (v : PairVerdict) : Type 0 where
   pub old : CoreProc
@@ -42,6 +42,7 @@ pub record IsVerdict (o : Otherwise) (P Q : CoreProgram) (pairs : List Pair) (li
   pub procedures : IsOfProcedures P Q pair old new
   pub old_name : v.old ≡ old.name
   pub new_name : v.new ≡ new.name
+  pub equal : v.equal ≡ false
   pub safe : (v.state ≡ Safe) ↔ HasLiveClaim pairs live i pair
   pub unsafe : pair.state ≡ pair_state.Open → (HasLiveClaim pairs live i pair → ⊥) → v.state ≡ said o
   pub signature : pair.state ≡ pair_state.Signature → v.state ≡ Signature

@@ -1,4 +1,4 @@
--- What is said of each pair of procedures.
+-- What is said of each pair of procedures, from the table. `PlainVerdicts` says it in plain words.
 use Rattle.std.specs.Prelude.{◌≡◌, Bool, true, false, ◌&&◌, ◌||◌, List, [], ◌∷◌, ◌++◌, length, drop, Option, Some, is_some, slice_get, Contains, if◌then◌else◌}
 use Rattle.std.specs.List.{AllByRecursion}
 use Rattle.sd_ast.specs.declared.Program.{Program}
