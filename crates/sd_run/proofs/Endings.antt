@@ -11,7 +11,6 @@ use Rattle.sd_run.specs.declared.text.TextRefusal.{TextRefusal}
 use Rattle.sd_run.specs.TextRefusals.{refusal_status}
 use Rattle.sd_run.specs.Words.{JobNames, verify, job_of}
 use Rattle.sd_run.specs.Report.{is_safe}
-use Rattle.sd_product.specs.Work.{Held}
 use Rattle.sd_run.specs.Texts.{Texts, AreMatched}
 use Rattle.sd_run.specs.Outcome.{Outcome, message, IsCertified}
 use Rattle.sd_run.specs.Answer.{Answer, no_job, old_refused, new_refused, clashing, compared, too_long, certificate_refused, replayed, Headline, UnknownIsFailure, CertificateWriteRose}
@@ -70,18 +69,18 @@ module _ (words : List (List ℕ)) (content : List ℕ → Option (List ℕ)) (o
   message_file : (file : List ℕ × List ℕ) (code : ℕ) (text : List ℕ) → o ≡ message code text → o.certificate ≡ Some file → ⊥
   message_file file code text is some = no_file file o.certificate (ap (λ (p : Outcome). p.certificate) is) some
 
-  certified_file : (t : Texts) (w : Held) (live : List Bool) (name : Option (List ℕ)) (certificate : Option (List ℕ × List ℕ)) (file : List ℕ × List ℕ) → IsCertified t w live name certificate → certificate ≡ Some file → name ≡ Some file.0
-  certified_file t w live None None file h e = absurd (no_file file None refl e)
-  certified_file t w live (Some name) (Some made) file h e = let same : made ≡ file = cc in ap Some (sym h.0 ∙ ap (λ (f : List ℕ × List ℕ). f.0) same)
-  certified_file t w live None (Some made) file h e = absurd h
-  certified_file t w live (Some name) None file h e = absurd h
+  certified_file : (t : Texts) (live : List Bool) (name : Option (List ℕ)) (certificate : Option (List ℕ × List ℕ)) (file : List ℕ × List ℕ) → IsCertified t live name certificate → certificate ≡ Some file → name ≡ Some file.0
+  certified_file t live None None file h e = absurd (no_file file None refl e)
+  certified_file t live (Some name) (Some made) file h e = let same : made ≡ file = cc in ap Some (sym h.0 ∙ ap (λ (f : List ℕ × List ℕ). f.0) same)
+  certified_file t live None (Some made) file h e = absurd h
+  certified_file t live (Some name) None file h e = absurd h
 
   row_file : (file : List ℕ × List ℕ) → Answer words content o → o.certificate ≡ Some file → NamesFile file
   row_file file (no_job a is) e = absurd (message_file file 2 _ is e)
   row_file file (old_refused job r a b is) e = absurd (message_file file (refusal_status r) _ is e)
   row_file file (new_refused job old r a b c is) e = absurd (message_file file (refusal_status r) _ is e)
   row_file file (clashing job t r a b c is) e = absurd (message_file file 4 _ is e)
-  row_file file (compared job t name a b c r) e = record { job = job; named = a; task = b ∙ ap verify (certified_file t r.work r.live name o.certificate file r.certified e); texts = t; matched = c }
+  row_file file (compared job t name a b c r) e = record { job = job; named = a; task = b ∙ ap verify (certified_file t r.live name o.certificate file r.certified e); texts = t; matched = c }
   row_file file (too_long job t name a b c d is) e = absurd (message_file file 9 _ is e)
   row_file file (certificate_refused job t name bytes x a b c d l r is) e = absurd (message_file file 5 _ is e)
   row_file file (replayed job t name bytes a b c d l r) e = absurd (no_file file o.certificate r.no_certificate e)

@@ -1,5 +1,5 @@
 -- An input has one answer.
-use Rattle.std.proofs.Common.{◌≡◌, ◌≢◌, ◌∙◌, sym, ap, subst, refl, ℕ, Bool, true, false, List, map, length, inl, inr, arith}
+use Rattle.std.proofs.Common.{◌≡◌, ◌≢◌, ◌∙◌, sym, ap, subst, refl, ℕ, Bool, true, false, List, length, inl, inr, arith}
 use Rattle.std.specs.Prelude.{Option, None, Some, Result, Ok, Err, ◌⊎◌, codes, if◌then◌else◌}
 use Rattle.std.specs.List.{list_all}
 use Rattle.std.proofs.lemmas.Option.{none-some, same_Some}
@@ -10,21 +10,9 @@ use Rattle.sd_parse.specs.declared.answer.ReadError.TheVariants as read
 use Rattle.sd_parse.specs.Answer.{IsReading}
 use Rattle.sd_parse.proofs.AnswerLaws.{one_answer as one_reading}
 use Rattle.sd_types.specs.Declarations.{first_broken}
-use Rattle.sd_core.specs.declared.CoreProc.{CoreProc}
-use Rattle.sd_core.specs.declared.CoreProgram.{CoreProgram}
-use Rattle.sd_extract.specs.Programs.{core_program}
-use Rattle.sd_runs.specs.Infallible.{AreTheInfallible}
-use Rattle.sd_match.specs.Pairs.{pairs_of}
 use Rattle.sd_match.specs.Refusals.{Refusal}
-use Rattle.sd_product.specs.Query.{query_of}
-use Rattle.sd_product.specs.Work.{Held, infallibles_in, claims_of, queries_under}
-use Rattle.sd_product.specs.Inductive.{IsInductive}
-use Rattle.sd_cert.specs.declared.digest.Digests.{Digests}
 use Rattle.sd_cert.specs.declared.fault.CertError.{CertError}
-use Rattle.sd_cert.specs.declared.shape.Shape.{Shape}
 use Rattle.sd_cert.specs.OneTable.{ShowsOneTable}
-use Rattle.sd_cert.specs.Shapes.{shape_of, shapes_of}
-use Rattle.sd_cert.specs.Accepts.{FitsPairs, Accepts, proofs_from}
 use Rattle.sd_run.specs.declared.text.TextRefusal.{TextRefusal}
 use Rattle.sd_run.specs.declared.text.TextRefusal.TheVariants.{Reading, Typing, NotYet}
 use Rattle.sd_run.specs.declared.verdict.PairVerdict.{PairVerdict}
@@ -33,7 +21,7 @@ use Rattle.sd_run.specs.declared.verdict.Otherwise.{Otherwise}
 use Rattle.sd_run.specs.declared.verdict.Otherwise.TheVariants.{Unproved}
 use Rattle.sd_run.specs.Report.{usage_text, is_safe, report}
 use Rattle.sd_run.specs.MatchErrors.{match_error}
-use Rattle.sd_run.specs.Texts.{Texts, IsWorkOf, AreRead, AreMatched, digests_of}
+use Rattle.sd_run.specs.Texts.{Texts, programs_of, AreRead, AreMatched, digests_of}
 use Rattle.sd_run.specs.TextRefusals.{IsAccepted, IsTextRefusal, refusal_status, text_error}
 use Rattle.sd_run.specs.Outcome.{Outcome, message, status_of, IsReport, IsReplay, IsRefused}
 use Rattle.sd_run.specs.Replies.{IsJudged, IsReplayReply, IsTaskReply, IsTextsReply}
@@ -79,47 +67,8 @@ module _ (bytes : List ℕ) where
 
 -- ---- certificates
 
-same_bool : (x y : Bool) → (x ≡ true → y ≡ true) → (y ≡ true → x ≡ true) → x ≡ y
-same_bool true y f g = sym (f refl)
-same_bool false true f g = g refl
-same_bool false false f g = refl
-
-one_infallible : (procs : List CoreProc) (f g : ℕ → Bool) → AreTheInfallible procs f → AreTheInfallible procs g → f ≡ g
-one_infallible procs f g a b = λ i q. same_bool (f q) (g q) (b.greatest f a.is_set a.are_in q) (a.greatest g b.is_set b.are_in q) i
-
--- two works of the same texts accept the same
-module _ (t : Texts) (h k : Held) (a : IsWorkOf t h) (b : IsWorkOf t k) where
-  one_old : h.old ≡ k.old
-  one_old = a.old ∙ sym b.old
-
-  one_new : h.new ≡ k.new
-  one_new = a.new ∙ sym b.new
-
-  old_infallible : (infallibles_in h).old ≡ (infallibles_in k).old
-  old_infallible = one_infallible k.old.procs _ _ (subst (λ (C : CoreProgram). AreTheInfallible C.procs (infallibles_in h).old) one_old a.held.old_infallible) b.held.old_infallible
-
-  new_infallible : (infallibles_in h).new ≡ (infallibles_in k).new
-  new_infallible = one_infallible k.new.procs _ _ (subst (λ (C : CoreProgram). AreTheInfallible C.procs (infallibles_in h).new) one_new a.held.new_infallible) b.held.new_infallible
-
-  one_queries : (table : List Bool) → queries_under h table ≡ queries_under k table
-  one_queries table = λ i. map (query_of (record { old = one_old i; new = one_new i; claims = claims_of (pairs_of (one_old i) (one_new i)) }) (record { old = old_infallible i; new = new_infallible i }) table) (claims_of (pairs_of (one_old i) (one_new i)))
-
-  one_shapes : shapes_of h ≡ shapes_of k
-  one_shapes = λ i. map shape_of (pairs_of (one_old i) (one_new i))
-
-  accepts_same : (d : Digests) (bytes : List ℕ) (live : List Bool) → Accepts h d bytes live → Accepts k d bytes live
-  accepts_same d bytes live x = record {
-    certificate = x.certificate;
-    form = x.form;
-    text = x.text;
-    same_digests = x.same_digests;
-    fits = subst (λ (s : List Shape). FitsPairs s x.certificate.pairs) one_shapes x.fits;
-    size = x.size ∙ (λ i. length (claims_of (pairs_of (one_old i) (one_new i))));
-    inductive = subst (λ (s : List Shape). IsInductive (queries_under k live) live (proofs_from 0 s x.certificate.pairs)) one_shapes (subst (λ qs. IsInductive qs live (proofs_from 0 (shapes_of h) x.certificate.pairs)) (one_queries live) x.inductive);
-  }
-
 not_refused : (bytes : List ℕ) (t : Texts) (o : Outcome) (e : CertError) → IsReplay bytes t o → IsRefused bytes t e → ⊥
-not_refused bytes t o e r f = f.none r.live (accepts_same t r.work f.work r.is_work f.is_work (digests_of t) bytes r.live r.accepted)
+not_refused bytes t o e r f = f.none r.live r.accepted
 
 -- ---- from the last stage to the first
 
@@ -139,13 +88,13 @@ report_same w t live o p a b deaths certificate =
     let pairs = a.verdicts ∙ sym b.verdicts in
     let table = a.words ∙ sym b.words in
     let status = a.status ∙ (ap status_of pairs ∙ sym b.status) in
-    let text = a.text ∙ (ap (report (core_program t.old) (core_program t.new)) pairs ∙ sym b.text) in
+    let text = a.text ∙ (ap (report (programs_of t).old (programs_of t).new) pairs ∙ sym b.text) in
     λ i. record { status = status i; text = text i; pairs = pairs i; table = table i; deaths = deaths i; certificate = certificate i }
 
 module _ (one_table : ShowsOneTable) (words : List (List ℕ)) (o p : Outcome) where
   replay_same : (bytes : List ℕ) (t : Texts) → IsReplay bytes t o → IsReplay bytes t p → o ≡ p
   replay_same bytes t r s =
-      let live = one_table s.work (digests_of t) bytes r.live s.live (accepts_same t r.work s.work r.is_work s.is_work (digests_of t) bytes r.live r.accepted) s.accepted in
+      let live = one_table (programs_of t) (digests_of t) bytes r.live s.live r.accepted s.accepted in
       report_same Unproved t s.live o p (subst (λ (l : List Bool). IsReport Unproved t l o) live r.is_report) s.is_report (r.no_death ∙ sym s.no_death) (r.no_certificate ∙ sym s.no_certificate)
 
   judged_alike : (bytes : List ℕ) (t : Texts) → IsJudged bytes t o → IsJudged bytes t p → AreAlike words o p

@@ -4,17 +4,16 @@ use Rattle.std.specs.Prelude.{Option, Some, None, ◌↔◌, ◌⊎◌, ◌&&◌
 use Rattle.std.proofs.lemmas.Option.{none-some, same_Some}
 use Rattle.sd_base.specs.Value.{Text}
 use Rattle.sd_core.specs.declared.CoreProc.{CoreProc}
-use Rattle.sd_core.specs.declared.CoreProgram.{CoreProgram}
 use Rattle.sd_match.specs.declared.pair.PairState.{PairState}
 use Rattle.sd_match.specs.declared.pair.PairState.TheVariants as pair_state
 use Rattle.sd_match.specs.declared.pair.SpotPair.{SpotPair}
 use Rattle.sd_match.specs.declared.pair.Pair.{Pair}
-use Rattle.sd_match.specs.Pairs.{pairs_of}
 use Rattle.sd_cand.specs.declared.candidate.Relation.{Relation}
 use Rattle.sd_cand.specs.declared.candidate.Claim.TheVariants.{Flag}
 use Rattle.sd_cand.specs.declared.candidate.Candidate.{Candidate}
 use Rattle.sd_cand.specs.Candidates.{equal_inputs, flag_candidates, output_candidates, candidates_in, candidates_of}
-use Rattle.sd_product.specs.Work.{claims_of}
+use Rattle.sd_product.specs.Work.{PairedPrograms, pairs_in, candidates_in_pair, claims_of}
+use Rattle.sd_product.specs.Bodies.{count_before}
 use Rattle.sd_run.specs.declared.verdict.PairVerdict.{PairVerdict}
 use Rattle.sd_run.specs.declared.verdict.VerdictState.{VerdictState}
 use Rattle.sd_run.specs.declared.verdict.VerdictState.TheVariants.{Safe, Signature, UnmatchedRecursion}
@@ -62,20 +61,20 @@ flag_when pair k c at flag = by_state pair.state (at)
 
 -- ---- one pair
 
-module _ (o : Otherwise) (P Q : CoreProgram) (pairs : List Pair) (live : List Bool) where
+module _ (o : Otherwise) (work : PairedPrograms) (live : List Bool) where
   -- the claims of pair i, in the table from there on
-  live_exact : (i : ℕ) (pair : Pair) → (flag_live (candidates_of pair) (drop (length (claims_of (take i pairs))) live) ≡ true) ↔ HasLiveClaim pairs live i pair
+  live_exact : (i : ℕ) (pair : Pair) → (flag_live (candidates_in_pair work pair) (drop (count_before work i) live) ≡ true) ↔ HasLiveClaim work live i pair
   live_exact i pair =
-      let n : ℕ = length (claims_of (take i pairs)) in (
+      let n : ℕ = count_before work i in (
         λ h.
-            let f = live_in (candidates_of pair) (drop n live) h in
+            let f = live_in (candidates_in_pair work pair) (drop n live) h in
             record { place = f.place; candidate = f.candidate; is = f.at; claims = (f.flag, flag_when pair f.place f.candidate f.at f.flag); is_live = sym (slice_get-drop n live f.place) ∙ f.is },
-        λ h. flag_found (candidates_of pair) (drop n live) h.place h.candidate h.is h.claims.0 (slice_get-drop n live h.place ∙ h.is_live),
+        λ h. flag_found (candidates_in_pair work pair) (drop n live) h.place h.candidate h.is h.claims.0 (slice_get-drop n live h.place ∙ h.is_live),
       )
 
-  module _ (i : ℕ) (pair : Pair) (flag : Bool) (exact : (flag ≡ true) ↔ HasLiveClaim pairs live i pair) where
+  module _ (i : ℕ) (pair : Pair) (flag : Bool) (exact : (flag ≡ true) ↔ HasLiveClaim work live i pair) where
     -- a refused pair has no candidates
-    refused_none : candidates_of pair ≡ [] → HasLiveClaim pairs live i pair → ⊥
+    refused_none : candidates_in_pair work pair ≡ [] → HasLiveClaim work live i pair → ⊥
     refused_none e h = none-some h.candidate (sym (ap (λ cs. slice_get cs h.place) e) ∙ h.is)
 
     open_safe : (b : Bool) → ((if b then Safe else said o) ≡ Safe) ↔ (b ≡ true)
@@ -83,8 +82,8 @@ module _ (o : Otherwise) (P Q : CoreProgram) (pairs : List Pair) (live : List Bo
     open_safe false = (λ h. absurd (said_not_safe o h), λ h. absurd (let bad : false ≡ true = h in cc))
 
     record IsState (s : PairState) : Type 0 where
-      safe : (state_of o s flag ≡ Safe) ↔ HasLiveClaim pairs live i pair
-      unsafe : pair.state ≡ pair_state.Open → (HasLiveClaim pairs live i pair → ⊥) → state_of o s flag ≡ said o
+      safe : (state_of o s flag ≡ Safe) ↔ HasLiveClaim work live i pair
+      unsafe : pair.state ≡ pair_state.Open → (HasLiveClaim work live i pair → ⊥) → state_of o s flag ≡ said o
       signature : pair.state ≡ pair_state.Signature → state_of o s flag ≡ Signature
       unmatched : (x : Text) → pair.state ≡ pair_state.UnmatchedRecursion x → state_of o s flag ≡ UnmatchedRecursion x
 
@@ -116,19 +115,19 @@ module _ (o : Otherwise) (P Q : CoreProgram) (pairs : List Pair) (live : List Bo
     verdict_with p q = record { old = p.name; new = q.name; state = state_of o pair.state flag; equal = false }
 
     abbrev Rest : List PairVerdict → Type 0
-    Rest vs = AreVerdicts o P Q pairs live i vs
+    Rest vs = AreVerdicts o work live i vs
 
-    one_more : (vs : List PairVerdict) → slice_get pairs i ≡ Some pair → AreVerdicts o P Q pairs live (suc i) vs → Rest (verdict_of o P Q pair flag ++ vs)
-    one_more vs at rest = found (slice_get P.procs pair.old) (slice_get Q.procs pair.new) refl refl
+    one_more : (vs : List PairVerdict) → slice_get (pairs_in work) i ≡ Some pair → AreVerdicts o work live (suc i) vs → Rest (verdict_of o work pair flag ++ vs)
+    one_more vs at rest = found (slice_get work.old.procs pair.old) (slice_get work.new.procs pair.new) refl refl
       where
-        rooted : (p q : CoreProc) → slice_get P.procs pair.old ≡ Some p → slice_get Q.procs pair.new ≡ Some q → (parent : Option (ℕ × ℕ)) → p.parent ≡ parent → Rest ((if is_some parent then [] else verdict_with p q ∷ []) ++ vs)
+        rooted : (p q : CoreProc) → slice_get work.old.procs pair.old ≡ Some p → slice_get work.new.procs pair.new ≡ Some q → (parent : Option (ℕ × ℕ)) → p.parent ≡ parent → Rest ((if is_some parent then [] else verdict_with p q ∷ []) ++ vs)
         rooted p q e f None root =
             let s = state_is pair.state refl in
             procedures i pair (verdict_with p q) vs at (record { old = p; new = q; procedures = record { old_is = e; new_is = f; no_loop = root }; old_name = refl; new_name = refl; equal = refl; safe = s.safe; unsafe = s.unsafe; signature = s.signature; unmatched = s.unmatched }) rest
         rooted p q e f (Some x) loop =
             loops i pair vs at (λ old new are. none-some x (sym are.no_loop ∙ (ap (λ (r : CoreProc). r.parent) (sym (same_Some p old (sym e ∙ are.old_is))) ∙ loop))) rest
 
-        found : (old new : Option CoreProc) → slice_get P.procs pair.old ≡ old → slice_get Q.procs pair.new ≡ new → Rest (verdict_by o pair flag old new ++ vs)
+        found : (old new : Option CoreProc) → slice_get work.old.procs pair.old ≡ old → slice_get work.new.procs pair.new ≡ new → Rest (verdict_by o pair flag old new ++ vs)
         found None new e f = loops i pair vs at (λ p q are. none-some p (sym e ∙ are.old_is)) rest
         found (Some p) None e f = loops i pair vs at (λ r q are. none-some q (sym f ∙ are.new_is)) rest
         found (Some p) (Some q) e f = rooted p q e f p.parent refl
@@ -136,31 +135,30 @@ module _ (o : Otherwise) (P Q : CoreProgram) (pairs : List Pair) (live : List Bo
 -- ---- all pairs
 
 -- the pairs from pair i on
-record IsCut (pairs : List Pair) (i : ℕ) (pair : Pair) (rest : List Pair) : Type 0 where
+record IsCut (work : PairedPrograms) (pairs : List Pair) (i : ℕ) (pair : Pair) (rest : List Pair) : Type 0 where
   at : slice_get pairs i ≡ Some pair
   next : drop (suc i) pairs ≡ rest
-  count : length (claims_of (take (suc i) pairs)) ≡ length (claims_of (take i pairs)) + length (candidates_of pair)
+  count : length (claims_of work (take (suc i) pairs)) ≡ length (claims_of work (take i pairs)) + length (candidates_in_pair work pair)
 
-cut : (pairs : List Pair) (i : ℕ) (pair : Pair) (rest : List Pair) → drop i pairs ≡ pair ∷ rest → IsCut pairs i pair rest
-cut [] zero pair rest e = absurd (cc)
-cut [] (suc i) pair rest e = absurd (cc)
-cut (p ∷ ps) zero pair rest e =
+cut : (work : PairedPrograms) (pairs : List Pair) (i : ℕ) (pair : Pair) (rest : List Pair) → drop i pairs ≡ pair ∷ rest → IsCut work pairs i pair rest
+cut work [] zero pair rest e = absurd (cc)
+cut work [] (suc i) pair rest e = absurd (cc)
+cut work (p ∷ ps) zero pair rest e =
     let same : p ≡ pair = cc in
-    record { at = ap Some same; next = cc; count = omega (arith, count_first p [], ap (λ x. length (candidates_of x)) same) }
-cut (p ∷ ps) (suc i) pair rest e =
-    let c = cut ps i pair rest e in
-    record { at = c.at; next = c.next; count = omega (arith, c.count, count_first p (take (suc i) ps), count_first p (take i ps)) }
-
-module _ (o : Otherwise) (P Q : CoreProgram) (pairs : List Pair) (live : List Bool) where
-  all_plain : (rest : List Pair) (i : ℕ) → drop i pairs ≡ rest → length pairs ≤ i + length rest → AreVerdicts o P Q pairs live i (verdicts_of o P Q rest (drop (length (claims_of (take i pairs))) live))
-  all_plain [] i e long = none i (omega arith)
-  all_plain (pair ∷ rest) i e long =
-      let c = cut pairs i pair rest e in
-      let n : ℕ = length (claims_of (take i pairs)) in
-      let further = all_plain rest (suc i) c.next (omega arith) in
-      let table : drop (length (claims_of (take (suc i) pairs))) live ≡ drop (length (candidates_of pair)) (drop n live) = ap (λ m. drop m live) c.count ∙ sym (drop-drop (length (candidates_of pair)) n live) in
-      one_more o P Q pairs live i pair (flag_live (candidates_of pair) (drop n live)) (live_exact o P Q pairs live i pair) (verdicts_of o P Q rest (drop (length (candidates_of pair)) (drop n live))) c.at
-      (subst (λ (t : List Bool). AreVerdicts o P Q pairs live (suc i) (verdicts_of o P Q rest t)) table further)
+    record { at = ap Some same; next = cc; count = omega (arith, count_first work p [], ap (λ x. length (candidates_in_pair work x)) same) }
+cut work (p ∷ ps) (suc i) pair rest e =
+    let c = cut work ps i pair rest e in
+    record { at = c.at; next = c.next; count = omega (arith, c.count, count_first work p (take (suc i) ps), count_first work p (take i ps)) }
 
 pub verdicts_are_plain : VerdictsArePlain
-verdicts_are_plain o P Q live = all_plain o P Q (pairs_of P Q) live (pairs_of P Q) 0 refl (omega arith)
+verdicts_are_plain o work live = all_plain (pairs_in work) 0 refl (omega arith)
+  where
+    all_plain : (rest : List Pair) (i : ℕ) → drop i (pairs_in work) ≡ rest → length (pairs_in work) ≤ i + length rest → AreVerdicts o work live i (verdicts_of o work rest (drop (count_before work i) live))
+    all_plain [] i e long = none i (omega arith)
+    all_plain (pair ∷ rest) i e long =
+        let c = cut work (pairs_in work) i pair rest e in
+        let n : ℕ = count_before work i in
+        let further = all_plain rest (suc i) c.next (omega arith) in
+        let table : drop (count_before work (suc i)) live ≡ drop (length (candidates_in_pair work pair)) (drop n live) = ap (λ m. drop m live) c.count ∙ sym (drop-drop (length (candidates_in_pair work pair)) n live) in
+        one_more o work live i pair (flag_live (candidates_in_pair work pair) (drop n live)) (live_exact o work live i pair) (verdicts_of o work rest (drop (length (candidates_in_pair work pair)) (drop n live))) c.at
+        (subst (λ (t : List Bool). AreVerdicts o work live (suc i) (verdicts_of o work rest t)) table further)

@@ -21,14 +21,14 @@ use Rattle.sd_extract.proofs.Roots.{roots_are_procedures}
 use Rattle.sd_match.specs.declared.pair.PairState.{PairState}
 use Rattle.sd_match.specs.declared.pair.PairState.TheVariants as pair_state
 use Rattle.sd_match.specs.declared.pair.Pair.{Pair}
-use Rattle.sd_match.specs.Pairs.{pairs_of}
 use Rattle.sd_cand.specs.declared.candidate.Relation.{Relation}
 use Rattle.sd_cand.specs.declared.candidate.Claim.{Claim}
 use Rattle.sd_cand.specs.declared.candidate.Claim.TheVariants.{Flag, Output}
 use Rattle.sd_cand.specs.declared.candidate.Candidate.{Candidate}
 use Rattle.sd_cand.specs.Candidates.{equal_inputs, flag_candidates, output_candidates, candidates_in, candidates_of}
 use Rattle.sd_product.specs.Query.{Claimed}
-use Rattle.sd_product.specs.Work.{Held, work_of, claims_of, claims_in, pairs_in}
+use Rattle.sd_product.specs.Work.{PairedPrograms, work_of, claims_of, claims_in, pairs_in}
+use Rattle.sd_run.specs.Texts.{core_programs}
 use Rattle.sd_product.specs.Summaries.{IsRootPair}
 use Rattle.sd_product.proofs.RootLemmas.{IsRootedClaim, claims-rooted}
 use Rattle.sd_product.specs.Judged.{IsFlagAt}
@@ -161,13 +161,13 @@ module _ (P Q : Program) (old_typed : WellTyped P) (new_typed : WellTyped Q) whe
       let kept = failures_kept runs_kept procedures_kept axioms_kept extracted_formed P Q p.name q.name r.0 s.0 old_typed new_typed r.1 s.1 in
       subst (λ (n : ℕ). NewFailure P Q p.name q.name ↔ NewFailureOf C D n j) (sym r.2) (subst (λ (m : ℕ). NewFailure P Q p.name q.name ↔ NewFailureOf C D (number_of P p.name) m) (sym s.2) kept)
 
-  module _ (h : Held) (old_is : h.old ≡ core_program P) (new_is : h.new ≡ core_program Q) (o : Otherwise) (live : List Bool) (deaths : List Death)
+  abbrev h : PairedPrograms
+  h = core_programs P Q
+
+  module _ (o : Otherwise) (live : List Bool) (deaths : List Death)
       (safe : (n : ℕ) (x : Claimed) → IsFlagAt h n x → slice_get live n ≡ Some true → NewFailureOf h.old h.new x.pair.old x.pair.new → ⊥)
       (failure : o ≡ otherwise.Unknown → IsPropositionalProgram P → IsPropositionalProgram Q → (n : ℕ) (x : Claimed) → IsFlagAt h n x → x.candidate.when ≡ equal_inputs x.pair → slice_get live n ≡ Some false → IsUnspent deaths n → NewFailureOf h.old h.new x.pair.old x.pair.new)
     where
-      kept : AreKept h.old h.new
-      kept = subst (λ (C : CoreProgram). AreKept C h.new) (sym old_is) (subst (λ (D : CoreProgram). AreKept (core_program P) D) (sym new_is) failures-kept)
-
       said_unknown : (x : Otherwise) → said x ≡ Unknown → x ≡ otherwise.Unknown
       said_unknown otherwise.Unknown e = refl
       said_unknown otherwise.Unproved e = absurd (let bad : ◌≡◌ {A = VerdictState} Unproved Unknown = e in cc)
@@ -187,9 +187,9 @@ module _ (P Q : Program) (old_typed : WellTyped P) (new_typed : WellTyped Q) whe
       -- the new procedure of such a claim is no loop either
       new_root : (n : ℕ) (x : Claimed) (q : CoreProc) → IsFlagAt h n x → slice_get h.new.procs x.pair.new ≡ Some q → q.parent ≡ None
       new_root n x q f found =
-          let each : (p : CoreProc) → slice_get h.old.procs x.pair.old ≡ Some p → p.parent ≡ None → IsRootPair (work_of h.old h.new) x =
+          let each : (p : CoreProc) → slice_get h.old.procs x.pair.old ≡ Some p → p.parent ≡ None → IsRootPair (work_of h) x =
           all-at (IsRootedClaim h.old h.new) (claims_in h) n x (claims-rooted h.old h.new) f.at in
-          let rooted : IsRootPair (work_of h.old h.new) x = each f.old f.found f.root in
+          let rooted : IsRootPair (work_of h) x = each f.old f.found f.root in
           let same : rooted.new ≡ q = same_Some rooted.new q (sym rooted.new_found ∙ found) in
           ap (λ (r : CoreProc). r.parent) (sym same) ∙ rooted.new_root
 
@@ -201,16 +201,12 @@ module _ (P Q : Program) (old_typed : WellTyped P) (new_typed : WellTyped Q) whe
         died = died;
         spent = spent;
         claim = record { pair = pair; candidate = c };
-        claim_is =
-            ap (λ m. slice_get (claims_of (pairs_of (core_program P) (core_program Q))) m) named
-            ∙ (ap (λ (C : CoreProgram). slice_get (claims_of (pairs_of C (core_program Q))) (n + k)) (sym old_is)
-            ∙ (ap (λ (D : CoreProgram). slice_get (claims_of (pairs_of h.old D)) (n + k)) (sym new_is)
-            ∙ here.claims k c at));
+        claim_is = ap (λ m. slice_get (claims_in h) m) named ∙ here.claims k c at;
         old = p;
-        old_is = ap (λ (C : CoreProgram). slice_get C.procs pair.old) (sym old_is) ∙ here.old_found;
+        old_is = here.old_found;
         old_name = refl;
         new = q;
-        new_is = ap (λ (D : CoreProgram). slice_get D.procs pair.new) (sym new_is) ∙ here.new_found;
+        new_is = here.new_found;
         new_name = refl;
       }
 
@@ -218,7 +214,7 @@ module _ (P Q : Program) (old_typed : WellTyped P) (new_typed : WellTyped Q) whe
       right_open n pair table p q here is true flags =
           let f = live_in (candidates_of pair) table flags in
           let at : IsFlagAt h (n + f.place) (record { pair = pair; candidate = f.candidate }) = record { at = here.claims f.place f.candidate f.at; flag = f.flag; old = p; found = here.old_found; root = here.old_root } in (
-            λ _ bad. safe (n + f.place) (record { pair = pair; candidate = f.candidate }) at (here.rest f.place true f.is) ((kept pair.old pair.new p q here.old_found here.new_found here.old_root (new_root (n + f.place) (record { pair = pair; candidate = f.candidate }) q at here.new_found)).0 bad),
+            λ _ bad. safe (n + f.place) (record { pair = pair; candidate = f.candidate }) at (here.rest f.place true f.is) ((failures-kept pair.old pair.new p q here.old_found here.new_found here.old_root (new_root (n + f.place) (record { pair = pair; candidate = f.candidate }) q at here.new_found)).0 bad),
             λ bad. absurd (let worse : ◌≡◌ {A = VerdictState} Safe Unknown = bad in cc),
           )
       right_open n pair table p q here is false flags =
@@ -226,7 +222,7 @@ module _ (P Q : Program) (old_typed : WellTyped P) (new_typed : WellTyped Q) whe
           let at : IsFlagAt h (n + f.place) (record { pair = pair; candidate = f.candidate }) = record { at = here.claims f.place f.candidate f.at; flag = f.flag; old = p; found = here.old_found; root = here.old_root } in
           let dead : slice_get live (n + f.place) ≡ Some false = here.rest f.place false (dead_at (candidates_of pair) table f.place f.candidate here.long flags f.at f.flag) in (
             λ bad. absurd (said_not_safe o bad),
-            λ unknown old new none. (kept pair.old pair.new p q here.old_found here.new_found here.old_root (new_root (n + f.place) (record { pair = pair; candidate = f.candidate }) q at here.new_found)).1
+            λ unknown old new none. (failures-kept pair.old pair.new p q here.old_found here.new_found here.old_root (new_root (n + f.place) (record { pair = pair; candidate = f.candidate }) q at here.new_found)).1
                 (failure (said_unknown o unknown) old new (n + f.place) (record { pair = pair; candidate = f.candidate }) at f.when dead (λ d died named spent. none (spent_pair n pair table p q here f.place f.candidate f.at d died named spent))),
           )
 
@@ -241,9 +237,9 @@ module _ (P Q : Program) (old_typed : WellTyped P) (new_typed : WellTyped Q) whe
 
       -- pairs whose candidates begin at number n, and the table from there on
       record AreHere (n : ℕ) (pairs : List Pair) (table : List Bool) : Type 0 where
-        claims : (k : ℕ) (x : Claimed) → slice_get (claims_of pairs) k ≡ Some x → slice_get (claims_in h) (n + k) ≡ Some x
+        claims : (k : ℕ) (x : Claimed) → slice_get (claims_of h pairs) k ≡ Some x → slice_get (claims_in h) (n + k) ≡ Some x
         rest : (k : ℕ) (b : Bool) → slice_get table k ≡ Some b → slice_get live (n + k) ≡ Some b
-        size : length table ≡ length (claims_of pairs)
+        size : length table ≡ length (claims_of h pairs)
 
       right_found : (n : ℕ) (pair : Pair) (pairs : List Pair) (table : List Bool) → AreHere n (pair ∷ pairs) table → (old new : Option CoreProc) → slice_get h.old.procs pair.old ≡ old → slice_get h.new.procs pair.new ≡ new
           → AllByRecursion (IsRight P Q deaths) (verdict_by o pair (flag_live (candidates_of pair) table) old new)
@@ -253,9 +249,9 @@ module _ (P Q : Program) (old_typed : WellTyped P) (new_typed : WellTyped Q) whe
         where
           here_with : p.parent ≡ None → IsHere n pair table p q
           here_with root = record {
-            claims = λ k c e. here.claims k (record { pair = pair; candidate = c }) (slice_get-front (map (claim pair) (candidates_of pair)) (claims_of pairs) k (record { pair = pair; candidate = c }) (slice_get-map_some (claim pair) (candidates_of pair) k c e));
+            claims = λ k c e. here.claims k (record { pair = pair; candidate = c }) (slice_get-front (map (claim pair) (candidates_of pair)) (claims_of h pairs) k (record { pair = pair; candidate = c }) (slice_get-map_some (claim pair) (candidates_of pair) k c e));
             rest = here.rest;
-            long = omega (arith, here.size, count_first pair pairs);
+            long = omega (arith, here.size, count_first h pair pairs);
             old_found = at;
             new_found = at';
             old_root = root;
@@ -266,7 +262,7 @@ module _ (P Q : Program) (old_typed : WellTyped P) (new_typed : WellTyped Q) whe
           go None e = subst (λ (x : Option (ℕ × ℕ)). AllByRecursion (IsRight P Q deaths) (if is_some x then [] else verdict_with p q (state_of o pair.state (flag_live (candidates_of pair) table)) ∷ [])) (sym e) (right_state n pair table p q (here_with e) pair.state refl, tt)
           go (Some parent) e = subst (λ (x : Option (ℕ × ℕ)). AllByRecursion (IsRight P Q deaths) (if is_some x then [] else verdict_with p q (state_of o pair.state (flag_live (candidates_of pair) table)) ∷ [])) (sym e) tt
 
-      right_pairs : (n : ℕ) (pairs : List Pair) (table : List Bool) → AreHere n pairs table → AllByRecursion (IsRight P Q deaths) (verdicts_of o h.old h.new pairs table)
+      right_pairs : (n : ℕ) (pairs : List Pair) (table : List Bool) → AreHere n pairs table → AllByRecursion (IsRight P Q deaths) (verdicts_of o h pairs table)
       right_pairs n [] table here = tt
       right_pairs n (pair ∷ pairs) table here =
           let count : ℕ = length (candidates_of pair) in
@@ -275,19 +271,17 @@ module _ (P Q : Program) (old_typed : WellTyped P) (new_typed : WellTyped Q) whe
           let next : AreHere (n + count) pairs (drop count table) = record {
             claims = λ k x e.
                 let shift : n + (length first + k) ≡ (n + count) + k = omega arith in
-                ap (λ m. slice_get (claims_in h) m) (sym shift) ∙ here.claims (length first + k) x (slice_get-append_right first (claims_of pairs) k ∙ e);
+                ap (λ m. slice_get (claims_in h) m) (sym shift) ∙ here.claims (length first + k) x (slice_get-append_right first (claims_of h pairs) k ∙ e);
             rest = λ k b e.
                 let shift : n + (count + k) ≡ (n + count) + k = omega arith in
                 ap (λ m. slice_get live m) (sym shift) ∙ here.rest (count + k) b (sym (slice_get-drop count table k) ∙ e);
-            size = length-drop_front count table (length (claims_of pairs)) (here.size ∙ count_first pair pairs);
+            size = length-drop_front count table (length (claims_of h pairs)) (here.size ∙ count_first h pair pairs);
           } in
-          all-append (IsRight P Q deaths) (verdict_of o h.old h.new pair (flag_live (candidates_of pair) table)) (verdicts_of o h.old h.new pairs (drop count table))
+          all-append (IsRight P Q deaths) (verdict_of o h pair (flag_live (candidates_of pair) table)) (verdicts_of o h pairs (drop count table))
           (right_found n pair pairs table here (slice_get h.old.procs pair.old) (slice_get h.new.procs pair.new) refl refl) (right_pairs (n + count) pairs (drop count table) next)
 
       -- the verdicts of the pairs of the programs are right
-      pub all_right : length live ≡ length (claims_in h) → AllByRecursion (IsRight P Q deaths) (verdicts_of o (core_program P) (core_program Q) (pairs_of (core_program P) (core_program Q)) live)
+      pub all_right : length live ≡ length (claims_in h) → AllByRecursion (IsRight P Q deaths) (verdicts_of o h (pairs_in h) live)
       all_right size =
           let zero_is : (k : ℕ) → 0 + k ≡ k = λ k. omega arith in
-          let right = right_pairs 0 (pairs_in h) live (record { claims = λ k x e. ap (λ m. slice_get (claims_in h) m) (zero_is k) ∙ e; rest = λ k b e. ap (λ m. slice_get live m) (zero_is k) ∙ e; size = size }) in
-          subst (λ (C : CoreProgram). AllByRecursion (IsRight P Q deaths) (verdicts_of o C (core_program Q) (pairs_of C (core_program Q)) live)) old_is
-          (subst (λ (D : CoreProgram). AllByRecursion (IsRight P Q deaths) (verdicts_of o h.old D (pairs_of h.old D) live)) new_is right)
+          right_pairs 0 (pairs_in h) live (record { claims = λ k x e. ap (λ m. slice_get (claims_in h) m) (zero_is k) ∙ e; rest = λ k b e. ap (λ m. slice_get live m) (zero_is k) ∙ e; size = size })

@@ -110,7 +110,7 @@ fn put_verdict(
     judged: &Judged<'_>,
 ) -> Result<(), NoMemory>
     ensures { OnOk result (verdicts.new.items ≡ verdicts.old.items
-        ++ verdict_of judged.now.otherwise work.now.old work.now.new judged.now.pair.now judged.now.live) }
+        ++ verdict_of judged.now.otherwise work.now judged.now.pair.now judged.now.live) }
 {
     let old = work.old_program().procs.get(judged.pair.old as usize);
     let new = work.new_program().procs.get(judged.pair.new as usize);
@@ -125,8 +125,7 @@ pub fn verdicts_of(
     otherwise: Otherwise,
 ) -> Result<Vec<PairVerdict>, NoMemory>
     requires { length table.now ≡ length (claims_in work.now) }
-    ensures { IfOk result (λ verdicts. verdicts.items ≡ verdicts_of otherwise work.now.old work.now.new
-        (pairs_in work.now) table.now) }
+    ensures { IfOk result (λ verdicts. verdicts.items ≡ verdicts_of otherwise work.now (pairs_in work.now) table.now) }
 {
     let pairs = work.pairs();
     let end = table.count();
