@@ -1,24 +1,20 @@
 -- What a comparison of two programs tells of their runs.
-use Rattle.std.proofs.Common.{◌≡◌, ◌<◌, sym, subst, ℕ, Bool, true, false, List, [], ◌∷◌, length, arith}
-use Rattle.std.specs.Prelude.{Option, Some, None, Result, Ok, Err, slice_get}
+use Rattle.std.proofs.Common.{◌≡◌, sym, subst, ℕ, List}
+use Rattle.std.specs.Prelude.{Option, Result, Ok}
 use Rattle.std.specs.List.{AllByRecursion}
 use Rattle.std.proofs.lemmas.Option.{slice_get_within}
 use Rattle.sd_base.proofs.Lists.{all-weaker}
 use Rattle.sd_ast.specs.declared.Program.{Program}
-use Rattle.sd_meaning.specs.NewFailure.{NewFailure}
 use Rattle.sd_parse.specs.declared.answer.ReadError.{ReadError}
 use Rattle.sd_parse.proofs.AnswerLaws.{one_answer}
-use Rattle.sd_core.specs.declared.CoreProgram.{CoreProgram}
 use Rattle.sd_core.specs.Failure.{NewFailureOf}
-use Rattle.sd_core.specs.Propositional.{IsPropositionalCore}
 use Rattle.sd_extract.specs.Propositional.{IsPropositionalProgram}
 use Rattle.sd_extract.specs.Programs.{core_program}
+use Rattle.sd_extract.proofs.FormedPrograms.{extracted_formed}
 use Rattle.sd_extract.proofs.Propositional.{propositional_kept}
-use Rattle.sd_kernel.specs.declared.proved.Proved.{Proved}
 use Rattle.sd_cand.specs.Candidates.{equal_inputs}
 use Rattle.sd_product.specs.Query.{Claimed}
-use Rattle.sd_product.specs.Work.{Held, claims_in, queries_under}
-use Rattle.sd_product.specs.Inductive.{IsInductive}
+use Rattle.sd_product.specs.Work.{AreWellFormed, claims_in}
 use Rattle.sd_product.specs.Judged.{IsFlagAt}
 use Rattle.sd_product.specs.Judged.{LiveFlagsAreSafe, OpenFlagsAreFailures}
 use Rattle.sd_product.proofs.JudgedLemmas.{live-flags-safe, open-flags-fail}
@@ -30,11 +26,10 @@ use Rattle.sd_runs.proofs.InfallibleRuns.{infallible_runs_within}
 use Rattle.sd_vcgen.proofs.Runs.{runs-are-valuations}
 use Rattle.sd_vcgen.proofs.Valuations.{valuations-are-runs}
 use Rattle.sd_run.specs.declared.verdict.PairVerdict.{PairVerdict}
-use Rattle.sd_run.specs.declared.verdict.VerdictState.TheVariants.{Safe, Unknown}
 use Rattle.sd_run.specs.declared.verdict.Otherwise.{Otherwise}
 use Rattle.sd_run.specs.declared.verdict.Otherwise.TheVariants as otherwise
 use Rattle.sd_run.specs.TextRefusals.{IsAccepted}
-use Rattle.sd_run.specs.Texts.{Texts, IsWorkOf}
+use Rattle.sd_run.specs.Texts.{Texts, programs_of}
 use Rattle.sd_rounds.specs.declared.settle.Death.{Death}
 use Rattle.sd_run.specs.Outcome.{Outcome, IsComparison, IsReplay, default_leaves}
 use Rattle.sd_run.specs.Verdicts.{NoNewFailure, AreNewFailures}
@@ -56,32 +51,26 @@ module _ (t : Texts) (old_read : IsAccepted t.old_bytes t.old) (new_read : IsAcc
   abbrev AreRight : List Death → List PairVerdict → Type 0
   AreRight deaths vs = AllByRecursion (IsRight t.old t.new deaths) vs
 
-  propositional-core : (C : CoreProgram) → C ≡ core_program t.old → IsPropositionalProgram t.old → IsPropositionalCore C
-  propositional-core C is propositional = subst IsPropositionalCore (sym is) (propositional_kept t.old old_read.typed propositional)
+  well_formed : AreWellFormed (programs_of t)
+  well_formed = record { old_formed = extracted_formed t.old old_read.typed; new_formed = extracted_formed t.new new_read.typed }
 
-  propositional-new : (D : CoreProgram) → D ≡ core_program t.new → IsPropositionalProgram t.new → IsPropositionalCore D
-  propositional-new D is propositional = subst IsPropositionalCore (sym is) (propositional_kept t.new new_read.typed propositional)
-
-  failed : (h : Held) → IsWorkOf t h → IsPropositionalProgram t.old → IsPropositionalProgram t.new → (n : ℕ) (x : Claimed) → IsFlagAt h n x → x.candidate.when ≡ equal_inputs x.pair → IsOpenAt h n → NewFailureOf h.old h.new x.pair.old x.pair.new
-  failed h w old new n x at when o = open_fails h o.seen n x o.facts o.cube w.held (propositional-core h.old w.old old) (propositional-new h.new w.new new) at when o.query o.«open»
+  failed : IsPropositionalProgram t.old → IsPropositionalProgram t.new → (n : ℕ) (x : Claimed) → IsFlagAt (programs_of t) n x → x.candidate.when ≡ equal_inputs x.pair → IsOpenAt (programs_of t) n → NewFailureOf (core_program t.old) (core_program t.new) x.pair.old x.pair.new
+  failed old new n x at when o =
+      open_fails (programs_of t) o.seen n x o.facts o.cube well_formed (propositional_kept t.old old_read.typed old) (propositional_kept t.new new_read.typed new) at when o.query o.«open»
 
   pub compared_right : (name : Option (List ℕ)) (o : Outcome) → IsComparison name t o → AreRight o.deaths o.pairs
   compared_right name o c =
-      let h : Held = c.work in
-      let w = c.is_work in
       subst (AreRight o.deaths) (sym c.is_report.verdicts)
-      (all_right t.old t.new old_read.typed new_read.typed h w.old w.new otherwise.Unknown c.live o.deaths
-      (λ n x. live_safe h c.live c.proofs n x w.held c.settled.inductive)
-      (λ is old new n x at when dead unspent. failed h w old new n x at when (dead_open default_leaves h c.live o.deaths c.proofs c.settled n (slice_get_within (claims_in h) n x at.at) dead unspent))
+      (all_right t.old t.new old_read.typed new_read.typed otherwise.Unknown c.live o.deaths
+      (λ n x. live_safe (programs_of t) c.live c.proofs n x well_formed c.settled.inductive)
+      (λ is old new n x at when dead unspent. failed old new n x at when (dead_open default_leaves (programs_of t) c.live o.deaths c.proofs c.settled n (slice_get_within (claims_in (programs_of t)) n x at.at) dead unspent))
       c.settled.size)
 
   pub replayed_right : (bytes : List ℕ) (o : Outcome) → IsReplay bytes t o → AreRight o.deaths o.pairs
   replayed_right bytes o r =
-      let h : Held = r.work in
-      let w = r.is_work in
       subst (AreRight o.deaths) (sym r.is_report.verdicts)
-      (all_right t.old t.new old_read.typed new_read.typed h w.old w.new otherwise.Unproved r.live o.deaths
-      (λ n x. live_safe h r.live _ n x w.held r.accepted.inductive)
+      (all_right t.old t.new old_read.typed new_read.typed otherwise.Unproved r.live o.deaths
+      (λ n x. live_safe (programs_of t) r.live _ n x well_formed r.accepted.inductive)
       (λ is. absurd (let bad : ◌≡◌ {A = Otherwise} otherwise.Unproved otherwise.Unknown = is in cc))
       r.accepted.size)
 

@@ -3,7 +3,7 @@ use Rattle.std.proofs.Common.{◌≡◌, ◌∙◌, sym, ap, subst, refl, ℕ, �
 use Rattle.std.specs.Prelude.{Option, None, Some, ◌⊎◌, ◌↔◌, IsTrue, if◌then◌else◌}
 use Rattle.std.specs.List.{list_all}
 use Rattle.sd_base.specs.Causes.{Rose}
-use Rattle.sd_base.specs.Outside.{appended, emptied, AllStay, OthersStay}
+use Rattle.sd_base.specs.Outside.{appended, emptied, AllStay}
 use Rattle.sd_run.specs.declared.running.Ended.{Ended}
 use Rattle.sd_run.specs.declared.running.CertificateFile.{CertificateFile}
 use Rattle.sd_run.specs.declared.running.CertificateFile.TheVariants.{Untouched, NotStarted, Cut, Whole}
@@ -11,12 +11,11 @@ use Rattle.sd_run.specs.declared.text.TextRefusal.{TextRefusal}
 use Rattle.sd_run.specs.TextRefusals.{refusal_status}
 use Rattle.sd_run.specs.Words.{JobNames, verify, job_of}
 use Rattle.sd_run.specs.Report.{is_safe}
-use Rattle.sd_product.specs.Work.{Held}
-use Rattle.sd_run.specs.Texts.{Texts}
-use Rattle.sd_run.specs.Outcome.{Outcome, message, status_of, IsCertified}
+use Rattle.sd_run.specs.Texts.{Texts, AreMatched}
+use Rattle.sd_run.specs.Outcome.{Outcome, message, IsCertified}
 use Rattle.sd_run.specs.Answer.{Answer, no_job, old_refused, new_refused, clashing, compared, too_long, certificate_refused, replayed, Headline, UnknownIsFailure, CertificateWriteRose}
 use Rattle.sd_run.specs.Writing.{outcome, IsBroken, FilesAfter, FileRose}
-use Rattle.sd_run.proofs.Rows.{row_known, refusal_status_is, row_headline, row_unknown}
+use Rattle.sd_run.proofs.Rows.{refusal_status_is, row_headline, row_unknown}
 
 -- ---- the status of a row is none of those of a stop
 
@@ -49,8 +48,8 @@ module _ (words : List (List ℕ)) (content : List ℕ → Option (List ℕ)) (o
   row_status (clashing job t r a b c is) = message_status o 4 _ is (omega arith)
   row_status (compared job t name a b c r) = zero_or_one_status (list_all (λ v. is_safe v.state) o.pairs) o.status r.is_report.status
   row_status (too_long job t name a b c d is) = inr (ap (λ (p : Outcome). p.status) is)
-  row_status (certificate_refused job t name bytes e a b c d r is) = message_status o 5 _ is (omega arith)
-  row_status (replayed job t name bytes a b c d r) = zero_or_one_status (list_all (λ v. is_safe v.state) o.pairs) o.status r.is_report.status
+  row_status (certificate_refused job t name bytes e a b c d l r is) = message_status o 5 _ is (omega arith)
+  row_status (replayed job t name bytes a b c d l r) = zero_or_one_status (list_all (λ v. is_safe v.state) o.pairs) o.status r.is_report.status
 
   pub row_apart : Answer words content o → (o.status ≡ 6) ⊎ ((o.status ≡ 7) ⊎ (o.status ≡ 8)) → ⊥
   row_apart a h = apart o.status (row_status a) h
@@ -61,6 +60,8 @@ module _ (words : List (List ℕ)) (content : List ℕ → Option (List ℕ)) (o
     job : JobNames
     named : job_of words ≡ Some job
     task : job.task ≡ verify (Some file.0)
+    texts : Texts
+    matched : AreMatched content job texts
 
   no_file : (file : List ℕ × List ℕ) (certificate : Option (List ℕ × List ℕ)) → certificate ≡ None → certificate ≡ Some file → ⊥
   no_file file certificate none some = let bad : ◌≡◌ {A = Option (List ℕ × List ℕ)} None (Some file) = sym none ∙ some in cc
@@ -68,28 +69,29 @@ module _ (words : List (List ℕ)) (content : List ℕ → Option (List ℕ)) (o
   message_file : (file : List ℕ × List ℕ) (code : ℕ) (text : List ℕ) → o ≡ message code text → o.certificate ≡ Some file → ⊥
   message_file file code text is some = no_file file o.certificate (ap (λ (p : Outcome). p.certificate) is) some
 
-  certified_file : (t : Texts) (w : Held) (live : List Bool) (name : Option (List ℕ)) (certificate : Option (List ℕ × List ℕ)) (file : List ℕ × List ℕ) → IsCertified t w live name certificate → certificate ≡ Some file → name ≡ Some file.0
-  certified_file t w live None None file h e = absurd (no_file file None refl e)
-  certified_file t w live (Some name) (Some made) file h e = let same : made ≡ file = cc in ap Some (sym h.0 ∙ ap (λ (f : List ℕ × List ℕ). f.0) same)
-  certified_file t w live None (Some made) file h e = absurd h
-  certified_file t w live (Some name) None file h e = absurd h
+  certified_file : (t : Texts) (live : List Bool) (name : Option (List ℕ)) (certificate : Option (List ℕ × List ℕ)) (file : List ℕ × List ℕ) → IsCertified t live name certificate → certificate ≡ Some file → name ≡ Some file.0
+  certified_file t live None None file h e = absurd (no_file file None refl e)
+  certified_file t live (Some name) (Some made) file h e = let same : made ≡ file = cc in ap Some (sym h.0 ∙ ap (λ (f : List ℕ × List ℕ). f.0) same)
+  certified_file t live None (Some made) file h e = absurd h
+  certified_file t live (Some name) None file h e = absurd h
 
   row_file : (file : List ℕ × List ℕ) → Answer words content o → o.certificate ≡ Some file → NamesFile file
   row_file file (no_job a is) e = absurd (message_file file 2 _ is e)
   row_file file (old_refused job r a b is) e = absurd (message_file file (refusal_status r) _ is e)
   row_file file (new_refused job old r a b c is) e = absurd (message_file file (refusal_status r) _ is e)
   row_file file (clashing job t r a b c is) e = absurd (message_file file 4 _ is e)
-  row_file file (compared job t name a b c r) e = record { job = job; named = a; task = b ∙ ap verify (certified_file t r.work r.live name o.certificate file r.certified e) }
+  row_file file (compared job t name a b c r) e = record { job = job; named = a; task = b ∙ ap verify (certified_file t r.live name o.certificate file r.certified e); texts = t; matched = c }
   row_file file (too_long job t name a b c d is) e = absurd (message_file file 9 _ is e)
-  row_file file (certificate_refused job t name bytes x a b c d r is) e = absurd (message_file file 5 _ is e)
-  row_file file (replayed job t name bytes a b c d r) e = absurd (no_file file o.certificate r.no_certificate e)
+  row_file file (certificate_refused job t name bytes x a b c d l r is) e = absurd (message_file file 5 _ is e)
+  row_file file (replayed job t name bytes a b c d l r) e = absurd (no_file file o.certificate r.no_certificate e)
 
   -- the count rose from an earlier moment on, since which it had stayed
   pub file_rose : (certificate : Option (List ℕ × List ℕ)) (first before now : List ℕ → ℕ) → Answer words content o → o.certificate ≡ certificate
-      → ((name : List ℕ) → before name ≡ first name) → FileRose certificate before now → CertificateWriteRose words first now
+      → ((name : List ℕ) → before name ≡ first name) → FileRose certificate before now → CertificateWriteRose words content first now
   file_rose None first before now a e same rose = absurd rose
   file_rose (Some file) first before now a e same rose =
-      let n = row_file file a e in (n.job, file.0, n.named, n.task, subst (λ (k : ℕ). Rose k (now file.0)) (same file.0) rose)
+      let n = row_file file a e in
+      record { job = n.job; named = n.named; name = file.0; task = n.task; texts = n.texts; matched = n.matched; rose = subst (λ (k : ℕ). Rose k (now file.0)) (same file.0) rose }
 
 -- ---- what the end of a run tells
 

@@ -3,8 +3,12 @@ pub mod Texts
 pub mod Tables
 pub mod Settling
 pub mod VerdictLemmas
+pub mod PlainVerdictLemmas
 pub mod Comparison
 pub mod Certified
 pub mod Rows
+pub mod OneAnswerLemmas
 pub mod Endings
 pub mod ComparedTrees
+pub mod Booleans
+pub mod ComparedLemmas

@@ -1,8 +1,8 @@
 -- What follows from a row of the table of answers.
 use Rattle.std.proofs.Common.{◌≡◌, ◌∙◌, sym, ap, subst, refl, ℕ, Bool, true, false, List, [], ◌∷◌, arith, inl, inr}
-use Rattle.std.specs.Prelude.{Option, None, Some, Contains, ◌⊎◌, Result, Err, codes, if◌then◌else◌}
+use Rattle.std.specs.Prelude.{Option, Some, Contains, ◌⊎◌, Result, Err, codes, if◌then◌else◌}
 use Rattle.std.specs.List.{list_all}
-use Rattle.sd_base.specs.Causes.{Rose}
+use Rattle.sd_base.specs.Causes.{Rose, AllSame}
 use Rattle.sd_base.specs.Outside.{WhereKnown}
 use Rattle.sd_ast.specs.declared.Program.{Program}
 use Rattle.sd_run.specs.declared.verdict.PairVerdict.{PairVerdict}
@@ -16,13 +16,9 @@ use Rattle.sd_run.specs.declared.text.TextFault.{TextFault}
 use Rattle.sd_run.specs.declared.text.TextFault.TheVariants.{Memory, Failed, Refused}
 use Rattle.sd_run.specs.TextRefusals.{IsAccepted, IsTextRefusal, refusal_status}
 use Rattle.sd_extract.specs.Propositional.{IsPropositionalProgram}
-use Rattle.sd_match.specs.Refusals.{Refusal, Answers, global_types, function_signatures}
-use Rattle.sd_match.specs.declared.refusal.MatchError.{MatchError}
-use Rattle.sd_match.specs.declared.refusal.MatchError.TheVariants as matching
-use Rattle.sd_run.specs.Texts.{Holds, Texts, AreRead, AreMatched, clash_of}
+use Rattle.sd_run.specs.Texts.{Holds, Texts, AreRead, AreMatched}
 use Rattle.sd_run.specs.Outcome.{Outcome, message, status_of}
-use Rattle.sd_run.specs.Replies.{IsTextReply, IsClashReply, IsTextsReply, IsReplayReply}
-use Rattle.sd_rounds.specs.declared.settle.Death.{Death}
+use Rattle.sd_run.specs.Replies.{IsTextReply, IsTextsReply, IsReplayReply}
 use Rattle.sd_run.specs.Verdicts.{NoNewFailure, AreNewFailures}
 use Rattle.sd_run.specs.Answer.{Answer, no_job, old_refused, new_refused, clashing, compared, too_long, certificate_refused, replayed, ForPrograms, Headline, UnknownIsFailure, CertificateRose}
 use Rattle.sd_run.proofs.Comparison.{compared_right, replayed_right, right_safe, right_unknown, one_accepted}
@@ -73,8 +69,8 @@ module _ (words : List (List ℕ)) (content : List ℕ → Option (List ℕ)) (o
   row_known (clashing job t r a b c is) = known_by o.status 4 (status_is o 4 _ is) (4, omega arith, refl)
   row_known (compared job t name a b c r) = known_by o.status (status_of o.pairs) r.is_report.status (zero_or_one (list_all (λ v. is_safe v.state) o.pairs))
   row_known (too_long job t name a b c d is) = known_by o.status 9 (status_is o 9 _ is) nine_known
-  row_known (certificate_refused job t name bytes e a b c d r is) = known_by o.status 5 (status_is o 5 _ is) (5, omega arith, refl)
-  row_known (replayed job t name bytes a b c d r) = known_by o.status (status_of o.pairs) r.is_report.status (zero_or_one (list_all (λ v. is_safe v.state) o.pairs))
+  row_known (certificate_refused job t name bytes e a b c d l r is) = known_by o.status 5 (status_is o 5 _ is) (5, omega arith, refl)
+  row_known (replayed job t name bytes a b c d l r) = known_by o.status (status_of o.pairs) r.is_report.status (zero_or_one (list_all (λ v. is_safe v.state) o.pairs))
 
   same_job : (a b : JobNames) → job_of words ≡ Some a → job_of words ≡ Some b → a ≡ b
   same_job a b one other = let e : ◌≡◌ {A = Option JobNames} (Some a) (Some b) = sym one ∙ other in cc
@@ -103,8 +99,8 @@ module _ (words : List (List ℕ)) (content : List ℕ → Option (List ℕ)) (o
   row_headline (compared job t name a b c r) =
       let s = c.are_read in texts_for NoNewFailure (λ P Q. tt) job t a s (right_safe t s.old_read s.new_read o.deaths o.pairs (compared_right t s.old_read s.new_read name o r))
   row_headline (too_long job t name a b c d is) = silent_for NoNewFailure (λ P Q. tt) 9 _ is
-  row_headline (certificate_refused job t name bytes e a b c d r is) = silent_for NoNewFailure (λ P Q. tt) 5 _ is
-  row_headline (replayed job t name bytes a b c d r) =
+  row_headline (certificate_refused job t name bytes e a b c d l r is) = silent_for NoNewFailure (λ P Q. tt) 5 _ is
+  row_headline (replayed job t name bytes a b c d l r) =
       let s = c.are_read in texts_for NoNewFailure (λ P Q. tt) job t a s (right_safe t s.old_read s.new_read o.deaths o.pairs (replayed_right t s.old_read s.new_read bytes o r))
 
   -- and an unknown pair has a failure, without calls and loops
@@ -119,8 +115,8 @@ module _ (words : List (List ℕ)) (content : List ℕ → Option (List ℕ)) (o
   row_unknown (compared job t name a b c r) =
       let s = c.are_read in texts_for Unknowns (λ P Q p q. tt) job t a s (right_unknown t s.old_read s.new_read o.deaths o.pairs (compared_right t s.old_read s.new_read name o r))
   row_unknown (too_long job t name a b c d is) = silent_for Unknowns (λ P Q p q. tt) 9 _ is
-  row_unknown (certificate_refused job t name bytes e a b c d r is) = silent_for Unknowns (λ P Q p q. tt) 5 _ is
-  row_unknown (replayed job t name bytes a b c d r) =
+  row_unknown (certificate_refused job t name bytes e a b c d l r is) = silent_for Unknowns (λ P Q p q. tt) 5 _ is
+  row_unknown (replayed job t name bytes a b c d l r) =
       let s = c.are_read in texts_for Unknowns (λ P Q p q. tt) job t a s (right_unknown t s.old_read s.new_read o.deaths o.pairs (replayed_right t s.old_read s.new_read bytes o r))
 
 -- ---- rows
@@ -152,8 +148,8 @@ new_row words content o job old (Refused r) named accepted refused h = new_refus
 
 pub replay_row : (words : List (List ℕ)) (content : List ℕ → Option (List ℕ)) (o : Outcome) (job : JobNames) (t : Texts) (name : List ℕ) (known : Option (List ℕ)) → job_of words ≡ Some job → job.task ≡ replay name → AreMatched content job t → known ≡ content name → IsReplayReply known t o → Answer words content o
 replay_row words content o job t name known named task read same (inl h) = too_long job t name named task read (λ bytes e. h.0 bytes (same ∙ e)) h.1
-replay_row words content o job t name known named task read same (inr (bytes, holds, inl r)) = replayed job t name bytes named task read (λ b e. holds b (same ∙ e)) r
-replay_row words content o job t name known named task read same (inr (bytes, holds, inr (e, r, is))) = certificate_refused job t name bytes e named task read (λ b k. holds b (same ∙ k)) r is
+replay_row words content o job t name known named task read same (inr (bytes, holds, short, inl r)) = replayed job t name bytes named task read (λ b e. holds b (same ∙ e)) short r
+replay_row words content o job t name known named task read same (inr (bytes, holds, short, inr (e, r, is))) = certificate_refused job t name bytes e named task read (λ b k. holds b (same ∙ k)) short r is
 
 -- the row of two texts that were read, while the files stay
 pub texts_row : (words : List (List ℕ)) (content mid : List ℕ → Option (List ℕ)) (o : Outcome) (job : JobNames) (t : Texts) → job_of words ≡ Some job → AreRead content job t → ((name : List ℕ) → mid name ≡ content name)
@@ -164,3 +160,13 @@ texts_row words content mid o job t named read same h = go job.task refl h
     go k e (inl (r, clash, is)) = clashing job t r named read clash is
     go (verify name) e (inr (none, reply)) = compared job t name named e (record { are_read = read; no_clash = none }) reply
     go (replay name) e (inr (none, reply)) = replay_row words content o job t name (mid name) named e (record { are_read = read; no_clash = none }) (same name) reply
+
+-- ---- failed readings
+
+-- the count rose from an earlier moment on, since which none had changed
+pub rose_since : (first before now : List ℕ → ℕ) (name : List ℕ) → AllSame first before → Rose (before name) (now name) → Rose (first name) (now name)
+rose_since first before now name same rose = subst (λ (k : ℕ). Rose k (now name)) (same name) rose
+
+pub certificate_since : (task : Task) (first before now : List ℕ → ℕ) → AllSame first before → CertificateRose task before now → CertificateRose task first now
+certificate_since (verify name) first before now same rose = absurd rose
+certificate_since (replay name) first before now same rose = rose_since first before now name same rose

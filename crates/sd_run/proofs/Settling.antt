@@ -1,6 +1,6 @@
 -- What a settled table tells of a candidate that is not live.
 use Rattle.std.proofs.Common.{◌≡◌, ◌∙◌, sym, ap, refl, subst, ℕ, suc, zero, ◌<◌, Bool, true, false, List, [], ◌∷◌, ◌++◌, length, set, inl, inr, arith}
-use Rattle.std.specs.Prelude.{Option, Some, ◌⊎◌, replicate, slice_get, Contains}
+use Rattle.std.specs.Prelude.{Some, ◌⊎◌, replicate, slice_get, Contains}
 use Rattle.std.proofs.lemmas.List.{get_or-replicate}
 use Rattle.std.proofs.lemmas.Option.{same_Some, slice_get-get_or}
 use Rattle.sd_base.proofs.Lists.{contains-head, contains-tail}
@@ -9,7 +9,7 @@ use Rattle.sd_term.specs.Tree.{Tree}
 use Rattle.sd_term.specs.declared.cube.Cube.{Cube}
 use Rattle.sd_cube.specs.OpenCube.{IsOpenCube}
 use Rattle.sd_kernel.specs.declared.proved.Proved.{Proved}
-use Rattle.sd_product.specs.Work.{Held, claims_in, queries_under}
+use Rattle.sd_product.specs.Work.{PairedPrograms, claims_in, queries_of}
 use Rattle.sd_rounds.specs.declared.settle.Cause.{Cause}
 use Rattle.sd_rounds.specs.declared.settle.Cause.TheVariants.{Open, Spent}
 use Rattle.sd_rounds.specs.declared.settle.Death.{Death}
@@ -20,14 +20,14 @@ use Rattle.sd_run.specs.Verdicts.{is_spent}
 -- ---- dead candidates
 
 -- the query of candidate c has an open cube, under some table
-pub record IsOpenAt (h : Held) (c : ℕ) : Type 0 where
+pub record IsOpenAt (h : PairedPrograms) (c : ℕ) : Type 0 where
   pub seen : List Bool
   pub facts : List Tree
   pub cube : Cube
-  pub query : slice_get (queries_under h seen) c ≡ Some facts
+  pub query : slice_get (queries_of h seen) c ≡ Some facts
   pub «open» : IsOpenCube facts cube
 
-open_at : (leaves : ℕ) (h : Held) (c : ℕ) (seen : List Bool) (facts : List Tree) (cause : Cause) → slice_get (queries_under h seen) c ≡ Some facts → IsCause leaves facts cause → (is_spent cause ≡ true → ⊥) → IsOpenAt h c
+open_at : (leaves : ℕ) (h : PairedPrograms) (c : ℕ) (seen : List Bool) (facts : List Tree) (cause : Cause) → slice_get (queries_of h seen) c ≡ Some facts → IsCause leaves facts cause → (is_spent cause ≡ true → ⊥) → IsOpenAt h c
 open_at leaves h c seen facts (Open cube) query is unspent = record { seen = seen; facts = facts; cube = cube; query = query; «open» = is }
 open_at leaves h c seen facts (Spent n) query is unspent = absurd (unspent refl)
 
@@ -45,7 +45,7 @@ cleared_false t (c ∷ cs) i e = elim (cleared_false (set t c false) cs i e) [
   | inr h ↦ inr (contains-tail c cs i h)
 ]
 
-module _ (leaves : ℕ) (h : Held) (table : List Bool) (deaths : List Death) (proofs : List Proved) (settled : IsSettled leaves h table deaths proofs) where
+module _ (leaves : ℕ) (h : PairedPrograms) (table : List Bool) (deaths : List Death) (proofs : List Proved) (settled : IsSettled leaves h table deaths proofs) where
   record Lawful (c : ℕ) : Type 0 where
     before : List ℕ
     death : Death
@@ -76,5 +76,5 @@ module _ (leaves : ℕ) (h : Held) (table : List Bool) (deaths : List Death) (pr
         | inr found ↦
             let in_deaths : LawfulIn deaths c = lawful [] deaths c settled.legal found in
             let l : Lawful c = in_deaths.one in
-            open_at leaves h c l.legal.seen l.legal.facts l.death.cause (ap (λ k. slice_get (queries_under h l.legal.seen) k) (sym l.named) ∙ l.legal.query) l.legal.cause (unspent l.death in_deaths.died l.named)
+            open_at leaves h c l.legal.seen l.legal.facts l.death.cause (ap (λ k. slice_get (queries_of h l.legal.seen) k) (sym l.named) ∙ l.legal.query) l.legal.cause (unspent l.death in_deaths.died l.named)
       ]

@@ -1,5 +1,5 @@
 -- What a run answers, and why.
-use Rattle.std.specs.Prelude.{◌≡◌, ◌⊎◌, ◌<◌, ℕ, List, Option, None, Some, length, codes}
+use Rattle.std.specs.Prelude.{◌≡◌, ◌<◌, ◌≤◌, ℕ, List, Option, None, Some, length, codes}
 use Rattle.sd_base.specs.Outside.{WhereKnown}
 use Rattle.sd_base.specs.Causes.{Rose}
 use Rattle.sd_ast.specs.declared.Program.{Program}
@@ -22,8 +22,8 @@ use Rattle.sd_run.specs.declared.verdict.PairVerdict.{PairVerdict}
 abbrev pub ForJob : List (List ℕ) → (JobNames → Type 0) → Type 0
 ForJob words P = (job : JobNames) → job_of words ≡ Some job → P job
 
--- A row for each answer, with its cause, its text, and what is said of the pairs. Nothing is said of files whose content
--- isn't known.
+-- A row for each answer, with its cause, its text, and what is said of the pairs. Nothing is said of files whose
+-- content isn't known.
 pub data Answer (words : List (List ℕ)) (content : List ℕ → Option (List ℕ)) (o : Outcome) : Type 0 where
   -- 2: the words name no job.
   no_job :
@@ -77,6 +77,7 @@ pub data Answer (words : List (List ℕ)) (content : List ℕ → Option (List �
       → job.task ≡ replay name
       → AreMatched content job t
       → Holds (content name) bytes
+      → length bytes ≤ 9223372036854775807
       → IsRefused bytes t e
       → o ≡ message 5 (certificate_error e)
       → Answer words content o
@@ -87,6 +88,7 @@ pub data Answer (words : List (List ℕ)) (content : List ℕ → Option (List �
       → job.task ≡ replay name
       → AreMatched content job t
       → Holds (content name) bytes
+      → length bytes ≤ 9223372036854775807
       → IsReplay bytes t o
       → Answer words content o
 
@@ -100,8 +102,8 @@ ForPrograms words content P =
 abbrev pub Headline : List (List ℕ) → (List ℕ → Option (List ℕ)) → List PairVerdict → Type 0
 Headline words content pairs = ForPrograms words content (λ old new. NoNewFailure old new pairs)
 
--- Where the texts are over truth values, without calls and loops, each pair that is said to be unknown, though no search for a
--- candidate of it was spent, has a new failure.
+-- Where the texts are over truth values, without calls and loops, each pair that is said to be unknown, though no
+-- search for a candidate of it was spent, has a new failure.
 abbrev pub UnknownIsFailure : List (List ℕ) → (List ℕ → Option (List ℕ)) → List Death → List PairVerdict → Type 0
 UnknownIsFailure words content deaths pairs =
     ForPrograms words content (λ old new.
@@ -112,15 +114,36 @@ abbrev pub CertificateRose : Task → (List ℕ → ℕ) → (List ℕ → ℕ) 
 CertificateRose (verify name) before now = ⊥
 CertificateRose (replay name) before now = Rose (before name) (now name)
 
--- the words name a job, and the reading of one of its files failed
-abbrev pub ReadRose : List (List ℕ) → (List ℕ → ℕ) → (List ℕ → ℕ) → Type 0
-ReadRose words before now =
-    (job : JobNames) × (job_of words ≡ Some job)
-    × (Rose (before job.old) (now job.old)
-    ⊎ (Rose (before job.new) (now job.new) ⊎ CertificateRose job.task before now))
+-- The words name a job, and the reading of one of its files failed: each file that comes before is as it has to be.
+pub data ReadRose (words : List (List ℕ)) (content : List ℕ → Option (List ℕ)) (before now : List ℕ → ℕ) : Type 0 where
+  -- the old file
+  old_rose :
+      (job : JobNames)
+      → job_of words ≡ Some job
+      → Rose (before job.old) (now job.old)
+      → ReadRose words content before now
+  -- the new file, where the old text is accepted
+  new_rose :
+      (job : JobNames) (old : Program)
+      → job_of words ≡ Some job
+      → WhereKnown (content job.old) (λ bytes. IsAccepted bytes old)
+      → Rose (before job.new) (now job.new)
+      → ReadRose words content before now
+  -- the certificate, where both texts are accepted and can be compared
+  certificate_rose :
+      (job : JobNames) (t : Texts)
+      → job_of words ≡ Some job
+      → AreMatched content job t
+      → CertificateRose job.task before now
+      → ReadRose words content before now
 
--- the words name a file for the certificate, and the writing of it failed
-abbrev pub CertificateWriteRose : List (List ℕ) → (List ℕ → ℕ) → (List ℕ → ℕ) → Type 0
-CertificateWriteRose words before now =
-    (job : JobNames) × (name : List ℕ) × (job_of words ≡ Some job) × (job.task ≡ verify (Some name))
-    × Rose (before name) (now name)
+-- The words name a file for the certificate, the report on both texts is due, and the writing of that file failed.
+pub record CertificateWriteRose (words : List (List ℕ)) (content : List ℕ → Option (List ℕ)) (before now : List ℕ → ℕ)
+    : Type 0 where
+  pub job : JobNames
+  pub named : job_of words ≡ Some job
+  pub name : List ℕ
+  pub task : job.task ≡ verify (Some name)
+  pub texts : Texts
+  pub matched : AreMatched content job texts
+  pub rose : Rose (before name) (now name)

@@ -1,4 +1,5 @@
--- The programs that are compared: over truth values and integers, without products.
+-- The test for programs that are compared: over truth values and integers, without products. In their own words they
+-- are those of `ComparedPrograms`.
 use Rattle.std.specs.Prelude.{Bool, true, false, ◌&&◌, List, Option, Some, None}
 use Rattle.std.specs.List.{list_all}
 use Rattle.sd_base.specs.declared.Sort.{Sort, Int, Bool as BoolSort}

@@ -3,12 +3,15 @@ pub mod Jobs
 pub mod Texts
 pub mod Report
 pub mod Compared
+pub mod ComparedPrograms
 pub mod TextRefusals
 pub mod MatchErrors
 pub mod CertificateErrors
 pub mod Verdicts
+pub mod PlainVerdicts
 pub mod TextFaults
 pub mod Outcome
 pub mod Replies
 pub mod Answer
+pub mod OneAnswer
 pub mod Writing

@@ -2,10 +2,8 @@
 use Rattle.std.specs.Prelude.{◌≡◌, ◌≢◌, ℕ, Bool, List, [], Option, None, Some, if◌then◌else◌}
 use Rattle.std.specs.List.{list_all}
 use Rattle.sd_cand.specs.Words.{words_of}
-use Rattle.sd_extract.specs.Programs.{core_program}
 use Rattle.sd_kernel.specs.declared.proved.Proved.{Proved}
-use Rattle.sd_match.specs.Pairs.{pairs_of}
-use Rattle.sd_product.specs.Work.{Held}
+use Rattle.sd_product.specs.Work.{pairs_in}
 use Rattle.sd_rounds.specs.declared.settle.Death.{Death}
 use Rattle.sd_rounds.specs.Settled.{IsSettled}
 use Rattle.sd_cert.specs.declared.fault.CertError.{CertError}
@@ -15,7 +13,7 @@ use Rattle.sd_cert.specs.ReplayFaults.{IsReplayFault}
 use Rattle.sd_run.specs.declared.verdict.PairVerdict.{PairVerdict}
 use Rattle.sd_run.specs.declared.verdict.Otherwise.{Otherwise}
 use Rattle.sd_run.specs.declared.verdict.Otherwise.TheVariants.{Unknown, Unproved}
-use Rattle.sd_run.specs.Texts.{Texts, IsWorkOf, digests_of}
+use Rattle.sd_run.specs.Texts.{Texts, programs_of, digests_of}
 use Rattle.sd_run.specs.Verdicts.{verdicts_of}
 use Rattle.sd_run.specs.Report.{report, is_safe}
 
@@ -39,17 +37,16 @@ status_of verdicts = if list_all (λ v. is_safe v.state) verdicts then 0 else 1
 -- The report on two texts from a table of live candidates, whose words are shown: each verdict is what the table says.
 pub record IsReport (otherwise : Otherwise) (t : Texts) (live : List Bool) (o : Outcome) : Type 0 where
   pub verdicts :
-      o.pairs ≡ verdicts_of otherwise (core_program t.old) (core_program t.new)
-      (pairs_of (core_program t.old) (core_program t.new)) live
+      o.pairs ≡ verdicts_of otherwise (programs_of t) (pairs_in (programs_of t)) live
   pub words : o.table ≡ words_of live
   pub status : o.status ≡ status_of o.pairs
-  pub text : o.text ≡ report (core_program t.old) (core_program t.new) o.pairs
+  pub text : o.text ≡ report (programs_of t).old (programs_of t).new o.pairs
 
 -- a certificate is there where a file is named for it, and shows this table
-abbrev pub IsCertified : Texts → Held → List Bool → Option (List ℕ) → Option (List ℕ × List ℕ) → Type 0
-IsCertified t h live None None = Unit {0}
-IsCertified t h live (Some name) (Some file) = (file.0 ≡ name) × Accepts h (digests_of t) file.1 live
-IsCertified t h live _ _ = ⊥
+abbrev pub IsCertified : Texts → List Bool → Option (List ℕ) → Option (List ℕ × List ℕ) → Type 0
+IsCertified t live None None = Unit {0}
+IsCertified t live (Some name) (Some file) = (file.0 ≡ name) × Accepts (programs_of t) (digests_of t) file.1 live
+IsCertified t live _ _ = ⊥
 
 -- how many cubes a search for a proof may close
 abbrev pub default_leaves : ℕ
@@ -57,28 +54,22 @@ default_leaves = 2000
 
 -- Two texts were compared: each live candidate has a proof, and each other one died lawfully.
 pub record IsComparison (name : Option (List ℕ)) (t : Texts) (o : Outcome) : Type 0 where
-  pub work : Held
-  pub is_work : IsWorkOf t work
   pub live : List Bool
   pub proofs : List Proved
-  pub settled : IsSettled default_leaves work live o.deaths proofs
+  pub settled : IsSettled default_leaves (programs_of t) live o.deaths proofs
   pub is_report : IsReport Unknown t live o
-  pub certified : IsCertified t work live name o.certificate
+  pub certified : IsCertified t live name o.certificate
 
 -- a certificate of two texts was replayed
 pub record IsReplay (bytes : List ℕ) (t : Texts) (o : Outcome) : Type 0 where
-  pub work : Held
-  pub is_work : IsWorkOf t work
   pub live : List Bool
-  pub accepted : Accepts work (digests_of t) bytes live
+  pub accepted : Accepts (programs_of t) (digests_of t) bytes live
   pub is_report : IsReport Unproved t live o
   pub no_death : o.deaths ≡ []
   pub no_certificate : o.certificate ≡ None
 
 -- these bytes are no certificate of two texts, because of this fault
 pub record IsRefused (bytes : List ℕ) (t : Texts) (e : CertError) : Type 0 where
-  pub work : Held
-  pub is_work : IsWorkOf t work
-  pub fault : IsReplayFault work (digests_of t) bytes e
+  pub fault : IsReplayFault (programs_of t) (digests_of t) bytes e
   pub named : e ≢ NoMemory
-  pub none : (live : List Bool) → Accepts work (digests_of t) bytes live → ⊥
+  pub none : (live : List Bool) → Accepts (programs_of t) (digests_of t) bytes live → ⊥

@@ -1,8 +1,8 @@
 -- The texts and the reply of the code, as they are spoken of.
-use Rattle.std.specs.Prelude.{◌≡◌, ◌⊎◌, ◌<◌, ℕ, List, Option, None, Some, length}
+use Rattle.std.specs.Prelude.{◌≡◌, ◌⊎◌, ◌<◌, ◌≤◌, ℕ, List, Option, None, Some, length}
 use Rattle.sd_kernel.specs.declared.proved.Proved.{Proved}
 use Rattle.sd_rounds.specs.declared.settle.Death.{Death}
-use Rattle.sd_product.specs.Work.{Held}
+use Rattle.sd_product.specs.Work.{PairedPrograms}
 use Rattle.sd_cert.specs.declared.fault.CertError.{CertError}
 use Rattle.sd_cert.specs.Written.{IsWritten}
 use Rattle.sd_base.specs.Outside.{WhereKnown}
@@ -17,7 +17,7 @@ use Rattle.sd_run.specs.declared.reply.NamedCertificate.{NamedCertificate}
 use Rattle.sd_run.specs.declared.reply.Report.{Report}
 use Rattle.sd_run.specs.declared.reply.Reply.{Reply}
 use Rattle.sd_run.specs.declared.matching.Matched.{Matched}
-use Rattle.sd_run.specs.Texts.{Holds, Texts, IsWorkOf, clash_of, digests_of}
+use Rattle.sd_run.specs.Texts.{Holds, Texts, programs_of, clash_of, digests_of}
 use Rattle.sd_run.specs.Words.{Task, verify, replay}
 use Rattle.sd_run.specs.Outcome.{Outcome, message, IsComparison, IsReplay, IsRefused}
 use Rattle.sd_run.specs.Report.{certificate_size}
@@ -32,7 +32,7 @@ texts_of old new =
 pub record IsMatched (m : Matched) : Type 0 where
   pub old_accepted : IsAccepted m.old.bytes.items m.old.program
   pub new_accepted : IsAccepted m.new.bytes.items m.new.program
-  pub is_work : IsWorkOf (texts_of m.old m.new) m.work
+  pub is_work : m.work ≡ programs_of (texts_of m.old m.new)
   pub no_clash : clash_of (texts_of m.old m.new) ≡ None
 
 abbrev pub named : Option NamedCertificate → Option (List ℕ × List ℕ)
@@ -63,10 +63,10 @@ outcome_with report deaths certificate =
     }
 
 -- the certificate is made where a file is named for it
-abbrev pub IsMade : Texts → Held → List Proved → Option (List ℕ) → Option (List ℕ × List ℕ) → Type 0
-IsMade t h proofs None None = Unit {0}
-IsMade t h proofs (Some name) (Some file) = (file.0 ≡ name) × IsWritten h (digests_of t) proofs file.1
-IsMade t h proofs _ _ = ⊥
+abbrev pub IsMade : Texts → PairedPrograms → List Proved → Option (List ℕ) → Option (List ℕ × List ℕ) → Type 0
+IsMade t work proofs None None = Unit {0}
+IsMade t work proofs (Some name) (Some file) = (file.0 ≡ name) × IsWritten work (digests_of t) proofs file.1
+IsMade t work proofs _ _ = ⊥
 
 -- what is answered where the text that this word names has a fault
 abbrev pub IsTextReply : List ℕ → TextFault → Outcome → Type 0
@@ -91,7 +91,7 @@ IsJudged bytes t o = IsReplay bytes t o ⊎ ((e : CertError) × IsRefused bytes 
 abbrev pub IsReplayReply : Option (List ℕ) → Texts → Outcome → Type 0
 IsReplayReply known t o =
     (WhereKnown known (λ bytes. 9223372036854775807 < length bytes) × (o ≡ message 9 certificate_size))
-    ⊎ ((bytes : List ℕ) × Holds known bytes × IsJudged bytes t o)
+    ⊎ ((bytes : List ℕ) × Holds known bytes × (length bytes ≤ 9223372036854775807) × IsJudged bytes t o)
 
 -- what a task on two texts comes to
 abbrev pub IsTaskReply : Task → (List ℕ → Option (List ℕ)) → Texts → Outcome → Type 0

@@ -1,9 +1,9 @@
 -- Which texts are accepted, and what is said of others.
-use Rattle.std.specs.Prelude.{◌≡◌, ◌≢◌, ℕ, true, false, List, [], ◌++◌, Some, Ok, Err, codes, decimal}
+use Rattle.std.specs.Prelude.{◌≡◌, ◌≢◌, ℕ, List, [], ◌++◌, Some, Ok, Err, codes, decimal}
 use Rattle.sd_base.specs.declared.Place.{Place}
 use Rattle.sd_base.specs.Value.{Text}
 use Rattle.sd_ast.specs.declared.Program.{Program}
-use Rattle.sd_run.specs.Compared.{is_compared_program}
+use Rattle.sd_run.specs.ComparedPrograms.{IsComparedProgram}
 use Rattle.sd_lex.specs.declared.token.LexError.{LexError}
 use Rattle.sd_lex.specs.declared.token.LexError.TheVariants as lex
 use Rattle.sd_parse.specs.declared.answer.ReadError.{ReadError}
@@ -20,14 +20,14 @@ use Rattle.sd_run.specs.Report.{line_end}
 pub record IsAccepted (bytes : List ℕ) (P : Program) : Type 0 where
   pub read : IsReading bytes (Ok P)
   pub typed : WellTyped P
-  pub form : is_compared_program P ≡ true
+  pub form : IsComparedProgram P
 
 -- The text isn't read, or it breaks a rule on names and types, or its form isn't accepted yet.
 abbrev pub IsTextRefusal : List ℕ → TextRefusal → Type 0
 IsTextRefusal bytes (Reading e) = IsReading bytes (Err e) × (e ≢ read.NoMemory)
 IsTextRefusal bytes (Typing e) =
     (P : Program) × IsReading bytes (Ok P) × (first_broken P ≡ Some e) × (e ≢ kind.NoMemory)
-IsTextRefusal bytes NotYet = (P : Program) × IsReading bytes (Ok P) × WellTyped P × (is_compared_program P ≡ false)
+IsTextRefusal bytes NotYet = (P : Program) × IsReading bytes (Ok P) × WellTyped P × (IsComparedProgram P → ⊥)
 
 -- ---- what is said
 

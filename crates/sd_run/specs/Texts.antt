@@ -5,7 +5,7 @@ use Rattle.sd_base.specs.Outside.{WhereKnown}
 use Rattle.sd_ast.specs.declared.Program.{Program}
 use Rattle.sd_extract.specs.Programs.{core_program}
 use Rattle.sd_match.specs.Refusals.{Refusal, refusal_of}
-use Rattle.sd_product.specs.Work.{Held, IsHeld}
+use Rattle.sd_product.specs.Work.{PairedPrograms}
 use Rattle.sd_cert.specs.declared.digest.Digests.{Digests}
 use Rattle.sd_run.specs.Words.{JobNames}
 use Rattle.sd_run.specs.TextRefusals.{IsAccepted}
@@ -21,15 +21,17 @@ pub record Texts : Type 0 where
   pub old : Program
   pub new : Program
 
--- why their core programs can't be compared
-abbrev pub clash_of : Texts → Option Refusal
-clash_of t = refusal_of (core_program t.old) (core_program t.new)
+-- the core programs of two programs
+abbrev pub core_programs : Program → Program → PairedPrograms
+core_programs P Q = record { old = core_program P; new = core_program Q }
 
--- what they give to judge
-pub record IsWorkOf (t : Texts) (h : Held) : Type 0 where
-  pub old : h.old ≡ core_program t.old
-  pub new : h.new ≡ core_program t.new
-  pub held : IsHeld h
+-- what the texts give to judge
+abbrev pub programs_of : Texts → PairedPrograms
+programs_of t = core_programs t.old t.new
+
+-- why it can't be judged
+abbrev pub clash_of : Texts → Option Refusal
+clash_of t = refusal_of (programs_of t).old (programs_of t).new
 
 -- the digests of the texts and of absent settings
 abbrev pub digests_of : Texts → Digests

@@ -1,22 +1,20 @@
--- What is said of each pair of procedures.
+-- What is said of each pair of procedures, from the table. `PlainVerdicts` says it in plain words.
 use Rattle.std.specs.Prelude.{◌≡◌, Bool, true, false, ◌&&◌, ◌||◌, List, [], ◌∷◌, ◌++◌, length, drop, Option, Some, is_some, slice_get, Contains, if◌then◌else◌}
 use Rattle.std.specs.List.{AllByRecursion}
 use Rattle.sd_ast.specs.declared.Program.{Program}
 use Rattle.sd_meaning.specs.NewFailure.{NewFailure}
 use Rattle.sd_core.specs.declared.CoreProc.{CoreProc}
-use Rattle.sd_core.specs.declared.CoreProgram.{CoreProgram}
 use Rattle.sd_match.specs.declared.pair.PairState.{PairState}
 use Rattle.sd_match.specs.declared.pair.PairState.TheVariants as pair_state
 use Rattle.sd_match.specs.declared.pair.Pair.{Pair}
 use Rattle.sd_cand.specs.declared.candidate.Claim.{Claim}
 use Rattle.sd_cand.specs.declared.candidate.Claim.TheVariants.{Flag}
 use Rattle.sd_cand.specs.declared.candidate.Candidate.{Candidate}
-use Rattle.sd_cand.specs.Candidates.{candidates_of}
 use Rattle.sd_base.specs.Value.{Text}
 use Rattle.sd_extract.specs.Programs.{core_program}
-use Rattle.sd_match.specs.Pairs.{pairs_of}
 use Rattle.sd_product.specs.Query.{Claimed}
-use Rattle.sd_product.specs.Work.{claims_of}
+use Rattle.sd_product.specs.Work.{PairedPrograms, candidates_in_pair, claims_in}
+use Rattle.sd_run.specs.Texts.{core_programs}
 use Rattle.sd_rounds.specs.declared.settle.Cause.{Cause}
 use Rattle.sd_rounds.specs.declared.settle.Cause.TheVariants.{Spent}
 use Rattle.sd_rounds.specs.declared.settle.Death.{Death}
@@ -57,15 +55,16 @@ verdict_by o pair live (Some p) (Some q) =
     } ∷ []
 verdict_by o pair live _ _ = []
 
-abbrev pub verdict_of : Otherwise → CoreProgram → CoreProgram → Pair → Bool → List PairVerdict
-verdict_of o P Q pair live = verdict_by o pair live (slice_get P.procs pair.old) (slice_get Q.procs pair.new)
+abbrev pub verdict_of : Otherwise → PairedPrograms → Pair → Bool → List PairVerdict
+verdict_of o work pair live =
+    verdict_by o pair live (slice_get work.old.procs pair.old) (slice_get work.new.procs pair.new)
 
 -- the verdicts of pairs, of which the table has the candidates one after another
-abbrev pub verdicts_of : Otherwise → CoreProgram → CoreProgram → List Pair → List Bool → List PairVerdict
-verdicts_of o P Q [] table = []
-verdicts_of o P Q (pair ∷ pairs) table =
-    verdict_of o P Q pair (flag_live (candidates_of pair) table)
-    ++ verdicts_of o P Q pairs (drop (length (candidates_of pair)) table)
+abbrev pub verdicts_of : Otherwise → PairedPrograms → List Pair → List Bool → List PairVerdict
+verdicts_of o work [] table = []
+verdicts_of o work (pair ∷ pairs) table =
+    verdict_of o work pair (flag_live (candidates_in_pair work pair) table)
+    ++ verdicts_of o work pairs (drop (length (candidates_in_pair work pair)) table)
 
 -- no pair that is said to be safe has a new failure
 abbrev pub NoNewFailure : Program → Program → List PairVerdict → Type 0
@@ -81,7 +80,7 @@ pub record IsSpentPair (P Q : Program) (deaths : List Death) (f g : Text) : Type
   pub died : Contains deaths death
   pub spent : is_spent death.cause ≡ true
   pub claim : Claimed
-  pub claim_is : slice_get (claims_of (pairs_of (core_program P) (core_program Q))) death.candidate ≡ Some claim
+  pub claim_is : slice_get (claims_in (core_programs P Q)) death.candidate ≡ Some claim
   pub old : CoreProc
   pub old_is : slice_get (core_program P).procs claim.pair.old ≡ Some old
   pub old_name : old.name ≡ f

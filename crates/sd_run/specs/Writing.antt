@@ -60,8 +60,8 @@ abbrev pub FileRose : Option (List ℕ × List ℕ) → (List ℕ → ℕ) → (
 FileRose None before now = ⊥
 FileRose (Some file) before now = Rose (before file.0) (now file.0)
 
--- The writing was cut short: that of the certificate, and then nothing of the text was written; or that of the text, and then
--- the certificate is whole.
+-- The writing was cut short: that of the certificate, and then nothing of the text was written; or that of the text,
+-- and then the certificate is whole.
 abbrev pub IsCutShort : Option (List ℕ × List ℕ) → CertificateFile → List ℕ → Option (List ℕ) → Option (List ℕ) → Type 0
 IsCutShort certificate file text before now =
     (IsBroken file × (now ≡ before))

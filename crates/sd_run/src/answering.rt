@@ -1,10 +1,11 @@
 //! The reply to the words of a command line.
-ghost use Rattle.std.specs.Prelude.{◌≡◌, ◌≢◌, ◌↔◌, IfOk, IsErrOf, Err, map, string_bytes};
+ghost use Rattle.std.specs.Prelude.{◌≡◌, ◌≢◌, ◌↔◌, IfOk, IsErrOf, Err, None, map, string_bytes};
 ghost use Rattle.sd_base.specs.Causes.{NoFault};
 ghost use Rattle.sd_base.specs.Outside.{AllStay};
 ghost use Rattle.sd_run.specs.Answer.{Answer, CertificateRose, ReadRose};
 ghost use Rattle.sd_run.specs.Jobs.{task_of};
 ghost use Rattle.sd_run.specs.TextRefusals.{IsAccepted};
+ghost use Rattle.sd_run.specs.Texts.{clash_of};
 ghost use Rattle.sd_run.specs.Replies.{outcome_of, texts_of, IsMatched, IsTextReply, IsTaskReply, IsTextsReply};
 
 use crate::comparing::compare;
@@ -71,8 +72,8 @@ fn reply_on<'a, F: Files>(
     requires new_accepted { IsAccepted new.bytes.items new.program }
     ensures reply { IfOk result (λ reply. IsTextsReply (task_of task.entry) (F.content files.old) (texts_of old new)
         (outcome_of reply)) }
-    ensures cause { IsErrOf result Stop.Failed → CertificateRose (task_of task.entry) (F.read_faults files.old)
-        (F.read_faults files.new) }
+    ensures cause { IsErrOf result Stop.Failed → (clash_of (texts_of old new) ≡ None)
+        × CertificateRose (task_of task.entry) (F.read_faults files.old) (F.read_faults files.new) }
     ensures stay { AllStay F.content files.old files.new }
     ensures no_fault { result ≢ Err Stop.Failed
         → NoFault F.read_faults F.start_faults F.append_faults files.old files.new }
@@ -91,8 +92,8 @@ pub fn reply_to<'a, F: Files>(
 ) -> Result<Reply<'a>, Stop>
     ensures answer { IfOk result (λ reply. Answer (map string_bytes words.now) (F.content files.old)
         (outcome_of reply)) }
-    ensures read_fault { IsErrOf result Stop.Failed → ReadRose (map string_bytes words.now) (F.read_faults files.old)
-        (F.read_faults files.new) }
+    ensures read_fault { IsErrOf result Stop.Failed → ReadRose (map string_bytes words.now) (F.content files.old)
+        (F.read_faults files.old) (F.read_faults files.new) }
     ensures first_fault { result ≢ Err Stop.Failed
         → NoFault F.read_faults F.start_faults F.append_faults files.old files.new }
     ensures stay { AllStay F.content files.old files.new }

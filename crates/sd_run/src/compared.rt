@@ -1,7 +1,8 @@
 //! The test for programs over truth values and integers, without products.
-ghost use Rattle.std.specs.Prelude.{◌≡◌};
+ghost use Rattle.std.specs.Prelude.{◌≡◌, ◌↔◌, true};
 ghost use Rattle.std.specs.List.{list_all};
 ghost use Rattle.sd_run.specs.Compared as form;
+ghost use Rattle.sd_run.specs.ComparedPrograms.{IsComparedProgram};
 
 use sd_ast::{
     BinOp, Body, Decl, Expr, ExprKind, Head, Invariant, Left, Program, Spec, Stmt, StmtKind,
@@ -11,13 +12,15 @@ use sqlite_items::{Boxed, Items};
 
 /// Whether a program is compared today: it is over truth values and integers, without products, functions, constants and axioms.
 pub fn is_compared_program(program: &Program) -> bool
-    ensures { result ≡ form.is_compared_program program.now }
+    ensures { (result ≡ true) ↔ IsComparedProgram program.now }
 {
-    program
-        .decls
-        .as_slice()
-        .iter()
-        .all(|decl| is_compared_decl(decl))
+    are_compared_decls(program.decls.as_slice())
+}
+
+fn are_compared_decls(decls: &[Decl]) -> bool
+    ensures { result ≡ list_all form.is_compared_decl decls.now }
+{
+    decls.iter().all(|decl| is_compared_decl(decl))
 }
 
 fn is_compared_decl(decl: &Decl) -> bool

@@ -52,17 +52,20 @@ fn open_state(live: bool, otherwise: Otherwise) -> VerdictState
     }
 }
 
-/// What is said of a pair, by whether a claim on its flags is live.
-fn state_of(
-    alloc: Global,
-    pair: &Pair,
+/// A pair, whether a claim on its flags is live, and what is said of it where none is.
+#[derive(Drop)]
+struct Judged<'a> {
+    pair: &'a Pair,
     live: bool,
     otherwise: Otherwise,
-) -> Result<VerdictState, NoMemory>
-    ensures { IfOk result (λ state. state ≡ state_of otherwise pair.now.state live) }
+}
+
+/// What is said of a pair, by whether a claim on its flags is live.
+fn state_of(alloc: Global, judged: &Judged<'_>) -> Result<VerdictState, NoMemory>
+    ensures { IfOk result (λ state. state ≡ state_of judged.now.otherwise judged.now.pair.now.state judged.now.live) }
 {
-    match &pair.state {
-        PairState::Open => Ok(open_state(live, otherwise)),
+    match &judged.pair.state {
+        PairState::Open => Ok(open_state(judged.live, judged.otherwise)),
         PairState::Signature => Ok(VerdictState::Signature),
         PairState::UnmatchedRecursion(callee) => {
             Ok(VerdictState::UnmatchedRecursion(callee.clone_of(alloc)?))
@@ -74,14 +77,13 @@ fn state_of(
 fn put_found(
     alloc: Global,
     verdicts: &mut Vec<PairVerdict>,
-    pair: &Pair,
-    live: bool,
-    otherwise: Otherwise,
+    judged: &Judged<'_>,
     old: Option<&CoreProc>,
     new: Option<&CoreProc>,
 ) -> Result<(), NoMemory>
     ensures { OnOk result (verdicts.new.items ≡ verdicts.old.items
-        ++ verdict_by otherwise pair.now live (option_copied old.entry) (option_copied new.entry)) }
+        ++ verdict_by judged.now.otherwise judged.now.pair.now judged.now.live
+        (option_copied old.entry) (option_copied new.entry)) }
 {
     let Some(old) = old else {
         return Ok(());
@@ -93,7 +95,7 @@ fn put_found(
         verdicts.push(PairVerdict {
             old: old.name.clone_of(alloc)?,
             new: new.name.clone_of(alloc)?,
-            state: state_of(alloc, pair, live, otherwise)?,
+            state: state_of(alloc, judged)?,
             equal: false,
         })?;
     }
@@ -105,16 +107,14 @@ fn put_verdict(
     alloc: Global,
     verdicts: &mut Vec<PairVerdict>,
     work: &Work,
-    pair: &Pair,
-    live: bool,
-    otherwise: Otherwise,
+    judged: &Judged<'_>,
 ) -> Result<(), NoMemory>
     ensures { OnOk result (verdicts.new.items ≡ verdicts.old.items
-        ++ verdict_of otherwise work.now.old work.now.new pair.now live) }
+        ++ verdict_of judged.now.otherwise work.now judged.now.pair.now judged.now.live) }
 {
-    let old = work.old_program().procs.get(pair.old as usize);
-    let new = work.new_program().procs.get(pair.new as usize);
-    put_found(alloc, verdicts, pair, live, otherwise, old, new)
+    let old = work.old_program().procs.get(judged.pair.old as usize);
+    let new = work.new_program().procs.get(judged.pair.new as usize);
+    put_found(alloc, verdicts, judged, old, new)
 }
 
 /// The verdict of each pair of procedures, from the table of all candidates.
@@ -125,8 +125,7 @@ pub fn verdicts_of(
     otherwise: Otherwise,
 ) -> Result<Vec<PairVerdict>, NoMemory>
     requires { length table.now ≡ length (claims_in work.now) }
-    ensures { IfOk result (λ verdicts. verdicts.items ≡ verdicts_of otherwise work.now.old work.now.new
-        (pairs_in work.now) table.now) }
+    ensures { IfOk result (λ verdicts. verdicts.items ≡ verdicts_of otherwise work.now (pairs_in work.now) table.now) }
 {
     let pairs = work.pairs();
     let end = table.count();
@@ -135,14 +134,13 @@ pub fn verdicts_of(
     'pairs: for place in 0..pairs.len() {
         let candidates = work.candidates_of(place);
         let live = is_flag_live(candidates, table, first);
-        put_verdict(
-            alloc,
-            &mut verdicts,
-            work,
-            pairs.pair(place),
+        let pair = pairs.pair(place);
+        let judged = Judged {
+            pair,
             live,
             otherwise,
-        )?;
+        };
+        put_verdict(alloc, &mut verdicts, work, &judged)?;
         prove!(candidates.len() <= (end - first) as usize);
         first += candidates.len() as u32;
     }

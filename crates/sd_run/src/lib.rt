@@ -6,6 +6,7 @@ mod certificate_error;
 mod compared;
 mod comparing;
 mod judge;
+pub mod laws;
 mod line;
 mod match_error;
 mod matching;

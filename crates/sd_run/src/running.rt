@@ -160,14 +160,16 @@ pub fn run<R: Threads + Sync, F: Files, S: Sink, G: Gate>(
     ensures silent { (result.status.code ≡ 6) ⊎ (result.status.code ≡ 8) → SaysNothing result
         × AllStay F.content files.old files.new × (S.written out.new ≡ S.written out.old) }
 
-    // The faults have their causes, and the first one ends the run.
-    ensures read_fault { result.status.code ≡ 6 → ReadRose (map string_bytes words.now) (F.read_faults files.old)
-        (F.read_faults files.new) }
+    // The faults have their causes, and the first one ends the run: a file is read only where those before it are accepted.
+    ensures read_fault { result.status.code ≡ 6 → ReadRose (map string_bytes words.now) (F.content files.old)
+        (F.read_faults files.old) (F.read_faults files.new) }
     ensures write_fault { result.status.code ≡ 7
         → (result.certificate_file ≡ CertificateFile.NotStarted
-        → CertificateWriteRose (map string_bytes words.now) (F.start_faults files.old) (F.start_faults files.new))
+        → CertificateWriteRose (map string_bytes words.now) (F.content files.old)
+        (F.start_faults files.old) (F.start_faults files.new))
         × (result.certificate_file ≡ CertificateFile.Cut
-        → CertificateWriteRose (map string_bytes words.now) (F.append_faults files.old) (F.append_faults files.new))
+        → CertificateWriteRose (map string_bytes words.now) (F.content files.old)
+        (F.append_faults files.old) (F.append_faults files.new))
         × ((IsBroken result.certificate_file → ⊥) → Rose (S.faults out.old) (S.faults out.new)) }
     ensures first_fault { result.status.code ≢ 6 → (IsBroken result.certificate_file → ⊥)
         → NoFault F.read_faults F.start_faults F.append_faults files.old files.new }

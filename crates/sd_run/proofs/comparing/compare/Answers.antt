@@ -1,4 +1,3 @@
-use Rattle.std.proofs.Common.{sym, subst}
 use Rattle.std.specs.Option.{option_copied}
 use Rattle.sd_run.specs.Replies.{texts_of, named, outcome_with}
 use Rattle.sd_run.proofs.Certified.{settled-ascends, comparison-of}

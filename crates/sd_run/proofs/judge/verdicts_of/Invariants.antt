@@ -5,6 +5,6 @@ use Rattle.sd_run.proofs.judge.verdicts_of.Given as goal
 
 abbrev pub invariant-pairs : goal.invariant-pairs
 invariant-pairs l = record {
-  left : l.first + length (claims_of (drop l.place (pairs_in l.work))) ≡ length l.table;
-  done : verdicts_of l.otherwise l.work.old l.work.new (pairs_in l.work) l.table ≡ l.verdicts.items ++ verdicts_of l.otherwise l.work.old l.work.new (drop l.place (pairs_in l.work)) (drop l.first l.table);
+  left : l.first + length (claims_of l.work (drop l.place (pairs_in l.work))) ≡ length l.table;
+  done : verdicts_of l.otherwise l.work (pairs_in l.work) l.table ≡ l.verdicts.items ++ verdicts_of l.otherwise l.work (drop l.place (pairs_in l.work)) (drop l.first l.table);
 }

@@ -1,4 +1,4 @@
-use Rattle.std.proofs.Common.{[], ◌∙◌, inl, inr, refl}
+use Rattle.std.proofs.Common.{inl, inr, refl}
 use Rattle.std.specs.Prelude.{None}
 use Rattle.sd_run.specs.Replies.{texts_of, outcome_with}
 use Rattle.sd_run.proofs.Certified.{replay-of, refused-of, ok-map}

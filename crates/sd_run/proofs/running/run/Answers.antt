@@ -1,5 +1,4 @@
-use Rattle.std.proofs.Common.{◌∙◌, ap, sym, subst, refl, take, inl, inr}
-use Rattle.std.specs.Prelude.{string_bytes}
+use Rattle.std.proofs.Common.{◌∙◌, ap, sym, refl, take, inl, inr, Err}
 use Rattle.sd_base.specs.Outside.{appended}
 use Rattle.sd_run.specs.Replies.{named, outcome_of}
 use Rattle.sd_run.proofs.Rows.{known_by, six_known, seven_known, eight_known, row_known}
@@ -115,3 +114,6 @@ returns-then-is_broken-clause-write_fault g c _ =
 pub returns-in-Ok-write_all-clause-write_fault : goal.returns-in-Ok-write_all-clause-write_fault
 returns-in-Ok-write_all-clause-write_fault g c seven =
     absurd (row_apart _ _ (outcome_of c.in-Ok.reply) c.in-Ok.ensures.answer (inr (inl (sym c.end_with-in-Ok-write_all.ensures.status ∙ seven))))
+
+pub returns-in-Err-Failed-clause-read_fault : goal.returns-in-Err-Failed-clause-read_fault
+returns-in-Err-Failed-clause-read_fault g c _ = c.in-Err-Failed.ensures.read_fault (ap Err c.in-Err-Failed.field-0-is)
