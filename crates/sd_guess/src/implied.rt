@@ -45,6 +45,9 @@ impl State {
                 None => Ok(()),
             };
         }
+        if !bears_on(&difference, sides, &self.rows)? {
+            return Ok(());
+        }
         let wrong = self.facts.assume(number, true)?;
         for back in [false, true] {
             if let Some(refutation) = self.refuted_by_bounds(wrong, back, sides)? {

@@ -2,6 +2,7 @@
 use crate::facts::{Node, Origin, Refutation};
 use crate::state::{Level, State, Undo};
 use crate::stop::Stop;
+use crate::terms::Shape;
 
 /// How much a try may cost.
 #[derive(Clone, Copy, Debug)]
@@ -182,16 +183,28 @@ impl State {
         }
     }
 
+    fn is_equality(&self, term: u32) -> Result<bool, Stop> {
+        match self.terms.shape(term)? {
+            Shape::Eq(_, _) => Ok(true),
+            _ => Ok(false),
+        }
+    }
+
     /// Refutes the last level, if the budget lets it. All levels above are left.
     pub fn refute_level(&mut self, budget: Budget) -> Result<Tried, Stop> {
         let base = self.levels.len();
         let mut conflicts = budget.conflicts;
         let mut tried = Tried::Spent;
+        // Whether the last level assumes an equality, and nothing was refuted there yet: such a conflict costs nothing.
+        let mut is_unit = false;
         for _ in 0..u32::MAX {
             self.propagate()?;
             if let Some(conflict) = self.conflict {
                 self.conflict = None;
-                conflicts = conflicts.saturating_sub(1);
+                if !is_unit {
+                    conflicts = conflicts.saturating_sub(1);
+                }
+                is_unit = false;
                 let refutation = self.wrap(conflict, self.level_start())?;
                 if self.levels.len() <= base {
                     return Ok(Tried::Refuted(refutation));
@@ -203,7 +216,10 @@ impl State {
                 break;
             }
             match self.next_split()? {
-                Some((term, value)) => self.open_level(term, value)?,
+                Some((term, value)) => {
+                    self.open_level(term, value)?;
+                    is_unit = self.is_equality(term)?;
+                }
                 None => {
                     if base == 0 {
                         self.settled = Some(self.current_values()?);
