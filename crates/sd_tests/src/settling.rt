@@ -69,10 +69,10 @@ fn one_sweep_is_enough_where_nothing_dies(rt: HostRuntime) -> Result<(), Fail> {
 fn a_search_with_too_few_leaves_is_spent(rt: HostRuntime) -> Result<(), Fail> {
     let alloc = rt.alloc();
     let (old, new) = (AT_LEAST_ONE, AT_LEAST_ZERO);
-    // The denial of both claims is that `0 <= x` of the new side is false and `1 <= x` of the old one true. They are split in this order,
-    // each where it is true first. Where the first is true, the denial is false: one leaf. Where it is false and the second is true, all facts
-    // of claim 0 are true, and the equality of the two `x` closes claim 1 by rows: two leaves. Where the second is false, the denial is: three.
-    assert!(rt; is_settled(alloc, old, new, 1, 2, &[(0, 3, Some(1)), (1, 2, Some(1))])?);
+    // The denial of both claims is that `0 <= x` of the new side is false and `1 <= x` of the old one true. Claim 0 has no condition: these
+    // values are an open cube, however few the leaves are. For claim 1 each of the two values is forced by a leaf, and the equality of the
+    // two `x` closes the branch by rows: three leaves, and no proof has less, since the facts say nothing of rows before.
+    assert!(rt; is_settled(alloc, old, new, 1, 2, &[(0, 3, None), (1, 2, Some(1))])?);
     assert!(rt; is_settled(alloc, old, new, 2, 2, &[(0, 3, None), (1, 2, Some(2))])?);
     assert!(rt; is_settled(alloc, old, new, 3, 2, &[(0, 3, None)])?);
     Ok(())
