@@ -20,13 +20,16 @@ folders. A time is the least of R runs (3 unless --runs says another number), a 
   (Debian's packages `boogie` and `z3`) Boogie runs on one text of products of the same 200 pairs: a procedure a pair, which takes
   both bodies one after the other with a flag for each, and asserts that the new flag implies the old one.
 
+- `verify` on the rows of `tests/rows` that say how many branches a proof closes at most, and on one body of 50, 100 and 200
+  statements that is changed at its end alone.
+
 Last it prints for some pairs over integers how many sweeps there were, and how many branches and steps the proofs of the
 certificate have, and sees that `replay` accepts it.
 
 It is no part of the gate. The status is 0 where each answer is right, all ratios are below 2.5, the text of 2N procedures takes
 less than a second and 200 MB, the replay of the first certificate less than a second, the text of 2N procedures of 20 statements
-less than a second, the longest text less than 4 seconds and 3 GB, and the 200 pairs over integers less than Boogie takes for their
-products. Where one of these fails a line says so, and the status is 1. Where the program isn't there it is 2.
+less than a second, the longest text less than 4 seconds and 3 GB, the 200 pairs over integers less than Boogie takes for their
+products, and each row with a number of branches less than a second. Where one of these fails a line says so, and the status is 1. Where the program isn't there it is 2.
 """
 
 import argparse
@@ -46,7 +49,7 @@ GREATEST_SECONDS = 1.0
 GREATEST_BYTES = 200_000_000
 LEAST_STEPS = 10_000
 REPLAY_PARAMETERS = 8
-REPLAY_PROCEDURES = 4
+REPLAY_PROCEDURES = 8
 LONGEST_TEXT = 16_777_216
 READING_SECONDS = 4.0
 READING_BYTES = 3_000_000_000
@@ -587,9 +590,79 @@ def check_shown(program, given, complaints):
         show_proofs(program, name, case, complaints)
 
 
+# ---- how proofs grow
+
+ROWS = os.path.join(HERE, "..", "tests", "rows")
+# The counts of statements of one body.
+BODY_STATEMENTS = (50, 100, 200)
+
+
+def read_file(*names):
+    with open(os.path.join(*names), encoding="utf-8") as file:
+        return file.read()
+
+
+def proofs_of(lines):
+    """The lines of each proof of a certificate."""
+    proofs = []
+    for line in lines:
+        if line.startswith("candidate "):
+            proofs.append([])
+        elif proofs and not line.startswith(("pair ", "end")):
+            proofs[-1].append(line)
+    return proofs
+
+
+def show_growth(program, name, case, runs, complaints):
+    """Prints the time of a case, and what its proofs and its certificate come to; the least time is returned."""
+    with tempfile.TemporaryDirectory() as folder:
+        put_texts(folder, case)
+        what = "%s under a certificate" % name
+        seconds, _ = least_time([program, *CERTIFY], folder, runs, lambda ran: is_answer(case, ran), what, complaints)
+        lines = read_lines(folder, "certificate") if os.path.exists(os.path.join(folder, "certificate")) else []
+        size = sum(len(line) + 1 for line in lines)
+    counts = [count_steps(proof) for proof in proofs_of(lines)]
+    steps, branches = max((steps for steps, _ in counts), default=0), max((leaves for _, leaves in counts), default=0)
+    print("%-48s %3d proofs, the longest %5d branches %6d steps  %8d bytes" % (name, len(counts), branches, steps, size), end="")
+    print("  %8.3f s" % seconds)
+    return seconds
+
+
+def statements_case(count):
+    """One body of so many statements over integers, whose last assertion is written otherwise."""
+    kinds = ("  r := r + b;\n", "  if (r > {0}) {{ r := r - 1; }}\n", "  r := r - {0};\n")
+    body = "".join(kinds[number % 3].format(number) for number in range(count))
+    text = "procedure f(a: int, b: int) returns (r: int) {\n  r := a;\n" + body + "  assert %s;\n}\n"
+    return Case(text % "r != 7", text % "!(r == 7)", 0, "safe f f\n" + last_line(1))
+
+
+def check_growth(program, given, complaints):
+    """Shows how the proofs of the rows and of ever longer bodies grow."""
+    for name in sorted(os.listdir(ROWS)):
+        if os.path.exists(os.path.join(ROWS, name, "branches")):
+            texts = [read_file(ROWS, name, file) for file in ("old.bpl", "new.bpl", "stdout")]
+            seconds = show_growth(program, name, Case(texts[0], texts[1], 0, texts[2]), given.runs, complaints)
+            keep_below(name, seconds, GREATEST_SECONDS, "s", complaints)
+    before = None
+    for count in BODY_STATEMENTS:
+        seconds = show_growth(program, "%d statements" % count, statements_case(count), 1, complaints)
+        if before is not None:
+            compare_times("of a body of %d and %d statements" % (count, count // 2), before, seconds, complaints)
+        before = seconds
+
+
 # ---- all of it
 
-CHECKS = (check_procedures, check_calls, check_replay, check_statements, check_reading, check_integers, check_shown)
+CHECKS = (
+    check_procedures,
+    check_calls,
+    check_replay,
+    check_statements,
+    check_reading,
+    check_integers,
+    check_shown,
+    check_growth,
+)
 
 
 def words_given():

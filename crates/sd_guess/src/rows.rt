@@ -32,7 +32,7 @@ pub struct Rows {
 }
 
 /// How many cells all rows may have.
-const MOST_CELLS: usize = 1 << 20;
+const MOST_CELLS: usize = 1 << 22;
 
 impl Rows {
     pub fn new(alloc: Global, effort: u64) -> Rows {

@@ -11,7 +11,7 @@ use sqlite_items::Items;
 use std::alloc::Global;
 
 /// What a whole guess may cost, in small steps.
-const EFFORT: u64 = 6_000_000;
+const EFFORT: u64 = 40_000_000;
 
 /// How many levels may be open where the whole query is tried.
 const MOST_LEVELS: usize = 1000;
