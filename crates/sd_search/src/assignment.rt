@@ -148,7 +148,13 @@ impl Assignment {
             return Err(NoMemory);
         }
         let values = known_values(alloc, terms, trail)?;
-        match branch_choice(query, terms, trail, self.facts.as_slice(), values.as_slice())? {
+        match branch_choice(
+            query,
+            terms,
+            trail,
+            self.facts.as_slice(),
+            values.as_slice(),
+        )? {
             Choice::Settled => {
                 let literals = atom_literals(alloc, terms, values.as_slice())?;
                 let cube = cube_of(alloc, self.extra.as_slice(), literals.as_slice())?;
