@@ -146,8 +146,8 @@ impl State {
         Ok(false)
     }
 
-    /// Whether the sides of an equality of integers are equal by the solved equalities (some `true`), or differ by a number other
-    /// than 0 (some `false`).
+    /// Whether the sides of an equality of integers are equal by the solved equalities (some `true`), or differ by a
+    /// number other than 0 (some `false`).
     pub fn is_zero_difference(&mut self, equality: u32) -> Result<Option<bool>, Stop> {
         let crate::terms::Shape::Eq(a, b) = self.terms.shape(equality)? else {
             return Ok(None);

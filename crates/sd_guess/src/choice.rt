@@ -109,8 +109,8 @@ impl State {
         Ok(columns)
     }
 
-    /// Of the facts without a value the one with fewest open atoms: the last fact of the query first, then those that share a
-    /// column with the goal.
+    /// Of the facts without a value the one with fewest open atoms: the last fact of the query first, then those that
+    /// share a column with the goal.
     fn best_chance(&mut self, goals: &[u32]) -> Result<Option<Chance>, Stop> {
         let columns = match goals.first() {
             Some(goal) => self.columns_of(*goal)?,

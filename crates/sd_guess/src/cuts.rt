@@ -1,4 +1,5 @@
-//! Equalities that are proved first: those of the query, and those of choices that stand at one place in the two bodies.
+//! Equalities that are proved first: those of the query, and those of choices that stand at one place in the two
+//! bodies.
 use crate::levels::Budget;
 use crate::state::State;
 use crate::stop::Stop;
@@ -65,7 +66,8 @@ impl State {
         Ok((old, new))
     }
 
-    /// The bodies that each term of the query belongs to. The two sides of a true equality of symbols belong to the two bodies.
+    /// The bodies that each term of the query belongs to. The two sides of a true equality of symbols belong to the
+    /// two bodies.
     fn sides(&self) -> Result<Vec<Sides>, Stop> {
         let none = Sides {
             old: false,
@@ -116,7 +118,8 @@ impl State {
         }
     }
 
-    /// Tries each equality, again and again while one is proved. What is left comes back; none of it matters where there is a conflict.
+    /// Tries each equality, again and again while one is proved. What is left comes back; none of it matters where
+    /// there is a conflict.
     pub fn try_cuts(&mut self, pairs: Vec<Pair>, budget: Budget) -> Result<Vec<Pair>, Stop> {
         let mut left = pairs;
         for _ in 0..u32::MAX {

@@ -101,7 +101,8 @@ impl State {
         Ok(parted)
     }
 
-    /// Adds each sum of a low and a high row without the column. False where there is a conflict or there are too many.
+    /// Adds each sum of a low and a high row without the column. False where there is a conflict or there are too
+    /// many.
     fn combine_all(&mut self, parted: &mut Parted) -> Result<bool, Stop> {
         for low in parted.low.iter() {
             for high in parted.high.iter() {

@@ -114,7 +114,8 @@ impl State {
     }
 }
 
-/// Whether a difference may be decided: it is a number, or a bound has its left side or the opposite one, up to a factor.
+/// Whether a difference may be decided: it is a number, or a bound has its left side or the opposite one, up to a
+/// factor.
 fn bears_on(
     difference: &Difference,
     sides: &LeftSides,

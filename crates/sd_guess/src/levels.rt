@@ -160,7 +160,8 @@ impl State {
         }
     }
 
-    /// Leaves the last level with its refutation: the opposite of its assumption is forced, or the conflict is that of the level below.
+    /// Leaves the last level with its refutation: the opposite of its assumption is forced, or the conflict is that
+    /// of the level below.
     pub fn return_with(&mut self, refutation: Refutation) -> Result<(), Stop> {
         let level = self.close_level()?;
         let uses_assumption = self
@@ -195,7 +196,8 @@ impl State {
         let base = self.levels.len();
         let mut conflicts = budget.conflicts;
         let mut tried = Tried::Spent;
-        // Whether the last level assumes an equality, and nothing was refuted there yet: such a conflict costs nothing.
+        // Whether the last level assumes an equality, and nothing was refuted there yet: such a conflict costs
+        // nothing.
         let mut is_unit = false;
         for _ in 0..u32::MAX {
             self.propagate()?;

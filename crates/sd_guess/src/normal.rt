@@ -76,7 +76,8 @@ impl State {
         Ok(None)
     }
 
-    /// The row with its solved columns replaced, divided by the greatest divisor of its factors; none where it goes beyond the bounds.
+    /// The row with its solved columns replaced, divided by the greatest divisor of its factors; none where it goes
+    /// beyond the bounds.
     pub fn normal_row(&mut self, row: u32) -> Result<Option<u32>, Stop> {
         let mut here = row;
         for _ in 0..u32::MAX {

@@ -56,8 +56,8 @@ fn guessed(alloc: Global, query: &Query, leaves: u32) -> Result<Finding, Stop> {
 }
 
 impl State {
-    /// Refutes the query: first with few conflicts, then with cuts of ever greater budgets. It ends where the atoms have values that
-    /// nothing contradicts.
+    /// Refutes the query: first with few conflicts, then with cuts of ever greater budgets. It ends where the atoms
+    /// have values that nothing contradicts.
     fn refute_query(&mut self) -> Result<Option<Refutation>, Stop> {
         match self.refute_whole(3)? {
             Tried::Refuted(refutation) => return Ok(Some(refutation)),

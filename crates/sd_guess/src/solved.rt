@@ -122,8 +122,8 @@ impl State {
         Ok(ascending)
     }
 
-    /// A refutation of a fact that two integers differ, where the solved equalities make them equal: it has two leaves, or one
-    /// where an order of them is known. None where a row goes beyond the bounds.
+    /// A refutation of a fact that two integers differ, where the solved equalities make them equal: it has two
+    /// leaves, or one where an order of them is known. None where a row goes beyond the bounds.
     pub fn refute_difference(&mut self, number: u32) -> Result<Option<Refutation>, Stop> {
         let fact = self.facts.fact(number)?;
         let Shape::Eq(a, b) = self.terms.shape(fact.term)? else {

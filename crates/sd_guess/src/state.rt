@@ -17,7 +17,8 @@ pub struct Demand {
     pub over: Option<(u32, bool)>,
 }
 
-/// A column that is solved: its factor, and the rows of the equality both ways, in the first of which the factor is positive.
+/// A column that is solved: its factor, and the rows of the equality both ways, in the first of which the factor is
+/// positive.
 #[derive(Clone, Copy, Debug)]
 pub struct Solved {
     pub factor: u64,

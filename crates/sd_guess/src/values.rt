@@ -15,8 +15,8 @@ pub struct Values {
 }
 
 impl Values {
-    /// The value of an atom of a bank that begins with the query's terms. Where none was found, an equality is true and all else
-    /// false.
+    /// The value of an atom of a bank that begins with the query's terms. Where none was found, an equality is true
+    /// and all else false.
     pub fn of(&self, terms: &Bank, atom: u32) -> bool {
         if let Some(value) = self.own.get(atom as usize) {
             return value.unwrap_or(false);

@@ -24,8 +24,8 @@ use std::alloc::Global;
 /// How many terms may be asked for.
 const MOST_ROUNDS: u32 = 100_000;
 
-/// Values of atoms beside the facts of a query: a walk that has the facts alone, with the needed terms, the facts by number, and the
-/// facts followed by the values.
+/// Values of atoms beside the facts of a query: a walk that has the facts alone, with the needed terms, the facts by
+/// number, and the facts followed by the values.
 #[derive(Drop)]
 pub struct Assignment {
     pub walk: Walk,
@@ -104,7 +104,8 @@ impl Assignment {
     /// The step by which a term is numbered or split that the values ask for.
     fn missing(&self, query: &Query) -> Result<Option<Step>, NoMemory>
         requires { IsAssignment query.now self.now }
-        ensures { IfOk result (λ r. IfSome r (λ step. IsRequiredStep self.now.walk.0 (trail_of self.now.walk.0 self.now.trail) step)) }
+        ensures { IfOk result (λ r. IfSome r
+            (λ step. IsRequiredStep self.now.walk.0 (trail_of self.now.walk.0 self.now.trail) step)) }
     {
         let alloc = query.allocator();
         let terms = self.walk.terms();

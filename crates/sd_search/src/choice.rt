@@ -52,9 +52,9 @@ pub fn next_choice(
     branch_choice(query, terms, trail, facts, values)
 }
 
-/// The branch is closed by a false fact, by rows or by equalities, where it can be. Else an atom without a value that is
-/// reached from a fact without one is split. Once all facts are true, what is asked for gets a number or is split, and
-/// then each atom is split.
+/// The branch is closed by a false fact, by rows or by equalities, where it can be. Else an atom without a value that
+/// is reached from a fact without one is split. Once all facts are true, what is asked for gets a number or is split,
+/// and then each atom is split.
 pub fn branch_choice(
     query: &Query,
     terms: &Bank,

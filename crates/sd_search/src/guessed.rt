@@ -24,8 +24,8 @@ pub enum Judged {
     Nothing,
 }
 
-/// Guesses, and judges the guess: steps by the kernel and by the count of the branches that they close, values by the rules of open
-/// cubes.
+/// Guesses, and judges the guess: steps by the kernel and by the count of the branches that they close, values by the
+/// rules of open cubes.
 pub fn judged_guess(alloc: Global, query: &Query, leaves: u32) -> Result<Judged, NoMemory>
     requires truths { AllTruthValued query.now }
     ensures accepted { IfOk result (λ r. IfProof r (λ proof. verdict query.now proof.steps ≡ Verdict.Accepted)) }

@@ -15,8 +15,8 @@ use sd_term::{Bank, Cube, Literal, Numbered, Query, TermId, TermNode};
 use sqlite_items::Items;
 use std::alloc::Global;
 
-/// A search: its walk with the steps that this has read, the query's facts by number, the literals that lead to the first
-/// open branch, the terms beyond those of the facts, and the cubes that were closed.
+/// A search: its walk with the steps that this has read, the query's facts by number, the literals that lead to the
+/// first open branch, the terms beyond those of the facts, and the cubes that were closed.
 #[derive(Drop)]
 pub struct Search {
     pub walk: Walk,

@@ -25,10 +25,11 @@ pub enum Outcome {
     Spent(Items<Cube>),
 }
 
-/// Looks for a proof that no valuation makes all facts of a query true. A guess comes first: where the kernel accepts its steps, or
-/// its values are an open cube, that is the answer. Else an exact search splits on atoms, each at most once on a branch, and closes a branch as soon as a fact is false in
-/// it, elimination refutes its rows, or its equalities clash (Davis, Logemann and Loveland 1962; Nelson and Oppen 1979). At most
-/// `leaves` branches are closed. A search of 2^32 - 1 steps or more is out of memory, and so is a query of 2^32 facts or more.
+/// Looks for a proof that no valuation makes all facts of a query true. A guess comes first: where the kernel accepts
+/// its steps, or its values are an open cube, that is the answer. Else an exact search splits on atoms, each at most
+/// once on a branch, and closes a branch as soon as a fact is false in it, elimination refutes its rows, or its
+/// equalities clash (Davis, Logemann and Loveland 1962; Nelson and Oppen 1979). At most `leaves` branches are closed.
+/// A search of 2^32 - 1 steps or more is out of memory, and so is a query of 2^32 facts or more.
 pub fn refute(alloc: Global, query: &Query, leaves: u32) -> Result<Outcome, NoMemory>
     requires leaves { 1 ≤ leaves }
     requires truths { AllTruthValued query.now }

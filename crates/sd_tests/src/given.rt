@@ -24,7 +24,8 @@ pub(crate) const AT_LEAST_ONE: &[u8] = b"procedure p(x: int) { assert x >= 1; }\
 
 pub(crate) const AT_LEAST_ZERO: &[u8] = b"procedure p(x: int) { assert x >= 0; }\n";
 
-/// The files `old`, `new` and `c`, none longer than the room, which fail at the calls of these numbers. In `c` are six bytes.
+/// The files `old`, `new` and `c`, none longer than the room, which fail at the calls of these numbers. In `c` are
+/// six bytes.
 pub(crate) fn files_of<R: Abort>(
     rt: &R,
     alloc: Global,

@@ -8,8 +8,8 @@ use sd_term::Literal;
 use std::alloc::Global;
 use std::test::Fail;
 
-/// The candidate, the only word of the table that was seen, and after how many leaves the search was spent. Without a number the query
-/// is open.
+/// The candidate, the only word of the table that was seen, and after how many leaves the search was spent. Without a
+/// number the query is open.
 type Died = (u32, u64, Option<u32>);
 
 fn is_death(death: &Death, died: Died) -> bool {
@@ -69,9 +69,10 @@ fn one_sweep_is_enough_where_nothing_dies(rt: HostRuntime) -> Result<(), Fail> {
 fn a_search_with_too_few_leaves_is_spent(rt: HostRuntime) -> Result<(), Fail> {
     let alloc = rt.alloc();
     let (old, new) = (AT_LEAST_ONE, AT_LEAST_ZERO);
-    // The denial of both claims is that `0 <= x` of the new side is false and `1 <= x` of the old one true. Claim 0 has no condition: these
-    // values are an open cube, however few the leaves are. For claim 1 each of the two values is forced by a leaf, and the equality of the
-    // two `x` closes the branch by rows: three leaves, and no proof has less, since the facts say nothing of rows before.
+    // The denial of both claims is that `0 <= x` of the new side is false and `1 <= x` of the old one true. Claim 0
+    // has no condition: these values are an open cube, however few the leaves are. For claim 1 each of the two values
+    // is forced by a leaf, and the equality of the two `x` closes the branch by rows: three leaves, and no proof has
+    // less, since the facts say nothing of rows before.
     assert!(rt; is_settled(alloc, old, new, 1, 2, &[(0, 3, None), (1, 2, Some(1))])?);
     assert!(rt; is_settled(alloc, old, new, 2, 2, &[(0, 3, None), (1, 2, Some(2))])?);
     assert!(rt; is_settled(alloc, old, new, 3, 2, &[(0, 3, None)])?);
@@ -81,8 +82,9 @@ fn a_search_with_too_few_leaves_is_spent(rt: HostRuntime) -> Result<(), Fail> {
 #[test]
 fn a_death_is_seen_by_its_caller_in_the_next_sweep(rt: HostRuntime) -> Result<(), Fail> {
     let (old, new) = (CALLS_WHAT_NEVER_FAILS, CALLS_WHAT_ALWAYS_FAILS);
-    // There is a claim for `p`, one for `q` and one for `r`. In the first sweep those for `p` and `q` are proved by the one for the callee,
-    // and the one for `r` dies. In the second one that for `q` dies, in the third one that for `p`, and the fourth one finds none.
+    // There is a claim for `p`, one for `q` and one for `r`. In the first sweep those for `p` and `q` are proved by
+    // the one for the callee, and the one for `r` dies. In the second one that for `q` dies, in the third one that
+    // for `p`, and the fourth one finds none.
     assert!(rt;
         is_settled(
             rt.alloc(),
@@ -115,8 +117,8 @@ fn a_run_gives_the_table_and_the_deaths(rt: HostRuntime) -> Result<(), Fail> {
         assert!(rt; false);
         return Ok(());
     };
-    // The terms are the old `x`, the new one, their equality, 1, `1 <= x` of the new side, 0, `0 <= x` of the old one, and so on: the
-    // orders of the new failure.
+    // The terms are the old `x`, the new one, their equality, 1, `1 <= x` of the new side, 0, `0 <= x` of the old
+    // one, and so on: the orders of the new failure.
     let literals = cube.literals.as_slice();
     assert!(rt; has_literal(literals, 4, false));
     assert!(rt; has_literal(literals, 6, true));
