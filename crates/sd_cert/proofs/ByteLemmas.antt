@@ -1,5 +1,6 @@
 -- Bytes that a text has, and its parts around the first of them.
 use Rattle.std.proofs.Common.{◌≡◌, ℕ, ◌+◌, ◌^◌, ◌<◌, ◌==◌, Bool, true, false, List, [], ◌∷◌, ◌++◌, length, get_or, take, drop, refl, sym, ap, ◌∙◌}
+use Rattle.std.proofs.lemmas.Bool.{and_parts}
 use Rattle.std.specs.Prelude.{◌||◌, ◌&&◌}
 use Rattle.std.specs.Char.{is_ascii_digit}
 use Rattle.std.specs.Fmt.{decimal}
@@ -28,17 +29,13 @@ has_byte-within byte (x ∷ xs) ys = go (x == byte) (has_byte-within byte xs ys)
     go true h = refl
     go false h = h
 
-second : (p q : Bool) → (p && q) ≡ true → q ≡ true
-second true q h = h
-second false q h = absurd (cc)
-
 no_byte-digits : (byte : ℕ) → is_ascii_digit byte ≡ false → (ds : List ℕ) → all_ascii_digits ds ≡ true → has_byte byte ds ≡ false
 no_byte-digits byte other [] h = refl
 no_byte-digits byte other (c ∷ cs) h = go (c == byte) refl (λ k. no_byte-digits byte other cs k) h
   where
     go : (t : Bool) → (c == byte) ≡ t → (all_ascii_digits cs ≡ true → has_byte byte cs ≡ false) → (is_ascii_digit c && all_ascii_digits cs) ≡ true → (t || has_byte byte cs) ≡ false
     go true e more k = absurd (let f = ap (λ x. is_ascii_digit x && all_ascii_digits cs) (eqb-true c byte e) in let j = ap (λ t. t && all_ascii_digits cs) other in cc)
-    go false e more k = more (second (is_ascii_digit c) (all_ascii_digits cs) k)
+    go false e more k = more (and_parts (is_ascii_digit c) (all_ascii_digits cs) k).1
 
 pub no_byte-decimal : (byte : ℕ) → is_ascii_digit byte ≡ false → (n : ℕ) → n < 2 ^ 64 → has_byte byte (decimal n) ≡ false
 no_byte-decimal byte other n h = no_byte-digits byte other (decimal n) (digits_decimal own n h)

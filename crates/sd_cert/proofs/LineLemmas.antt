@@ -101,9 +101,6 @@ module _ (fields : List ℕ) (r : Option (List ℕ)) (read : IsReadAs encode_low
   pub new_is : IsReadAs line_text IsLine (codes "new " ++ fields) (option_map New r)
   new_is = digest-read word.New New refl (λ d. refl) (λ d h. h) (λ d. refl)
 
-  pub settings_is : IsReadAs line_text IsLine (codes "settings " ++ fields) (option_map Settings r)
-  settings_is = digest-read word.Settings Settings refl (λ d. refl) (λ d h. h) (λ d. refl)
-
 pub pair_line_is : (fields : List ℕ) (r : Option (ℕ × CertState)) → IsReadAs pair_fields IsPairField fields r → IsReadAs line_text IsLine (codes "pair " ++ fields) (option_map (λ p. Pair p.0 p.1) r)
 pair_line_is fields r =
     read-made pair_fields IsPairField fields r line_text IsLine (codes "pair " ++ fields) (λ p. Pair p.0 p.1) (λ p f h. (f, ap (λ t. codes "pair " ++ t) h))

@@ -1,5 +1,6 @@
 -- A table that is decided number by number lists the entries.
 use Rattle.std.proofs.Common.{◌≡◌, ℕ, zero, suc, ◌+◌, ◌-◌, ◌<◌, ◌≤◌, Bool, true, false, List, [], ◌∷◌, ◌++◌, map, length, get_or, set, take, drop, refl, sym, ap, ◌∙◌, subst, arith, append_assoc, inl, inr}
+use Rattle.sd_product.proofs.JudgedLemmas.{live_from-true, live_from-false}
 use Rattle.std.specs.Prelude.{Option, Some, None, ◌⊎◌}
 use Rattle.std.specs.List.{AllByRecursion, flat_map}
 use Rattle.std.proofs.lemmas.List.{map-append, append-nil, length-map, take_more, take_more_set, drop_more, take_all, drop_all, get_or-set_other, length-take-le}
@@ -23,20 +24,6 @@ use Rattle.sd_cert.specs.Tables.{IsDecided}
 use Rattle.sd_cert.proofs.HeaderLemmas.{before-count}
 
 -- ---- decided numbers
-
-live_from-true : (n : ℕ) (bs : List Bool) → live_from n (bs ++ true ∷ []) ≡ live_from n bs ++ (n + length bs) ∷ []
-live_from-true n [] = let e : n ≡ n + 0 = omega arith in ap (λ k. k ∷ []) e
-live_from-true n (true ∷ bs) =
-    let e : suc n + length bs ≡ n + suc (length bs) = omega arith in
-    ap (λ ks. n ∷ ks) (live_from-true (suc n) bs ∙ ap (λ k. live_from (suc n) bs ++ k ∷ []) e)
-live_from-true n (false ∷ bs) =
-    let e : suc n + length bs ≡ n + suc (length bs) = omega arith in
-    live_from-true (suc n) bs ∙ ap (λ k. live_from (suc n) bs ++ k ∷ []) e
-
-live_from-false : (n : ℕ) (bs : List Bool) → live_from n (bs ++ false ∷ []) ≡ live_from n bs
-live_from-false n [] = refl
-live_from-false n (true ∷ bs) = ap (λ ks. n ∷ ks) (live_from-false (suc n) bs)
-live_from-false n (false ∷ bs) = live_from-false (suc n) bs
 
 pub decide-dead : (table : List Bool) (n : ℕ) (numbers : List ℕ) → n < length table → IsDecided table n numbers → IsDecided (set table n false) (n + 1) numbers
 decide-dead table n numbers within d = record {
@@ -178,6 +165,3 @@ module _ (h : PairedPrograms) (claims : List CertPair) (fits : FitsPairs (header
   fault-left queries first line [] = refl
   fault-left queries first line (s ∷ ss) = refl
 
-  pub no-fault-left : (queries : List (List Tree)) (first line i : ℕ) → length (pairs_in h) ≤ i → pairs_fault queries first line (drop i (headers_of h)) (drop i claims) ≡ None
-  no-fault-left queries first line i past =
-      ap (pairs_fault queries first line (drop i (headers_of h))) (drop_all i claims (omega (arith, claims-count))) ∙ fault-left queries first line (drop i (headers_of h))

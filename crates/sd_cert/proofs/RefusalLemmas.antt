@@ -1,5 +1,6 @@
 -- No line of a certificate is refused just where it fits the digests and the pairs.
 use Rattle.std.proofs.Common.{◌≡◌, ℕ, zero, suc, ◌+◌, Bool, true, false, List, [], ◌∷◌, ◌++◌, map, length, drop, refl, sym, ap, ◌∙◌, subst, arith, append_assoc, eqb-true, eq-eqb, leb-true, le-leb, ltb-true, lt-ltb, add-one}
+use Rattle.std.proofs.lemmas.Bool.{and_parts}
 use Rattle.std.specs.Prelude.{Option, Some, None, slice_get, ◌&&◌, nat_lt, nat_le, min}
 use Rattle.std.specs.List.{flat_map}
 use Rattle.std.specs.Cmp.Derive.{both_true}
@@ -41,10 +42,6 @@ next-none (Some e) b h = absurd (cc)
 none-next : (b : Bool) (e : CertError) (next : Option CertError) → b ≡ true → next ≡ None → or_next (fault_unless b e) next ≡ None
 none-next true e next h k = k
 none-next false e next h k = absurd (cc)
-
-both-true : (a b : Bool) → (a && b) ≡ true → (a ≡ true) × (b ≡ true)
-both-true true b h = (refl, h)
-both-true false b h = absurd (cc)
 
 bytes-exact : (xs ys : List ℕ) → (same_bytes xs ys ≡ true → xs ≡ ys) × (xs ≡ ys → same_bytes xs ys ≡ true)
 bytes-exact xs ys = slice_eq-Decides Decides-eqb xs ys (same_bytes xs ys) refl
@@ -91,7 +88,7 @@ module _ (headers : List PairHeader) (d : Digests) where
   entries-ascend i least (p ∷ ps) ls h =
       let others = flat_map proved_lines ps ++ ls in
       let parts = next-none _ _ (sym (ap (first_refusal headers d (at-position i least)) (append_assoc (proved_lines p) (flat_map proved_lines ps) ls)) ∙ h) in
-      let tests = both-true (nat_le least p.candidate) (nat_lt p.candidate (candidate_count (slice_get headers i))) (unless-none _ (OtherPair i) parts.0) in
+      let tests = and_parts (nat_le least p.candidate) (nat_lt p.candidate (candidate_count (slice_get headers i))) (unless-none _ (OtherPair i) parts.0) in
       let more = entries-ascend i (p.candidate + 1) ps ls (sym (how-pass (at-position i (p.candidate + 1)) p.how others) ∙ parts.1) in
       ((leb-true _ _ tests.0, ltb-true _ _ tests.1, more.0), more.1)
 

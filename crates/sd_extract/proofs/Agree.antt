@@ -2,10 +2,8 @@
 use Rattle.std.proofs.Common.{◌≡◌, ℕ, List, [], ◌∷◌, Option, refl, sym, ◌∙◌, ap, subst}
 use Rattle.std.specs.Prelude.{Bool, true, false, map, if◌then◌else◌}
 use Rattle.std.proofs.lemmas.Simd.{map-map}
-use Rattle.sd_extract.proofs.SourceWords.{Text, Value, Program, Expr, Left, StmtKind, Assert, Assume, Assign, Call, If', While', Break, Return, Row_of-Stmt, end_of-Stmt, more_of-Stmt, Interpretation, State, value, truth_of, Flow, Next}
-use Rattle.sd_extract.proofs.SourceWords.{Breaks, Returns, Failed, Blocked, Unfinished, each, Verdict, Holds, Fails, FreeFails, if_holds, set_variable, values_of, new_values, Level, step}
-use Rattle.sd_extract.proofs.CoreWords.{Spot, CoreExpr, CoreStmt, If, Store, write, write_all, value_in, Step, Goes, Stops, Blocks, Lacks, Calls, then_run, run_all, Names, core_of, Counts, plus, counts, counts_all, Frame, spot_of}
-use Rattle.sd_extract.proofs.CoreWords.{all_stored, extracted, all_extracted, each_extracted}
+use Rattle.sd_extract.proofs.SourceWords.{Text, Value, Program, Expr, Left, StmtKind, Assert, Assume, Assign, Call, If', While', Break, Return, Row_of-Stmt, end_of-Stmt, more_of-Stmt, Interpretation, State, value, truth_of, Flow, Next, Breaks, Returns, Failed, Blocked, Unfinished, each, Verdict, Holds, Fails, FreeFails, if_holds, set_variable, values_of, new_values, Level, step}
+use Rattle.sd_extract.proofs.CoreWords.{Spot, CoreExpr, CoreStmt, If, Store, write, write_all, value_in, Step, Goes, Stops, Blocks, Lacks, Calls, then_run, run_all, Names, core_of, Counts, plus, counts, counts_all, Frame, spot_of, all_stored, extracted, all_extracted, each_extracted}
 use Rattle.sd_meaning.specs.Run.{and_then, set_all, steps}
 use Rattle.sd_extract.proofs.Expressions.{value_kept}
 use Rattle.sd_extract.proofs.Writes.{SetsAt, IsLaidOut, Tied, tied_set}
@@ -84,11 +82,6 @@ module _ (I : Interpretation) (calls : Calls) (R : Room) (F : Frame) where
   pub if_agrees : (c : CoreExpr) (xs ys : List CoreStmt) (st : Store Value) (b : Bool) (f g : Flow) → b ≡ truth_of (value_in I st c) → Agrees f (run_all I calls xs st) → Agrees g (run_all I calls ys st) → Agrees (if b then f else g) (run_all I calls (If c xs ys ∷ []) st)
   if_agrees c xs ys st b f g e h k =
       subst (Agrees (if b then f else g)) (sym (run-one I calls (If c xs ys) st ∙ run-If I calls c xs ys st)) (agree_if b (truth_of (value_in I st c)) f g (run_all I calls xs st) (run_all I calls ys st) e h k)
-
-  pub agree_verdict : (v : Verdict) (st : Store Value) (a : Flow) (b : Step) → Agrees a b → Agrees (if_holds v a) (after_verdict v st b)
-  agree_verdict Holds st a b h = h
-  agree_verdict Fails st a b h = (st, refl)
-  agree_verdict FreeFails st a b h = refl
 
   agree_checked : (free c d : Bool) (s : State) (st : Store Value) → c ≡ d → TiedIn R F s st → Agrees (if c then Next s else (if free then Blocked else Failed)) (if d then Goes st else (if free then Blocks else Stops st true))
   agree_checked free c true s st e t = subst (λ x. Agrees (if x then Next s else (if free then Blocked else Failed)) (Goes st)) (sym e) (st, refl, t)

@@ -3,8 +3,7 @@ use Rattle.std.proofs.Common.{◌≡◌, Bool, true, false, cond, ◌+◌, ◌<�
 use Rattle.std.specs.Prelude.{if◌then◌else◌, Contains}
 use Rattle.std.specs.List.{AllByRecursion, slice_index_or}
 use Rattle.std.proofs.lemmas.Option.{none-some, same_Some}
-use Rattle.sd_extract.proofs.SourceWords.{Var, Text, same_text, Program, Nature, Variable, Scope, is_among, and_then, named, or_global, if_named, declared_as, routine, assigned_as, assignable, variables_as, parameters, body_variables}
-use Rattle.sd_extract.proofs.SourceWords.{modifies_of, SourceRoutine, globals_in}
+use Rattle.sd_extract.proofs.SourceWords.{Var, Text, same_text, Program, Nature, Variable, Scope, is_among, and_then, named, or_global, if_named, declared_as, routine, assigned_as, assignable, variables_as, parameters, body_variables, modifies_of, SourceRoutine, globals_in}
 use Rattle.sd_extract.proofs.CoreWords.{Source, state_of, index_in, Among}
 use Rattle.sd_types.specs.declared.scope.Nature.TheVariants as nature
 use Rattle.sd_types.specs.declared.scope.Site.TheVariants as site

@@ -2,10 +2,8 @@
 use Rattle.std.proofs.Common.{◌≡◌, ℕ, List, [], ◌∷◌, ◌++◌, Option, Some, refl, sym, ◌∙◌, ap, subst, get_or, length, arith}
 use Rattle.std.specs.Prelude.{Bool, true, false, map, if◌then◌else◌}
 use Rattle.std.proofs.lemmas.List.{map-append, set-get_or, length-map}
-use Rattle.sd_extract.proofs.SourceWords.{Var, Text, Value, Interpretation, State, variable, value, truth_of, Routine, Clause, requires_of, ensures_of, names_of, Flow, Next, Breaks, Returns, Failed, Blocked, Unfinished, Outcome, Ended}
-use Rattle.sd_extract.proofs.SourceWords.{Verdict, Holds, Fails, FreeFails, verdict, before, entered, if_assumed, outcome_of, each, Level, step}
-use Rattle.sd_extract.proofs.CoreWords.{Spot, Global, At, CoreStmt, CoreProc, Store, read, write_all, set_all, nothing, value_in, CoreEnded, Step, Goes, Stops, Blocks, Calls, then_run, run_all, slots_from, enter, outs_of, out_spots, end_of}
-use Rattle.sd_extract.proofs.CoreWords.{Names, place_of, at_place, core_of, Frame, check, assume, on_args, Source, state_of, kinds, contract, body_frame, body_copies, body_start, body_proc, each_extracted}
+use Rattle.sd_extract.proofs.SourceWords.{Var, Text, Value, Interpretation, State, variable, value, truth_of, Routine, Clause, requires_of, ensures_of, names_of, Flow, Next, Breaks, Returns, Failed, Blocked, Unfinished, Outcome, Ended, Verdict, Holds, Fails, FreeFails, verdict, before, entered, if_assumed, outcome_of, each, Level, step}
+use Rattle.sd_extract.proofs.CoreWords.{Spot, Global, At, CoreStmt, CoreProc, Store, read, write_all, set_all, nothing, value_in, CoreEnded, Step, Goes, Stops, Blocks, Calls, then_run, run_all, slots_from, enter, outs_of, out_spots, end_of, Names, place_of, at_place, core_of, Frame, check, assume, on_args, Source, state_of, kinds, contract, body_frame, body_copies, body_start, body_proc, each_extracted}
 use Rattle.sd_meaning.specs.Run.{named, starting, after, if_ensured, returned}
 use Rattle.sd_core.specs.declared.CoreStmt as core
 use Rattle.sd_extract.proofs.Expressions.{at_all, Kept, variable_kept, value_kept}

@@ -1,10 +1,8 @@
 -- A call and what it becomes do the same, where the callee's runs do.
 use Rattle.std.proofs.Common.{◌≡◌, ℕ, suc, List, [], ◌∷◌, ◌++◌, Option, Some, None, refl, sym, ◌∙◌, ap, subst, get_or, length, arith}
 use Rattle.std.specs.Prelude.{map}
-use Rattle.sd_extract.proofs.SourceWords.{Text, Value, Proc, Expr, Call, Interpretation, State, procedure_in, requires_of, names_of, Flow, Verdict, Holds, Fails, FreeFails, verdict, if_holds, values_of, before, Outcome, Ended, Failed}
-use Rattle.sd_extract.proofs.SourceWords.{Blocked, Unfinished, Level, step}
-use Rattle.sd_extract.proofs.CoreWords.{Spot, Slot, Global, At, Store, read, write, write_all, nothing, value_in, End, CoreUnfinished, Step, Calls, receive, run_all, slots_from, Names, Counts, Frame, Source, check, spot_of, cores, on_args}
-use Rattle.sd_extract.proofs.CoreWords.{call_of, extracted}
+use Rattle.sd_extract.proofs.SourceWords.{Text, Value, Proc, Expr, Call, Interpretation, State, procedure_in, requires_of, names_of, Flow, Verdict, Holds, Fails, FreeFails, verdict, if_holds, values_of, before, Outcome, Ended, Failed, Blocked, Unfinished, Level, step}
+use Rattle.sd_extract.proofs.CoreWords.{Spot, Slot, Global, At, Store, read, write, write_all, nothing, value_in, End, CoreUnfinished, Step, Calls, receive, run_all, slots_from, Names, Counts, Frame, Source, check, spot_of, cores, on_args, call_of, extracted}
 use Rattle.sd_meaning.specs.Evaluate.{Store as Variables}
 use Rattle.sd_meaning.specs.Run.{named, received, called, call}
 use Rattle.sd_core.specs.declared.CoreStmt as core

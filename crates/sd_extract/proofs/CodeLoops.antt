@@ -3,8 +3,7 @@ use Rattle.std.proofs.Common.{◌≡◌, ◌∙◌, sym, ap, refl, ℕ, suc, ◌
 use Rattle.std.specs.Prelude.{codes, if◌then◌else◌}
 use Rattle.std.specs.Fmt.{decimal}
 use Rattle.sd_extract.proofs.SourceWords.{Var, Text, Expr, Invariant, Stmt, Program, StmtKind, If, While, Row_of-Stmt, end_of-Stmt, more_of-Stmt, hidden-the_row-Stmt-0, kinds_of, kinds_in, Clause, clauses_of}
-use Rattle.sd_extract.proofs.CoreWords.{Spot, Slot, CoreStmt, CoreProc, slots_from, Counts, plus, of_loop, counts, counts_all, counts_each, Frame, Source, state_of, copies_of, hidden, loop_state, loop_frame, left_of, loop_start, loop_proc}
-use Rattle.sd_extract.proofs.CoreWords.{loops_in, all_loops_in, each_loop_in, has_return_among, body_proc, procs_of}
+use Rattle.sd_extract.proofs.CoreWords.{Spot, Slot, CoreStmt, CoreProc, slots_from, Counts, plus, of_loop, counts, counts_all, counts_each, Frame, Source, state_of, copies_of, hidden, loop_state, loop_frame, left_of, loop_start, loop_proc, loops_in, all_loops_in, each_loop_in, has_return_among, body_proc, procs_of}
 use Rattle.sd_extract.specs.Sources.{start_at, loop_with, left_out}
 use Rattle.sd_extract.proofs.CodeLists.{kinds_next}
 use Rattle.sd_extract.proofs.CodeCounts.{hidden_kinds, counts_hidden, returns_hidden}

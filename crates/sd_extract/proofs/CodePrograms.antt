@@ -3,8 +3,7 @@ use Rattle.std.proofs.Common.{◌≡◌, ◌∙◌, sym, ap, ℕ, suc, ◌+◌, 
 use Rattle.std.specs.Prelude.{Some, None}
 use Rattle.std.specs.List.{filter_map}
 use Rattle.sd_extract.proofs.SourceWords.{Text, Spec, Decl, Procedure, Proc, Program, Var, globals_in, uniques_in, kinds_of, Routine, routine_named}
-use Rattle.sd_extract.proofs.CoreWords.{CoreProc, Source, index_in, var_in, modified_names, number_from, size_of, counts_each, source_of, procs_of, routine_procs, procs_from, CoreExpr, Function, CoreProgram, functions_in, axioms_in}
-use Rattle.sd_extract.proofs.CoreWords.{core_axiom, core_program}
+use Rattle.sd_extract.proofs.CoreWords.{CoreProc, Source, index_in, var_in, modified_names, number_from, size_of, counts_each, source_of, procs_of, routine_procs, procs_from, CoreExpr, Function, CoreProgram, functions_in, axioms_in, core_axiom, core_program}
 use Rattle.sd_base.proofs.Lists.{drop-at}
 
 -- a procedure without a body

@@ -1,8 +1,7 @@
 -- Statements as code sees them.
 use Rattle.std.proofs.Common.{◌≡◌, ◌∙◌, sym, ap, refl, ℕ, suc, ◌+◌, ◌<◌, List, [], ◌∷◌, ◌++◌, append_assoc, length, drop, get_or, map, false}
 use Rattle.sd_extract.proofs.SourceWords.{Text, Expr, Invariant, Stmt, Proc, Program, StmtKind, If, While, Row_of-Stmt, end_of-Stmt, more_of-Stmt, hidden-the_row-Stmt-0, requires_of, kinds_of, kinds_in}
-use Rattle.sd_extract.proofs.CoreWords.{Spot, Slot, CoreExpr, At, CoreStmt, slots_from, Names, core_of, Counts, plus, counts, counts_all, counts_each, put, cores, spot_of, on_args, Frame, extracted, all_extracted, each_extracted}
-use Rattle.sd_extract.proofs.CoreWords.{has_return_among}
+use Rattle.sd_extract.proofs.CoreWords.{Spot, Slot, CoreExpr, At, CoreStmt, slots_from, Names, core_of, Counts, plus, counts, counts_all, counts_each, put, cores, spot_of, on_args, Frame, extracted, all_extracted, each_extracted, has_return_among}
 use Rattle.sd_core.specs.declared.CoreStmt.{Call}
 use Rattle.sd_core.specs.declared.CoreStmt as core
 use Rattle.sd_extract.specs.Scopes.{slots_upto, clause_stmt, call_with, reached}

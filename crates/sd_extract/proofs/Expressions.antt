@@ -1,10 +1,8 @@
 -- A translated expression has the value of the expression.
 use Rattle.std.proofs.Common.{◌≡◌, List, [], ◌∷◌, Option, Some, None, refl, sym, ◌∙◌, ap, arith}
 use Rattle.std.specs.Prelude.{true, false, not, map, unwrap_or, option_map, if◌then◌else◌, int_lt, int_le, ℤ}
-use Rattle.sd_extract.proofs.SourceWords.{Text, same_text, Value, Truth, write_map, BinOp, UnOp, ExprKind, Apply', Row_of-Expr, end_of-Expr, more_of-Expr, OldOf, UnaryOf, BinaryOf, SelectOf, StoreOf, Interpretation, State, value_of}
-use Rattle.sd_extract.proofs.SourceWords.{variable, value, truth_of, index_of}
-use Rattle.sd_extract.proofs.CoreWords.{Spot, CoreOp, CoreExpr, Apply, Op, Row_of-CoreExpr, end_of-CoreExpr, more_of-CoreExpr, items-the_row-CoreExpr, items_hidden-the_row-CoreExpr-0, hidden-the_row-CoreExpr-0, Store, read, nothing}
-use Rattle.sd_extract.proofs.CoreWords.{value_in, Names, place_in, either_place, place_of, at_place, negated, both, unary_of, binary_of, core_of, cores_of}
+use Rattle.sd_extract.proofs.SourceWords.{Text, same_text, Value, Truth, write_map, BinOp, UnOp, ExprKind, Apply', Row_of-Expr, end_of-Expr, more_of-Expr, OldOf, UnaryOf, BinaryOf, SelectOf, StoreOf, Interpretation, State, value_of, variable, value, truth_of, index_of}
+use Rattle.sd_extract.proofs.CoreWords.{Spot, CoreOp, CoreExpr, Apply, Op, Row_of-CoreExpr, end_of-CoreExpr, more_of-CoreExpr, items-the_row-CoreExpr, items_hidden-the_row-CoreExpr-0, hidden-the_row-CoreExpr-0, Store, read, nothing, value_in, Names, place_in, either_place, place_of, at_place, negated, both, unary_of, binary_of, core_of, cores_of}
 use Rattle.sd_base.specs.Value.{read as read_map}
 use Rattle.sd_ast.specs.declared.BinOp.TheVariants as bin
 use Rattle.sd_ast.specs.declared.UnOp.TheVariants as un

@@ -6,8 +6,7 @@ use Rattle.std.specs.Cmp.Lexicographic.{bytes_decides}
 use Rattle.std.proofs.lemmas.List.{append-nil}
 use Rattle.std.proofs.lemmas.Bool.{false_from_ne_true}
 use Rattle.std.proofs.lemmas.List.Folds.{list_any-append}
-use Rattle.sd_extract.proofs.SourceWords.{Text, same_text, Expr, Left, Stmt, StmtKind, Assign, Call, If', While', Row_of-Stmt, end_of-Stmt, more_of-Stmt, kinds_of, kinds_in, TypeError, Twice, Callee, is_among, and_then, both, named}
-use Rattle.sd_extract.proofs.SourceWords.{with_name, with_names, declared_as, is_truth, assignable, modified_rule, has_body, left_names, IsTypedStmt, AreTypedStmts}
+use Rattle.sd_extract.proofs.SourceWords.{Text, same_text, Expr, Left, Stmt, StmtKind, Assign, Call, If', While', Row_of-Stmt, end_of-Stmt, more_of-Stmt, kinds_of, kinds_in, TypeError, Twice, Callee, is_among, and_then, both, named, with_name, with_names, declared_as, is_truth, assignable, modified_rule, has_body, left_names, IsTypedStmt, AreTypedStmts}
 use Rattle.sd_base.specs.declared.Place.{Place}
 use Rattle.sd_base.proofs.Texts.{same_text-refl}
 use Rattle.sd_types.specs.Answer.{each, all_of}

@@ -4,9 +4,7 @@ use Rattle.std.specs.Prelude.{true, false, ◌&&◌, option_map, if◌then◌els
 use Rattle.std.specs.List.{AllByRecursion, IsDistinct}
 use Rattle.std.proofs.lemmas.Option.{same_Some, none-some}
 use Rattle.std.proofs.lemmas.Bool.{and_parts}
-use Rattle.sd_extract.proofs.SourceWords.{Sort, Var, Text, same_text, MapOf, names_of, Decl, Const, Function, Globals, Proc, Impl, Body, Head, Expr, Spec, Requires, Ensures, Program, Routine, procedure_in, implementation_in, with_body}
-use Rattle.sd_extract.proofs.SourceWords.{routine_named, requires_of, ensures_of, kinds_of, Callee, Scope, Variable, and_then, both, named, Context, context, declared_as, known_sort, is_truth, routine, variables_as, constants_of}
-use Rattle.sd_extract.proofs.SourceWords.{parameters, modifies_of, callee_of, locals_of, own_names, known_sorts, body_variables, decl_rule, WellTyped, HasType}
+use Rattle.sd_extract.proofs.SourceWords.{Sort, Var, Text, same_text, MapOf, names_of, Decl, Const, Function, Globals, Proc, Impl, Body, Head, Expr, Spec, Requires, Ensures, Program, Routine, procedure_in, implementation_in, with_body, routine_named, requires_of, ensures_of, kinds_of, Callee, Scope, Variable, and_then, both, named, Context, context, declared_as, known_sort, is_truth, routine, variables_as, constants_of, parameters, modifies_of, callee_of, locals_of, own_names, known_sorts, body_variables, decl_rule, WellTyped, HasType}
 use Rattle.sd_extract.proofs.CoreWords.{sorts_of, IsIndexSort, IsSort}
 use Rattle.sd_base.specs.declared.Sort.{Int, Bool, Named}
 use Rattle.sd_base.specs.Sorts.{same_sort}

@@ -2,8 +2,7 @@
 use Rattle.std.proofs.Common.{◌≡◌, List, [], ◌∷◌, Some, refl, sym, ◌∙◌, ap, subst}
 use Rattle.std.specs.Prelude.{true, false}
 use Rattle.sd_extract.proofs.SourceWords.{Sort, BoolSort, Text, MapOf, BinOp, UnOp, Expr, ExprKind, Apply', Row_of-Expr, end_of-Expr, more_of-Expr, OldOf, UnaryOf, BinaryOf, SelectOf, StoreOf, Variable, Signature, Context, HasType, AllHave}
-use Rattle.sd_extract.proofs.CoreWords.{CoreOp, CoreExpr, Apply, Op, Row_of-CoreExpr, end_of-CoreExpr, more_of-CoreExpr, items-the_row-CoreExpr, items_hidden-the_row-CoreExpr-0, hidden-the_row-CoreExpr-0, Function, Store, IsIndexSort}
-use Rattle.sd_extract.proofs.CoreWords.{IsSort, declared_as, AllHaveTypes, HasCoreType, Names, place_of, at_place, negated, both, unary_of, binary_of, core_of, cores_of, cores}
+use Rattle.sd_extract.proofs.CoreWords.{CoreOp, CoreExpr, Apply, Op, Row_of-CoreExpr, end_of-CoreExpr, more_of-CoreExpr, items-the_row-CoreExpr, items_hidden-the_row-CoreExpr-0, hidden-the_row-CoreExpr-0, Function, Store, IsIndexSort, IsSort, declared_as, AllHaveTypes, HasCoreType, Names, place_of, at_place, negated, both, unary_of, binary_of, core_of, cores_of, cores}
 use Rattle.sd_ast.specs.declared.BinOp.TheVariants as bin
 use Rattle.sd_ast.specs.declared.UnOp.TheVariants as un
 use Rattle.sd_ast.specs.declared.ExprKind.{Var}

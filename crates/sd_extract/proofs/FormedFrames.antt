@@ -5,10 +5,8 @@ use Rattle.std.specs.List.{AllByRecursion, filter_map}
 use Rattle.sd_base.proofs.Lists.{slice_get-between, all-append, all-weaker}
 use Rattle.std.proofs.lemmas.List.{length-map}
 use Rattle.std.proofs.lemmas.Option.{same_Some, none-some}
-use Rattle.sd_extract.proofs.SourceWords.{Sort, Var, Text, names_of, Program, Proc, Impl, Spec, Body, procedure_in, implementation_in, with_body, routine_named, SourceRoutine, globals_in, TypeError, Variable, Callee, Nature}
-use Rattle.sd_extract.proofs.SourceWords.{Scope, is_among, named, or_global, routine, assigned_as, modified_rule, has_body, variables_as, parameters, modifies_of, callee_of, body_variables}
-use Rattle.sd_extract.proofs.CoreWords.{Spot, Slot, Global, CoreStmt, CoreProc, CoreProgram, Store, set_all, slots_from, sorts_of, state_sorts, sort_at, IsSort, AreApart, Within, Names, place_in, either_place, place_of, Source, state_of}
-use Rattle.sd_extract.proofs.CoreWords.{globals_from, names_at, frame_at, on_args, index_in, modified_names, source_of, number_from, core_procs, body_proc, each_loop_in, kinds, core_program}
+use Rattle.sd_extract.proofs.SourceWords.{Sort, Var, Text, names_of, Program, Proc, Impl, Spec, Body, procedure_in, implementation_in, with_body, routine_named, SourceRoutine, globals_in, TypeError, Variable, Callee, Nature, Scope, is_among, named, or_global, routine, assigned_as, modified_rule, has_body, variables_as, parameters, modifies_of, callee_of, body_variables}
+use Rattle.sd_extract.proofs.CoreWords.{Spot, Slot, Global, CoreStmt, CoreProc, CoreProgram, Store, set_all, slots_from, sorts_of, state_sorts, sort_at, IsSort, AreApart, Within, Names, place_in, either_place, place_of, Source, state_of, globals_from, names_at, frame_at, on_args, index_in, modified_names, source_of, number_from, core_procs, body_proc, each_loop_in, kinds, core_program}
 use Rattle.sd_types.specs.declared.refusal.TypeError.TheVariants.{NoBody, NotModified}
 use Rattle.sd_types.specs.declared.scope.Nature.TheVariants as nature
 use Rattle.sd_types.specs.declared.scope.Site.TheVariants as site

@@ -6,8 +6,7 @@ use Rattle.std.specs.List.{AllByRecursion, IsDistinct, filter}
 use Rattle.std.proofs.lemmas.List.{append-nil, map-append}
 use Rattle.std.proofs.lemmas.List.Elements.{filter-append}
 use Rattle.sd_extract.proofs.SourceWords.{Sort, BoolSort, Var, Text, same_text, Program, Expr, StmtKind, Call, If', While', Row_of-Stmt, end_of-Stmt, more_of-Stmt, Clause, procedure_in}
-use Rattle.sd_extract.proofs.CoreWords.{CoreProgram, sorts_of, state_sorts, names_of, IsSort, Counts, plus, counts, counts_all, none, has_returns, Source, state_of, copies_of, kinds, arg_vars, ins_of, args_in, all_args_in, each_args_in}
-use Rattle.sd_extract.proofs.CoreWords.{lefts_in, all_lefts_in, each_left_in, hidden, body_proc, loop_proc}
+use Rattle.sd_extract.proofs.CoreWords.{CoreProgram, sorts_of, state_sorts, names_of, IsSort, Counts, plus, counts, counts_all, none, has_returns, Source, state_of, copies_of, kinds, arg_vars, ins_of, args_in, all_args_in, each_args_in, lefts_in, all_lefts_in, each_left_in, hidden, body_proc, loop_proc}
 use Rattle.sd_base.proofs.Lists.{all-append, all-filter}
 use Rattle.sd_core.specs.Formed.{is_plain}
 use Rattle.sd_extract.proofs.CodeLists.{all_map}

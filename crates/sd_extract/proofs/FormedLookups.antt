@@ -4,8 +4,7 @@ use Rattle.std.specs.Prelude.{Bool, true, false, ◌||◌, ◌⊎◌, if◌then�
 use Rattle.std.specs.List.{AllByRecursion}
 use Rattle.std.specs.Cmp.Lexicographic.{bytes_decides}
 use Rattle.std.proofs.lemmas.Option.{none-some}
-use Rattle.sd_extract.proofs.SourceWords.{Sort, Var, Text, same_text, Decl, Const, Function, Globals, Procedure, Implementation, Proc, Impl, Body, procedure_in, implementation_in, globals_in, Variable, Signature, Callee, Nature, is_among}
-use Rattle.sd_extract.proofs.SourceWords.{named, variables_as, constants_of, callee_of}
+use Rattle.sd_extract.proofs.SourceWords.{Sort, Var, Text, same_text, Decl, Const, Function, Globals, Procedure, Implementation, Proc, Impl, Body, procedure_in, implementation_in, globals_in, Variable, Signature, Callee, Nature, is_among, named, variables_as, constants_of, callee_of}
 use Rattle.sd_extract.proofs.CoreWords.{CoreFunction, declared_as, constants_named, functions_in}
 use Rattle.sd_types.specs.declared.scope.Nature.TheVariants as nature
 use Rattle.sd_extract.proofs.Searches.{first_or_later, same_front}

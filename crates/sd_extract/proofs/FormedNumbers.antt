@@ -5,8 +5,7 @@ use Rattle.std.specs.Cmp.Lexicographic.{bytes_decides}
 use Rattle.std.proofs.lemmas.Option.{none-some}
 use Rattle.std.proofs.lemmas.Bool.{false_from_ne_true}
 use Rattle.sd_base.proofs.Lists.{slice_get-between}
-use Rattle.sd_extract.proofs.SourceWords.{Text, same_text, Decl, Procedure, Program, Proc, StmtKind, If', While', Row_of-Stmt, end_of-Stmt, more_of-Stmt, Routine, procedure_in, routine_named, clauses_of, globals_in, kinds_in, named}
-use Rattle.sd_extract.proofs.SourceWords.{callee_of}
+use Rattle.sd_extract.proofs.SourceWords.{Text, same_text, Decl, Procedure, Program, Proc, StmtKind, If', While', Row_of-Stmt, end_of-Stmt, more_of-Stmt, Routine, procedure_in, routine_named, clauses_of, globals_in, kinds_in, named, callee_of}
 use Rattle.sd_extract.proofs.CoreWords.{CoreProc, Source, counts, counts_all, counts_each, has_returns, kinds, loop_proc, loops_in, all_loops_in, each_loop_in, procs_of, source_of, size_of, number_from, routine_procs, procs_from}
 use Rattle.sd_base.proofs.Texts.{same_text-refl}
 use Rattle.sd_extract.proofs.FormedTables.{OnceEach, procedure_entries}

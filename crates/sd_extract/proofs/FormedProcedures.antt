@@ -4,12 +4,8 @@ use Rattle.std.specs.Prelude.{Bool, true, false, ◌⊎◌, slice_get, codes, if
 use Rattle.std.specs.List.{AllByRecursion, filter_map, cons_option}
 use Rattle.std.proofs.lemmas.List.{append-nil, map-append}
 use Rattle.std.proofs.lemmas.Option.{same_Some, none-some}
-use Rattle.sd_extract.proofs.SourceWords.{Sort, BoolSort, Var, Text, names_of, Program, Expr, Invariant, StmtKind, If', While', Row_of-Stmt, end_of-Stmt, more_of-Stmt, SourceRoutine, procedure_in, routine_named, requires_of, ensures_of}
-use Rattle.sd_extract.proofs.SourceWords.{clauses_of, globals_in, kinds_in, Scope, Context, context, routine, variables_as, parameters, modifies_of, body_variables, HasType, IsTypedStmt, AreTypedStmts}
-use Rattle.sd_extract.proofs.CoreWords.{Global, At, Literal, CoreStmt, CoreProc, Function, CoreProgram, Store, slots_from, sorts_of, state_sorts, IsSort, AllHaveTypes, AreSpotsOf, IsFormed, AllFormed, IsProc, copies_in, core_of, counts}
-use Rattle.sd_extract.proofs.CoreWords.{counts_all, counts_each, none, has_returns, Source, state_of, copies_of, frame_at, kinds, put, check, assume, on_args, loop_call, each_extracted, contract, leave, body_frame, body_copies, body_start}
-use Rattle.sd_extract.proofs.CoreWords.{body_proc, loop_state, loop_hidden, left_of, loop_frame, loop_start, turn_of, loop_proc, loops_in, all_loops_in, each_loop_in, procs_of, hidden, ins_of, var_in, modified_names, number_from}
-use Rattle.sd_extract.proofs.CoreWords.{core_procs, core_program, functions_in}
+use Rattle.sd_extract.proofs.SourceWords.{Sort, BoolSort, Var, Text, names_of, Program, Expr, Invariant, StmtKind, If', While', Row_of-Stmt, end_of-Stmt, more_of-Stmt, SourceRoutine, procedure_in, routine_named, requires_of, ensures_of, clauses_of, globals_in, kinds_in, Scope, Context, context, routine, variables_as, parameters, modifies_of, body_variables, HasType, IsTypedStmt, AreTypedStmts}
+use Rattle.sd_extract.proofs.CoreWords.{Global, At, Literal, CoreStmt, CoreProc, Function, CoreProgram, Store, slots_from, sorts_of, state_sorts, IsSort, AllHaveTypes, AreSpotsOf, IsFormed, AllFormed, IsProc, copies_in, core_of, counts, counts_all, counts_each, none, has_returns, Source, state_of, copies_of, frame_at, kinds, put, check, assume, on_args, loop_call, each_extracted, contract, leave, body_frame, body_copies, body_start, body_proc, loop_state, loop_hidden, left_of, loop_frame, loop_start, turn_of, loop_proc, loops_in, all_loops_in, each_loop_in, procs_of, hidden, ins_of, var_in, modified_names, number_from, core_procs, core_program, functions_in}
 use Rattle.sd_base.proofs.Lists.{all-append}
 use Rattle.sd_types.specs.declared.scope.Nature.TheVariants as nature
 use Rattle.sd_types.specs.declared.scope.Site.TheVariants as site

@@ -7,10 +7,8 @@ use Rattle.std.specs.Cmp.Lexicographic.{bytes_decides}
 use Rattle.std.proofs.lemmas.List.{map-append}
 use Rattle.std.proofs.lemmas.Option.{none-some}
 use Rattle.std.proofs.lemmas.List.Elements.{filter-append}
-use Rattle.sd_extract.proofs.SourceWords.{Sort, BoolSort, Var, Text, same_text, Decl, Const, Function, Axiom, Globals, Procedure, Program, Routine, routine_named, globals_in}
-use Rattle.sd_extract.proofs.SourceWords.{uniques_in, Variable, Signature, Nature, Scope, named, context, may_name, known_sort, variables_as, constants_of, known_sorts, decl_rule}
-use Rattle.sd_extract.proofs.CoreWords.{CoreFunction, CoreProc, CoreProgram, sorts_of, names_of, IsSort, IsProc, HasCoreType, place_of, at_place, kinds, source_of, size_of}
-use Rattle.sd_extract.proofs.CoreWords.{number_from, routine_procs, procs_from, constants_named, functions_in, axioms_in, no_names, core_axiom, core_program, ExtractedIsFormed}
+use Rattle.sd_extract.proofs.SourceWords.{Sort, BoolSort, Var, Text, same_text, Decl, Const, Function, Axiom, Globals, Procedure, Program, Routine, routine_named, globals_in, uniques_in, Variable, Signature, Nature, Scope, named, context, may_name, known_sort, variables_as, constants_of, known_sorts, decl_rule}
+use Rattle.sd_extract.proofs.CoreWords.{CoreFunction, CoreProc, CoreProgram, sorts_of, names_of, IsSort, IsProc, HasCoreType, place_of, at_place, kinds, source_of, size_of, number_from, routine_procs, procs_from, constants_named, functions_in, axioms_in, no_names, core_axiom, core_program, ExtractedIsFormed}
 use Rattle.sd_base.proofs.Lists.{all-append, all-back}
 use Rattle.sd_base.proofs.Texts.{same_text-refl}
 use Rattle.sd_meaning.specs.Inputs.{constants_of_sort}

@@ -3,13 +3,8 @@ use Rattle.std.proofs.Common.{◌≡◌, ◌≢◌, ℕ, suc, ◌+◌, ◌≤◌
 use Rattle.std.specs.Prelude.{Bool, true, false, slice_get, Contains, unwrap_or, if◌then◌else◌}
 use Rattle.std.specs.List.{AllByRecursion, IsDistinct}
 use Rattle.std.specs.Cmp.Lexicographic.{bytes_decides}
-use Rattle.sd_extract.proofs.SourceWords.{Sort, BoolSort, Text, same_text, MapOf, Program, Proc, Expr, Left, StmtKind, Assert, Assume, Assign, Call, If', While', Break, Return, Row_of-Stmt, end_of-Stmt, more_of-Stmt, Clause, procedure_in}
-use Rattle.sd_extract.proofs.SourceWords.{routine_named, requires_of, SourceRoutine, globals_in, Variable, Callee, Scope, and_then, named, Context, context, assigned_as, assignable, modified_rule, has_body, left_names, parameters, HasType}
-use Rattle.sd_extract.proofs.SourceWords.{AllHave, Calls, IsTypedStmt, AreTypedStmts}
-use Rattle.sd_extract.proofs.CoreWords.{Spot, Slot, CoreExpr, At, CoreStmt, If, Row_of-CoreStmt, end_of-CoreStmt, more_of-CoreStmt, items-the_row-CoreStmt, items_hidden-the_row-CoreStmt-0, hidden-the_row-CoreStmt-0, CoreProc, CoreProgram}
-use Rattle.sd_extract.proofs.CoreWords.{Store, slots_from, sorts_of, state_sorts, sort_at, IsSort, AllHaveTypes, AreSpotsOf, AreApart, Within, AreTargets, IsFormed, AllFormed, HasCoreType, Names, place_of, at_place, negated, both, core_of}
-use Rattle.sd_extract.proofs.CoreWords.{Counts, plus, counts, counts_all, counts_each, has_return, has_returns, Frame, put, checked, check, assume, spot_of, stored, cores, all_stored, on_args, call_of, loop_call, leave_if, extracted}
-use Rattle.sd_extract.proofs.CoreWords.{all_extracted, each_extracted, ins_of, source_of, has_return_among}
+use Rattle.sd_extract.proofs.SourceWords.{Sort, BoolSort, Text, same_text, MapOf, Program, Proc, Expr, Left, StmtKind, Assert, Assume, Assign, Call, If', While', Break, Return, Row_of-Stmt, end_of-Stmt, more_of-Stmt, Clause, procedure_in, routine_named, requires_of, SourceRoutine, globals_in, Variable, Callee, Scope, and_then, named, Context, context, assigned_as, assignable, modified_rule, has_body, left_names, parameters, HasType, AllHave, Calls, IsTypedStmt, AreTypedStmts}
+use Rattle.sd_extract.proofs.CoreWords.{Spot, Slot, CoreExpr, At, CoreStmt, If, Row_of-CoreStmt, end_of-CoreStmt, more_of-CoreStmt, items-the_row-CoreStmt, items_hidden-the_row-CoreStmt-0, hidden-the_row-CoreStmt-0, CoreProc, CoreProgram, Store, slots_from, sorts_of, state_sorts, sort_at, IsSort, AllHaveTypes, AreSpotsOf, AreApart, Within, AreTargets, IsFormed, AllFormed, HasCoreType, Names, place_of, at_place, negated, both, core_of, Counts, plus, counts, counts_all, counts_each, has_return, has_returns, Frame, put, checked, check, assume, spot_of, stored, cores, all_stored, on_args, call_of, loop_call, leave_if, extracted, all_extracted, each_extracted, ins_of, source_of, has_return_among}
 use Rattle.sd_types.specs.declared.scope.Site.TheVariants as site
 use Rattle.sd_types.specs.Scopes.{declared_as as declared_in}
 use Rattle.sd_types.specs.Statements.{Routine}

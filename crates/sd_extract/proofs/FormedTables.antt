@@ -3,8 +3,7 @@ use Rattle.std.proofs.Common.{◌≡◌, List, [], ◌∷◌, ◌++◌, map, Opt
 use Rattle.std.specs.Prelude.{Bool, true, false, cond, ◌||◌, Result, if◌then◌else◌}
 use Rattle.std.specs.List.{AllByRecursion, IsDistinct}
 use Rattle.std.proofs.lemmas.List.{append-nil, map-append}
-use Rattle.sd_extract.proofs.SourceWords.{Var, Text, same_text, Decl, Const, Function, Axiom, Globals, Procedure, Implementation, Body, Head, TypeError, Twice, Variable, Signature, Callee, Scope, is_among, and_then, named, with_name}
-use Rattle.sd_extract.proofs.SourceWords.{with_names, variables_as, constants_of, callee_of, locals_of, own_names}
+use Rattle.sd_extract.proofs.SourceWords.{Var, Text, same_text, Decl, Const, Function, Axiom, Globals, Procedure, Implementation, Body, Head, TypeError, Twice, Variable, Signature, Callee, Scope, is_among, and_then, named, with_name, with_names, variables_as, constants_of, callee_of, locals_of, own_names}
 use Rattle.sd_ast.specs.declared.Decl.TheVariants.{Types}
 use Rattle.sd_types.specs.declared.scope.Nature.TheVariants as nature
 use Rattle.sd_types.specs.Tables.{with_entry, with_entries}

@@ -3,10 +3,8 @@ use Rattle.std.proofs.Common.{◌≡◌, ℕ, zero, suc, ◌+◌, List, [], ◌�
 use Rattle.std.specs.Prelude.{Bool, true, slice_get, codes}
 use Rattle.std.proofs.Math.Seq.{get_or-append_seam}
 use Rattle.std.proofs.lemmas.List.{length-map, map-append}
-use Rattle.sd_extract.proofs.SourceWords.{Var, Text, Value, Program, Proc, Expr, Invariant, StmtKind, While', Row_of-Stmt, Interpretation, State, Routine, clauses_of, requires_of, ensures_of, procedure_in, routine_named, names_of, Outcome}
-use Rattle.sd_extract.proofs.SourceWords.{Verdict, verdict, before, if_assumed, each, kinds_in, entered, outcome_of, reach, Level, step, level_by}
-use Rattle.sd_extract.proofs.CoreWords.{CoreStmt, CoreProc, Store, nothing, Calls, run_all, slots_from, enter, out_spots, end_of, flag_run, Names, Counts, has_returns, Frame, Source, state_of, copies_of, frame_at, kinds, leave, body_frame}
-use Rattle.sd_extract.proofs.CoreWords.{contract, hidden, none, body_copies, body_start, body_proc, loop_state, left_slot, left_of, loop_frame, loop_start, loop_proc, each_extracted}
+use Rattle.sd_extract.proofs.SourceWords.{Var, Text, Value, Program, Proc, Expr, Invariant, StmtKind, While', Row_of-Stmt, Interpretation, State, Routine, clauses_of, requires_of, ensures_of, procedure_in, routine_named, names_of, Outcome, Verdict, verdict, before, if_assumed, each, kinds_in, entered, outcome_of, reach, Level, step, level_by}
+use Rattle.sd_extract.proofs.CoreWords.{CoreStmt, CoreProc, Store, nothing, Calls, run_all, slots_from, enter, out_spots, end_of, flag_run, Names, Counts, has_returns, Frame, Source, state_of, copies_of, frame_at, kinds, leave, body_frame, contract, hidden, none, body_copies, body_start, body_proc, loop_state, left_slot, left_of, loop_frame, loop_start, loop_proc, each_extracted}
 use Rattle.sd_meaning.specs.Run.{named, body_run, level, root_run}
 use Rattle.sd_core.specs.Run.{run_number, calls_within}
 use Rattle.sd_extract.proofs.Expressions.{at_all}

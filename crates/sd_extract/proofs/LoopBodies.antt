@@ -2,10 +2,8 @@
 use Rattle.std.proofs.Common.{◌≡◌, ℕ, List, [], ◌∷◌, ◌++◌, Option, Some, refl, sym, ◌∙◌, ap, subst, get_or, length, arith}
 use Rattle.std.specs.Prelude.{Bool, true, false, map, set, if◌then◌else◌}
 use Rattle.std.proofs.lemmas.List.{map-append, get_or-set_other}
-use Rattle.sd_extract.proofs.SourceWords.{Value, Truth, Expr, StmtKind, Interpretation, State, value, truth_of, Clause, names_of, Flow, Next, Breaks, Returns, Failed, Blocked, Unfinished, Verdict, Holds, Fails, FreeFails, verdict, if_holds}
-use Rattle.sd_extract.proofs.SourceWords.{each, Level, reach, step, level_by}
-use Rattle.sd_extract.proofs.CoreWords.{Spot, At, Literal, CoreProc, Store, read, write, write_all, set_all, nothing, value_in, CoreEnded, Step, Goes, Calls, then_run, run, run_all, slots_from, enter, outs_of, out_spots, end_of, core_of}
-use Rattle.sd_extract.proofs.CoreWords.{Frame, put, check, loop_call, Source, state_of, body_copies, loop_state, left_slot, left_of, loop_frame, loop_start, turn_of, each_extracted}
+use Rattle.sd_extract.proofs.SourceWords.{Value, Truth, Expr, StmtKind, Interpretation, State, value, truth_of, Clause, names_of, Flow, Next, Breaks, Returns, Failed, Blocked, Unfinished, Verdict, Holds, Fails, FreeFails, verdict, if_holds, each, Level, reach, step, level_by}
+use Rattle.sd_extract.proofs.CoreWords.{Spot, At, Literal, CoreProc, Store, read, write, write_all, set_all, nothing, value_in, CoreEnded, Step, Goes, Calls, then_run, run, run_all, slots_from, enter, outs_of, out_spots, end_of, core_of, Frame, put, check, loop_call, Source, state_of, body_copies, loop_state, left_slot, left_of, loop_frame, loop_start, turn_of, each_extracted}
 use Rattle.sd_meaning.specs.Run.{after_turn}
 use Rattle.sd_core.specs.declared.CoreStmt as core
 use Rattle.sd_extract.specs.Extract.{loop_body}

@@ -3,8 +3,7 @@ use Rattle.std.proofs.Common.{◌≡◌, ℕ, suc, List, [], ◌∷◌, ◌++◌
 use Rattle.std.specs.Prelude.{Bool, true, false, map, set, if◌then◌else◌}
 use Rattle.std.proofs.lemmas.List.{map-append, map-set}
 use Rattle.sd_extract.proofs.SourceWords.{Text, Value, Truth, Expr, StmtKind, While', Row_of-Stmt, Invariant, Interpretation, State, truth_of, names_of, Flow, Next, Breaks, Returns, Failed, Blocked, Unfinished, Level, step}
-use Rattle.sd_extract.proofs.CoreWords.{Spot, Slot, Global, At, CoreStmt, Store, read, write, write_all, set_all, nothing, value_in, End, CoreEnded, CoreUnfinished, Step, Goes, Stops, Blocks, Lacks, Calls, receive, then_run, run, run_all}
-use Rattle.sd_extract.proofs.CoreWords.{slots_from, Counts, has_returns, Frame, loop_call, leave_if, Source, state_of, frame_at, extracted}
+use Rattle.sd_extract.proofs.CoreWords.{Spot, Slot, Global, At, CoreStmt, Store, read, write, write_all, set_all, nothing, value_in, End, CoreEnded, CoreUnfinished, Step, Goes, Stops, Blocks, Lacks, Calls, receive, then_run, run, run_all, slots_from, Counts, has_returns, Frame, loop_call, leave_if, Source, state_of, frame_at, extracted}
 use Rattle.sd_meaning.specs.Run.{named}
 use Rattle.sd_core.specs.declared.CoreStmt as core
 use Rattle.sd_core.specs.Run.{Blocked as CoreBlocked}

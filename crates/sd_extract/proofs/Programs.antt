@@ -3,8 +3,7 @@ use Rattle.std.proofs.Common.{◌≡◌, ℕ, suc, ◌+◌, List, [], ◌∷◌,
 use Rattle.std.specs.Prelude.{Bool, true, false, option_map, slice_get}
 use Rattle.std.proofs.lemmas.List.{length-map}
 use Rattle.std.proofs.lemmas.Option.{none-some, same_Some}
-use Rattle.sd_extract.proofs.SourceWords.{Text, Value, Program, Proc, StmtKind, If', While', Row_of-Stmt, end_of-Stmt, more_of-Stmt, Meaning, interpretation, Routine, clauses_of, procedure_in, routine_named, names_of, globals_in, kinds_in}
-use Rattle.sd_extract.proofs.SourceWords.{run}
+use Rattle.sd_extract.proofs.SourceWords.{Text, Value, Program, Proc, StmtKind, If', While', Row_of-Stmt, end_of-Stmt, more_of-Stmt, Meaning, interpretation, Routine, clauses_of, procedure_in, routine_named, names_of, globals_in, kinds_in, run}
 use Rattle.sd_extract.proofs.CoreWords.{CoreProc, flag_run, sorts_of, counts, counts_all, Source, kinds, body_proc, has_returns, source_of, modified_names, number_from, core_procs, IsFine, AreFine, EachFine}
 use Rattle.sd_meaning.specs.Run.{named}
 pub use Rattle.sd_extract.specs.Laws.{source_named, modified_by, setting_of, ProgramFine, ExtractedRuns}

@@ -2,10 +2,8 @@
 use Rattle.std.proofs.Common.{◌≡◌, ℕ, suc, ◌+◌, Bool, true, false, List, [], ◌∷◌, ◌++◌, map, Option, Some, None, refl}
 use Rattle.std.specs.Prelude.{option_map, if◌then◌else◌}
 use Rattle.std.specs.List.{AllByRecursion, filter_map, cons_option}
-use Rattle.sd_extract.proofs.SourceWords.{BoolSort, Var, Text, same_text, Body, Proc, Impl, Spec, Requires, Ensures, Decl, Globals, Procedure, Implementation, Program, Routine, requires_of, ensures_of, procedure_in, implementation_in}
-use Rattle.sd_extract.proofs.SourceWords.{with_body, routine_named, globals_in, uniques_in}
-use Rattle.sd_extract.proofs.CoreWords.{arg_vars, ins_of, Global, At, Source, source_of, var_in, copies_of, kinds, none, put, check, assume, on_args, contract, leave, body_frame, body_start, body_proc, hidden, each_extracted, procs_of, size_of, number_from}
-use Rattle.sd_extract.proofs.CoreWords.{routine_procs, procs_from, functions_in, axioms_in, core_axiom, AreTruths, IsPropositional}
+use Rattle.sd_extract.proofs.SourceWords.{BoolSort, Var, Text, same_text, Body, Proc, Impl, Spec, Requires, Ensures, Decl, Globals, Procedure, Implementation, Program, Routine, requires_of, ensures_of, procedure_in, implementation_in, with_body, routine_named, globals_in, uniques_in}
+use Rattle.sd_extract.proofs.CoreWords.{arg_vars, ins_of, Global, At, Source, source_of, var_in, copies_of, kinds, none, put, check, assume, on_args, contract, leave, body_frame, body_start, body_proc, hidden, each_extracted, procs_of, size_of, number_from, routine_procs, procs_from, functions_in, axioms_in, core_axiom, AreTruths, IsPropositional}
 use Rattle.sd_base.proofs.Lists.{all-append}
 use Rattle.sd_core.specs.Propositional as propositional
 use Rattle.sd_extract.specs.Propositional.{IsPropositionalSpec, IsPropositionalHead, IsPropositionalBody, MaybePropositionalBody, IsPropositionalDecl}

@@ -1,12 +1,8 @@
 -- Expressions and statements without numbers, calls and loops become such ones of the core.
 use Rattle.std.proofs.Common.{◌≡◌, ℕ, ◌+◌, Bool, true, false, List, [], ◌∷◌, map, Option, Some, None, refl, sym, ap, ◌∙◌, subst}
 use Rattle.std.specs.List.{AllByRecursion}
-use Rattle.sd_extract.proofs.SourceWords.{Text, BinOp, UnOp, Expr, Left, ExprKind, Apply', Row_of-Expr, end_of-Expr, more_of-Expr, StmtKind, Assert, Assume, Assign, Call, If', While', Break, Return, Row_of-Stmt, end_of-Stmt, more_of-Stmt}
-use Rattle.sd_extract.proofs.SourceWords.{Program, OldOf, UnaryOf, BinaryOf, SelectOf, StoreOf, Clause}
-use Rattle.sd_extract.proofs.CoreWords.{Spot, CoreOp, CoreExpr, Apply, Op, Row_of-CoreExpr, end_of-CoreExpr, more_of-CoreExpr, items-the_row-CoreExpr, items_hidden-the_row-CoreExpr-0, hidden-the_row-CoreExpr-0, CoreStmt, If}
-use Rattle.sd_extract.proofs.CoreWords.{Row_of-CoreStmt, end_of-CoreStmt, more_of-CoreStmt, items-the_row-CoreStmt, items_hidden-the_row-CoreStmt-0, hidden-the_row-CoreStmt-0, CoreProc, Names, at_place, place_of, unary_of, binary_of}
-use Rattle.sd_extract.proofs.CoreWords.{negated, both, core_of, cores_of, Counts, Frame, Source, plus, counts, counts_all, put, checked, check, assume, stored, all_stored, cores, extracted, all_extracted, each_extracted}
-use Rattle.sd_extract.proofs.CoreWords.{loops_in, all_loops_in, each_loop_in, IsPropositional}
+use Rattle.sd_extract.proofs.SourceWords.{Text, BinOp, UnOp, Expr, Left, ExprKind, Apply', Row_of-Expr, end_of-Expr, more_of-Expr, StmtKind, Assert, Assume, Assign, Call, If', While', Break, Return, Row_of-Stmt, end_of-Stmt, more_of-Stmt, Program, OldOf, UnaryOf, BinaryOf, SelectOf, StoreOf, Clause}
+use Rattle.sd_extract.proofs.CoreWords.{Spot, CoreOp, CoreExpr, Apply, Op, Row_of-CoreExpr, end_of-CoreExpr, more_of-CoreExpr, items-the_row-CoreExpr, items_hidden-the_row-CoreExpr-0, hidden-the_row-CoreExpr-0, CoreStmt, If, Row_of-CoreStmt, end_of-CoreStmt, more_of-CoreStmt, items-the_row-CoreStmt, items_hidden-the_row-CoreStmt-0, hidden-the_row-CoreStmt-0, CoreProc, Names, at_place, place_of, unary_of, binary_of, negated, both, core_of, cores_of, Counts, Frame, Source, plus, counts, counts_all, put, checked, check, assume, stored, all_stored, cores, extracted, all_extracted, each_extracted, loops_in, all_loops_in, each_loop_in, IsPropositional}
 use Rattle.sd_base.proofs.Lists.{all-append}
 use Rattle.sd_ast.specs.declared.tree.BinOp.TheVariants as bin
 use Rattle.sd_ast.specs.declared.tree.UnOp.TheVariants as un

@@ -2,8 +2,7 @@
 use Rattle.std.proofs.Common.{◌≡◌, List, [], ◌∷◌, ◌++◌, refl, sym, ◌∙◌, ap}
 use Rattle.std.specs.Prelude.{Bool, true, false, not, map, if◌then◌else◌}
 use Rattle.sd_extract.proofs.SourceWords.{Value, write_map, Expr, Left, Interpretation, State, value, truth_of, index_of, Clause, Verdict, Holds, Fails, FreeFails, verdict, values_of, new_values}
-use Rattle.sd_extract.proofs.CoreWords.{Spot, CoreExpr, CoreStmt, If, Row_of-CoreStmt, end_of-CoreStmt, more_of-CoreStmt, items-the_row-CoreStmt, items_hidden-the_row-CoreStmt-0, hidden-the_row-CoreStmt-0, Store, write_all, value_in, Step}
-use Rattle.sd_extract.proofs.CoreWords.{Goes, Stops, Blocks, Lacks, Calls, then_run, run, run_all, Names, place_of, at_place, negated, both, core_of, put, checked, check, stored, cores, all_stored}
+use Rattle.sd_extract.proofs.CoreWords.{Spot, CoreExpr, CoreStmt, If, Row_of-CoreStmt, end_of-CoreStmt, more_of-CoreStmt, items-the_row-CoreStmt, items_hidden-the_row-CoreStmt-0, hidden-the_row-CoreStmt-0, Store, write_all, value_in, Step, Goes, Stops, Blocks, Lacks, Calls, then_run, run, run_all, Names, place_of, at_place, negated, both, core_of, put, checked, check, stored, cores, all_stored}
 use Rattle.sd_meaning.specs.Run.{written}
 use Rattle.sd_core.specs.declared.CoreOp.TheVariants as op
 use Rattle.sd_core.specs.declared.CoreStmt as core

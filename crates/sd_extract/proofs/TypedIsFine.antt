@@ -3,8 +3,7 @@ use Rattle.std.proofs.Common.{◌≡◌, Bool, true, false, List, [], ◌∷◌,
 use Rattle.std.specs.List.{IsDistinct}
 use Rattle.std.proofs.lemmas.List.{length-map, map-append}
 use Rattle.std.proofs.lemmas.Option.{same_Some}
-use Rattle.sd_extract.proofs.SourceWords.{Text, same_text, Program, Expr, StmtKind, Assign, Call, If', While', Break, Row_of-Stmt, end_of-Stmt, more_of-Stmt, names_of, Routine, routine_named, globals_in, Callee, Scope, routine, left_names}
-use Rattle.sd_extract.proofs.SourceWords.{modifies_of, body_variables, WellTyped, Calls, IsTypedStmt, AreTypedStmts}
+use Rattle.sd_extract.proofs.SourceWords.{Text, same_text, Program, Expr, StmtKind, Assign, Call, If', While', Break, Row_of-Stmt, end_of-Stmt, more_of-Stmt, names_of, Routine, routine_named, globals_in, Callee, Scope, routine, left_names, modifies_of, body_variables, WellTyped, Calls, IsTypedStmt, AreTypedStmts}
 use Rattle.sd_extract.proofs.CoreWords.{Source, source_of, number_from, body_proc, Among, IsFine, AreFine, EachFine}
 use Rattle.sd_types.specs.Statements.{Routine as Rules}
 use Rattle.sd_extract.specs.Laws.{Setting, CallFine, SourceFine, modified_by, setting_of, ProgramFine}

@@ -24,6 +24,16 @@ impl State {
             return Ok(false);
         }
         self.eliminated = Some(self.version);
+        let mark = self.rows.mark();
+        if self.eliminate_columns()? {
+            return Ok(true);
+        }
+        self.rows.forget(mark);
+        Ok(false)
+    }
+
+    /// Eliminates one column after another.
+    fn eliminate_columns(&mut self) -> Result<bool, Stop> {
         let mut rows = Vec::new(self.alloc);
         rows.extend_from_slice(&self.bounds)?;
         for _ in 0..u32::MAX {

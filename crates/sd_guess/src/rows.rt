@@ -54,6 +54,17 @@ impl Rows {
         }
     }
 
+    /// How many cells and rows there are.
+    pub fn mark(&self) -> (usize, usize) {
+        (self.cells.len(), self.rows.len())
+    }
+
+    /// Forgets the rows that came after a mark, to which nothing may refer.
+    pub fn forget(&mut self, mark: (usize, usize)) {
+        self.cells.truncate(mark.0);
+        self.rows.truncate(mark.1);
+    }
+
     pub fn row(&self, number: u32) -> Result<RowEntry, Stop> {
         at(&self.rows, number)
     }

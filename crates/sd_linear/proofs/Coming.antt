@@ -1,14 +1,12 @@
 -- how a row comes into a list, by cases
-use Rattle.std.proofs.Common.{◌≡◌, ◌≢◌, ℕ, suc, ◌<◌, ◌≤◌, List, [], ◌∷◌, ◌++◌, length, refl, ap, true, false, arith}
-use Rattle.std.proofs.Common.{pos, ◌<ℤ◌}
+use Rattle.std.proofs.Common.{◌≡◌, ◌≢◌, ℕ, suc, ◌<◌, ◌≤◌, List, [], ◌∷◌, ◌++◌, length, refl, ap, true, false, arith, pos, ◌<ℤ◌}
 use Rattle.std.proofs.lemmas.Int.{ints}
 use Rattle.std.proofs.lemmas.Bool.Decides.{nat_tests}
 use Rattle.sd_rows.specs.declared.row.Row.{Row}
 use Rattle.sd_linear.specs.declared.list.DerivedRow.{DerivedRow}
-use Rattle.sd_rows.specs.Rows.{Parts, is_within}
+use Rattle.sd_rows.specs.Rows.{Parts, is_within, is_empty}
 use Rattle.sd_rows.specs.RowOps.{reduced}
 use Rattle.sd_linear.specs.Elimination.{refuted, many, continues, ends, after, joined, come_in, all_come_in}
-use Rattle.sd_rows.specs.Rows.{is_empty}
 use Rattle.sd_linear.specs.DerivedRows.{rows_of}
 
 not_empty : (ps : Parts) → ps ≢ [] → is_empty ps ≡ false

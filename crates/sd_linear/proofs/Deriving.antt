@@ -1,6 +1,5 @@
 -- what more steps derive
-use Rattle.std.proofs.Common.{◌≡◌, ℕ, zero, suc, ◌+◌, ◌<◌, ◌≤◌, List, [], ◌∷◌, ◌++◌, length, refl, sym, ap, ◌∙◌, subst, Bool, true, false, arith, append_assoc, append-nil, length-append, unsigned_abs}
-use Rattle.std.proofs.Common.{ℤ, pos, negsuc}
+use Rattle.std.proofs.Common.{◌≡◌, ℕ, zero, suc, ◌+◌, ◌<◌, ◌≤◌, List, [], ◌∷◌, ◌++◌, length, refl, sym, ap, ◌∙◌, subst, Bool, true, false, arith, append_assoc, append-nil, length-append, unsigned_abs, ℤ, pos, negsuc}
 use Rattle.std.specs.Prelude.{slice_index_or, int_div}
 use Rattle.std.proofs.lemmas.Int.{ints}
 use Rattle.std.proofs.Math.Nat.{div-le_self}
@@ -9,12 +8,11 @@ use Rattle.sd_rows.specs.declared.row.Row.{Row}
 use Rattle.sd_linear.specs.declared.step.RowStep.{RowStep}
 use Rattle.sd_linear.specs.declared.step.RowStep.TheVariants.{Cut}
 use Rattle.sd_linear.specs.declared.list.DerivedRow.{DerivedRow}
-use Rattle.sd_rows.specs.Rows.{Parts, IsProper, is_within, are_small}
+use Rattle.sd_rows.specs.Rows.{Parts, IsProper, is_within, are_small, nothing, IsAbsurd}
 use Rattle.sd_rows.specs.Divisors.{greatest_divisor, floor_div}
 use Rattle.sd_rows.specs.RowOps.{reduced, over, sizes}
 use Rattle.sd_linear.specs.RowSteps.{row_made, made_from, rows_made, IsStep, AreSteps, Refutes, IsUseful, AreUseful}
 use Rattle.sd_linear.specs.Values.{AllWithin}
-use Rattle.sd_rows.specs.Rows.{nothing, IsAbsurd}
 use Rattle.sd_linear.specs.DerivedRows.{IsDerivedRow, AreDerivedRows, with_cut}
 use Rattle.sd_rows.proofs.Cuts.{greatest_divisor-divides}
 use Rattle.sd_rows.proofs.Proper.{IsProper-over}

@@ -1,10 +1,8 @@
 -- the input rows and their columns
-use Rattle.std.proofs.Common.{◌≡◌, ℕ, zero, suc, ◌<◌, List, [], ◌∷◌, length, get_or, sym, subst, true, arith}
-use Rattle.std.proofs.Common.{ℤ}
+use Rattle.std.proofs.Common.{◌≡◌, ℕ, zero, suc, ◌<◌, List, [], ◌∷◌, length, get_or, sym, subst, true, arith, ℤ}
 use Rattle.sd_rows.specs.declared.row.Row.{Row}
-use Rattle.sd_rows.specs.Rows.{IsProper, is_within, AllHold}
+use Rattle.sd_rows.specs.Rows.{IsProper, is_within, AllHold, AllComputable}
 use Rattle.sd_linear.specs.Elimination.{elimination, point, value_of, columns}
-use Rattle.sd_rows.specs.Rows.{AllComputable}
 use Rattle.sd_linear.proofs.Choosing.{AllProper}
 use Rattle.sd_linear.proofs.Points.{elimination-meets}
 

@@ -13,4 +13,3 @@ pub mod Points
 pub mod Values
 pub mod Solving
 pub mod Inputs
-pub mod Examples

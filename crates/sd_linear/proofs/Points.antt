@@ -1,15 +1,13 @@
 -- a point of the elimination meets the rows
-use Rattle.std.proofs.Common.{◌≡◌, ℕ, ◌/◌, List, [], ◌∷◌, ◌++◌, refl, sym, ap, ◌∙◌, subst, Bool, true, false, arith, nat_le, unsigned_abs, filter, Option, Some, None}
-use Rattle.std.proofs.Common.{ℤ, pos, ◌≤ℤ◌, ◌<ℤ◌, ◌^◌}
+use Rattle.std.proofs.Common.{◌≡◌, ℕ, ◌/◌, List, [], ◌∷◌, ◌++◌, refl, sym, ap, ◌∙◌, subst, Bool, true, false, arith, nat_le, unsigned_abs, filter, Option, Some, None, ℤ, pos, ◌≤ℤ◌, ◌<ℤ◌, ◌^◌}
 use Rattle.std.specs.Prelude.{if◌then◌else◌, int_lt}
 use Rattle.std.proofs.lemmas.Int.{ints}
 use Rattle.std.proofs.lemmas.Bool.Decides.{Decides-int_eq}
 use Rattle.sd_rows.specs.declared.row.Row.{Row}
-use Rattle.sd_rows.specs.Rows.{Parts, sum_at, Holds, AllHold, IsProper, is_within}
+use Rattle.sd_rows.specs.Rows.{Parts, sum_at, Holds, AllHold, IsProper, is_within, is_empty}
 use Rattle.sd_rows.specs.Divisors.{greatest_divisor}
 use Rattle.sd_rows.specs.RowOps.{reduced, sizes}
 use Rattle.sd_linear.specs.Elimination.{Answer, refuted, point, gap, wide, many, Next, continues, ends, after, answer_after, same_parts, joined, with_reduced, come_in, all_come_in, factor_of, is_free, is_negative, is_positive, combined, combined_with, combinations, eliminated, Range, range_in, nearest, value_of, within_reach, in_range, chosen, solved, columns, elimination}
-use Rattle.sd_rows.specs.Rows.{is_empty}
 use Rattle.sd_rows.proofs.Integers.{same_number_is}
 use Rattle.sd_rows.proofs.Cuts.{Holds-unreduced}
 use Rattle.sd_linear.proofs.Deriving.{IsProper-reduced}

@@ -1,14 +1,12 @@
 -- what steps derive holds where the inputs hold, and so no integers meet inputs that are refuted
-use Rattle.std.proofs.Common.{◌≡◌, ℕ, zero, suc, List, [], ◌∷◌, ◌++◌, ap, arith}
-use Rattle.std.proofs.Common.{ℤ, pos, ◌<ℤ◌}
+use Rattle.std.proofs.Common.{◌≡◌, ℕ, zero, suc, List, [], ◌∷◌, ◌++◌, ap, arith, ℤ, pos, ◌<ℤ◌}
 use Rattle.std.specs.Prelude.{slice_index_or}
 use Rattle.std.proofs.lemmas.Int.{ints}
 use Rattle.sd_rows.specs.declared.row.Row.{Row}
 use Rattle.sd_linear.specs.declared.step.RowStep.{RowStep}
 use Rattle.sd_linear.specs.declared.step.RowStep.TheVariants.{Input, Add, Cut}
-use Rattle.sd_rows.specs.Rows.{sum_at, Holds, AllHold}
+use Rattle.sd_rows.specs.Rows.{sum_at, Holds, AllHold, nothing, IsAbsurd}
 use Rattle.sd_linear.specs.RowSteps.{row_made, made_from, rows_made, Refutes}
-use Rattle.sd_rows.specs.Rows.{nothing, IsAbsurd}
 use Rattle.sd_rows.proofs.Sums.{Holds-added}
 use Rattle.sd_rows.proofs.Cuts.{Holds-reduced}
 

@@ -1,8 +1,7 @@
 -- how the columns' values follow from the first column and the others
-use Rattle.std.proofs.Common.{◌≡◌, ℕ, zero, suc, ◌+◌, ◌<◌, ◌≤◌, List, [], ◌∷◌, ◌++◌, length, drop, set, filter, cond, not, ◌⊎◌, inl, inr, Option, Some, refl, sym, ap, ◌∙◌, subst, Bool, true, false, arith, length-append, drop-cons, add-one}
+use Rattle.std.proofs.Common.{◌≡◌, ℕ, zero, suc, ◌+◌, ◌<◌, ◌≤◌, List, [], ◌∷◌, ◌++◌, length, drop, set, filter, cond, not, ◌⊎◌, inl, inr, Option, Some, refl, sym, ap, ◌∙◌, subst, Bool, true, false, arith, length-append, drop-cons, add-one, ℤ}
 use Rattle.std.proofs.Math.ListN.{get_or-append}
 use Rattle.std.proofs.Math.Seq.{get_or-append_seam}
-use Rattle.std.proofs.Common.{ℤ}
 use Rattle.std.specs.Prelude.{None, slice_index_or, option_and_then, if◌then◌else◌}
 use Rattle.sd_rows.specs.declared.row.Row.{Row}
 use Rattle.sd_linear.specs.declared.list.DerivedRow.{DerivedRow}

@@ -1,5 +1,6 @@
 -- The least of some numbers, and the calls of procedures without partners.
 use Rattle.std.proofs.Common.{◌≡◌, ◌∙◌, sym, ap, refl, subst, ℕ, zero, suc, ◌+◌, ◌<◌, Bool, true, false, List, [], ◌∷◌, ◌++◌, length, map, get_or, drop, add-one, arith}
+use Rattle.sd_base.proofs.Lists.{drop-at}
 use Rattle.std.specs.Prelude.{◌==◌, Option, Some, None, slice_get, is_none, if◌then◌else◌}
 use Rattle.std.specs.List.{filter}
 use Rattle.sd_core.specs.declared.CoreProc.{CoreProc}
@@ -7,7 +8,6 @@ use Rattle.sd_core.specs.declared.CoreProgram.{CoreProgram}
 use Rattle.sd_runs.specs.Calls.{callees_of}
 use Rattle.sd_match.specs.Pairs.{owner, least, partner, is_unmatched, unmatched_calls}
 use Rattle.sd_match.specs.Tables.{lower, lacks, calls_lacking, AreLeast, AreFirstUnmatched}
-use Rattle.sd_match.proofs.ListLemmas.{rest_at}
 
 pub lower-assoc : (a b c : Option ℕ) → lower (lower a b) c ≡ lower a (lower b c)
 lower-assoc None b c = refl
@@ -25,7 +25,7 @@ pub lacking-step : (partners : List (Option ℕ)) (procs : List CoreProc) (i pla
     → lower old (least (calls_lacking partners i place (drop place procs))) ≡ whole → lower new (least (calls_lacking partners i (place + 1) (drop (place + 1) procs))) ≡ whole
 lacking-step partners procs i place p old new callee whole within at found put before =
     (λ k. lower (put k) (least (calls_lacking partners i (add-one place k) (drop (place + 1) procs)))) ∙ step (owner place p.parent == i)
-    ∙ sym (ap (λ ys. lower old (least (calls_lacking partners i place ys))) (rest_at procs place p within at)) ∙ before
+    ∙ sym (ap (λ ys. lower old (least (calls_lacking partners i place ys))) (drop-at procs place p within at)) ∙ before
   where
     step : (b : Bool) → lower (if b then lower old callee else old) (least (calls_lacking partners i (suc place) (drop (place + 1) procs))) ≡ lower old (least ((if b then filter (lacks partners) (callees_of p.body) else []) ++ calls_lacking partners i (suc place) (drop (place + 1) procs)))
     step true = ap (λ o. lower (lower old o) (least (calls_lacking partners i (suc place) (drop (place + 1) procs)))) found ∙ lower-assoc old (least (filter (lacks partners) (callees_of p.body))) (least (calls_lacking partners i (suc place) (drop (place + 1) procs))) ∙ ap (lower old) (sym (least-append (filter (lacks partners) (callees_of p.body)) (calls_lacking partners i (suc place) (drop (place + 1) procs))))

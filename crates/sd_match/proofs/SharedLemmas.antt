@@ -1,45 +1,15 @@
 -- The shared globals, by the table of names.
 use Rattle.std.proofs.Common.{◌≡◌, ◌∙◌, ap, refl, ℕ, suc, Bool, true, false, List, [], ◌∷◌}
+use Rattle.sd_match.proofs.ListLemmas.{some_is}
 use Rattle.std.specs.Prelude.{◌&&◌, ◌↔◌, IsTrue, Option, Some, None, if◌then◌else◌}
 use Rattle.std.specs.List.{AllByRecursion, IsDistinct}
 use Rattle.std.specs.Cmp.Lexicographic.{bytes_decides}
-use Rattle.sd_base.specs.declared.Sort.{Sort, Int, Bool as BoolSort, Named}
 use Rattle.sd_base.specs.declared.Var.{Var}
 use Rattle.sd_base.specs.Value.{same_text}
-use Rattle.sd_base.specs.Sorts.{MapOf}
 use Rattle.sd_core.specs.Formed.{names_of, same_sort}
 use Rattle.sd_core.specs.Failure as failure
 use Rattle.sd_base.specs.Names.{place_from}
 use Rattle.sd_match.specs.Places.{first_named}
-
--- ---- the test of types
-
-both_true : (p q : Bool) → (p && q) ≡ true → (p ≡ true) × (q ≡ true)
-both_true true q h = (refl, h)
-both_true false q h = absurd (cc)
-
-pub sort_is : (s t : Sort) → same_sort s t ≡ true → s ≡ t
-sort_is Int Int h = refl
-sort_is BoolSort BoolSort h = refl
-sort_is (Named t) (Named u) h = ap Named ((bytes_decides t u).0 h)
-sort_is (MapOf i v) (MapOf j w) h =
-    let k = both_true (same_sort i j) (same_sort v w) h in λ l. MapOf (sort_is i j k.0 l) (sort_is v w k.1 l)
-sort_is _ _ h = absurd (cc)
-
-pub same_sort-refl : (s : Sort) → same_sort s s ≡ true
-same_sort-refl Int = refl
-same_sort-refl BoolSort = refl
-same_sort-refl (Named t) = (bytes_decides t t).1 refl
-same_sort-refl (MapOf i v) = rw (same_sort-refl i, same_sort-refl v) refl
-
-pub same_sort-test : (s t : Sort) (r : Bool) → (IsTrue r ↔ (s ≡ t)) → r ≡ same_sort s t
-same_sort-test s t r h = go r (same_sort s t) h refl
-  where
-    go : (r b : Bool) → (IsTrue r ↔ (s ≡ t)) → same_sort s t ≡ b → r ≡ b
-    go true true h e = refl
-    go false false h e = refl
-    go true false h e = absurd (let a = ap (same_sort s) (h.0 refl) in let b = same_sort-refl s in cc)
-    go false true h e = h.1 (sort_is s t e)
 
 -- ---- places by name and type
 
@@ -57,9 +27,6 @@ none_after (z ∷ zs) x y e h =
     let same : x.name ≡ y.name = (bytes_decides x.name y.name).0 e in
     let off : same_text x.name z.name ≡ false = ap (λ t. same_text t z.name) same ∙ h.0 in
     ap (λ b. if b then Some z else first_named (λ (v : Var). v.name) zs x.name) off ∙ none_after zs x y e h.1
-
-some_is : {A : Type 0} (a b : A) → ◌≡◌ {A = Option A} (Some a) (Some b) → a ≡ b
-some_is a b e = cc
 
 -- the place by name is the place by name and type, where the type is the same
 pub typed_place : (n : ℕ) (xs : List Var) (x : Var) (i : ℕ) (d : Var) → IsDistinct same_text (names_of xs) → place_from n (names_of xs) x.name ≡ Some i → first_named (λ (v : Var). v.name) xs x.name ≡ Some d → failure.place_from n xs x ≡ (if same_sort x.sort d.sort then Some i else None)

@@ -1,9 +1,9 @@
 -- Places in states, by position and by name.
 use Rattle.std.proofs.Common.{◌≡◌, ◌∙◌, sym, ap, refl, ℕ, zero, suc, ◌+◌, ◌<◌, ◌≤◌, min, Bool, true, false, List, [], ◌∷◌, length, get_or, drop, add-one, arith}
+use Rattle.sd_base.proofs.Lists.{drop-at}
 use Rattle.std.proofs.lemmas.List.{drop_more}
 use Rattle.std.specs.Prelude.{◌&&◌, ◌↔◌, IsTrue, Option, Some, slice_get, if◌then◌else◌}
 use Rattle.std.specs.List.{AllByRecursion, IsDistinct}
-use Rattle.std.specs.Cmp.Lexicographic.{bytes_decides}
 use Rattle.sd_base.specs.declared.Var.{Var}
 use Rattle.sd_base.specs.Value.{Text, same_text}
 use Rattle.sd_core.specs.declared.Spot.TheVariants.{Slot}
@@ -11,24 +11,13 @@ use Rattle.sd_core.specs.Formed.{names_of, same_sort}
 use Rattle.sd_core.specs.Failure as failure
 use Rattle.sd_base.specs.Names.{place_from}
 use Rattle.sd_match.specs.Pairs.{by_position}
-use Rattle.sd_match.proofs.ListLemmas.{some_is, rest_at}
+use Rattle.sd_match.proofs.ListLemmas.{some_is}
 use Rattle.sd_base.proofs.Texts.{same_text-flip}
-
--- ---- names and types
-
-pub same_text-test : (s t : Text) (r : Bool) → (IsTrue r ↔ (s ≡ t)) → r ≡ same_text s t
-same_text-test s t r h = go r (same_text s t) h refl
-  where
-    go : (r b : Bool) → (IsTrue r ↔ (s ≡ t)) → same_text s t ≡ b → r ≡ b
-    go true true h e = refl
-    go false false h e = refl
-    go true false h e = absurd (let a = (bytes_decides s t).1 (h.0 refl) in cc)
-    go false true h e = h.1 ((bytes_decides s t).0 e)
 
 pub alike-step : (news : List Var) (place : ℕ) (x y : Var) (r : Bool) → place < length news → y ≡ get_or news place y → r ≡ (same_text x.name y.name && same_sort x.sort y.sort)
     → failure.place_from place (drop place news) x ≡ (if r then Some place else failure.place_from (place + 1) (drop (place + 1) news) x)
 alike-step news place x y r within at test =
-    ap (λ ys. failure.place_from place ys x) (rest_at news place y within at)
+    ap (λ ys. failure.place_from place ys x) (drop-at news place y within at)
     ∙ (λ k. if sym test k then Some place else failure.place_from (sym (add-one place) k) (drop (place + 1) news) x)
 
 -- ---- distinct names
@@ -58,7 +47,7 @@ own_places-distinct xs h = firsts_distinct 0 xs (λ k x e. h k x e ∙ ap Some (
 pub by_position-step : (i j place : ℕ) (olds news : List Var) (x : Var) → place < length olds → place < length news → x ≡ get_or olds place x
     → by_position (i + place) (j + place) (drop place olds) (drop place news) ≡ record { old = Slot (i + place); new = Slot (j + place); sort = x.sort } ∷ by_position (i + (place + 1)) (j + (place + 1)) (drop (place + 1) olds) (drop (place + 1) news)
 by_position-step i j place olds news x within within' at =
-    let e = rest_at olds place x within at in
+    let e = drop-at olds place x within at in
     let f = drop_more news place x within' in
     let m : suc (i + place) ≡ i + (place + 1) = omega arith in
     let n : suc (j + place) ≡ j + (place + 1) = omega arith in

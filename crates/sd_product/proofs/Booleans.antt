@@ -10,8 +10,7 @@ use Rattle.sd_core.specs.declared.Spot.{Spot}
 use Rattle.sd_core.specs.declared.Spot.TheVariants.{Slot, Global}
 use Rattle.sd_core.specs.declared.CoreOp.{CoreOp}
 use Rattle.sd_core.specs.declared.CoreOp.TheVariants as op
-use Rattle.sd_core.specs.declared.CoreExpr.{CoreExpr, Num, At, Const, Apply', Op', Row_of-CoreExpr, end_of-CoreExpr, more_of-CoreExpr}
-use Rattle.sd_core.specs.declared.CoreExpr.{Truth as Literal}
+use Rattle.sd_core.specs.declared.CoreExpr.{CoreExpr, Num, At, Const, Apply', Op', Row_of-CoreExpr, end_of-CoreExpr, more_of-CoreExpr, Truth as Literal}
 use Rattle.sd_core.specs.declared.CoreStmt.{CoreStmt, Assign, If', Call, Assume, Fail, Return, Row_of-CoreStmt, end_of-CoreStmt, more_of-CoreStmt}
 use Rattle.sd_core.specs.declared.CoreProc.{CoreProc}
 use Rattle.sd_core.specs.declared.CoreProgram.{CoreProgram}
@@ -26,8 +25,7 @@ use Rattle.sd_term.specs.Tree.{Tree, leaf}
 use Rattle.sd_term.specs.Build.{not_of, and_of, or_of, eq_of, ite_of}
 use Rattle.sd_kernel.specs.Boolean.{IsBoolean, AllBoolean}
 use Rattle.sd_kernel.proofs.Propositions.{not-boolean, and-boolean, or-boolean, ite-boolean}
-use Rattle.sd_vcgen.specs.Body.{Site, State, Context, constant, nothing, op_term, term_in, terms_in, guard_of, assign, symbols, site_flag, modified_sorts, changed, site_of, count, row_count, step, steps, all_steps, begun, body_of}
-use Rattle.sd_vcgen.specs.Body.{call as call_term}
+use Rattle.sd_vcgen.specs.Body.{Site, State, Context, constant, nothing, op_term, term_in, terms_in, guard_of, assign, symbols, site_flag, modified_sorts, changed, site_of, count, row_count, step, steps, all_steps, begun, body_of, call as call_term}
 use Rattle.sd_vcgen.proofs.Truths.{all_push}
 
 -- ---- building

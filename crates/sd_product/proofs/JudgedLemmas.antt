@@ -118,3 +118,19 @@ open-flags-fail fails h seen n x facts cube formed old_propositional new_proposi
     } in
     let same : facts ≡ query_of W Z seen x = same_Some facts (query_of W Z seen x) (sym query ∙ query-at h formed seen n x f.at) in
     fails W Z seen x cube claim (subst (λ (fs : List Tree). IsOpenCube fs cube) same is_open)
+
+-- ---- the live numbers of a longer table
+
+pub live_from-true : (n : ℕ) (bs : List Bool) → live_from n (bs ++ true ∷ []) ≡ live_from n bs ++ (n + length bs) ∷ []
+live_from-true n [] = let e : n ≡ n + 0 = omega arith in ap (λ k. k ∷ []) e
+live_from-true n (true ∷ bs) =
+    let e : suc n + length bs ≡ n + suc (length bs) = omega arith in
+    ap (λ ks. n ∷ ks) (live_from-true (suc n) bs ∙ ap (λ k. live_from (suc n) bs ++ k ∷ []) e)
+live_from-true n (false ∷ bs) =
+    let e : suc n + length bs ≡ n + suc (length bs) = omega arith in
+    live_from-true (suc n) bs ∙ ap (λ k. live_from (suc n) bs ++ k ∷ []) e
+
+pub live_from-false : (n : ℕ) (bs : List Bool) → live_from n (bs ++ false ∷ []) ≡ live_from n bs
+live_from-false n [] = refl
+live_from-false n (true ∷ bs) = ap (λ ks. n ∷ ks) (live_from-false (suc n) bs)
+live_from-false n (false ∷ bs) = live_from-false (suc n) bs

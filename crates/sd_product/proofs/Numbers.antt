@@ -1,5 +1,6 @@
 -- Lists of numbers over a bank that grows.
 use Rattle.std.proofs.Common.{◌≡◌, ℕ, zero, suc, ◌+◌, ◌-◌, ◌<◌, ◌≤◌, List, [], ◌∷◌, ◌++◌, length, drop, get_or, sym, ap, subst, ◌∙◌, arith}
+use Rattle.sd_base.proofs.Lists.{get_or-map_none}
 use Rattle.std.specs.Prelude.{All, map, Some, None, slice_get}
 use Rattle.std.proofs.lemmas.List.{map-append, append_assoc, append-nil}
 use Rattle.std.proofs.lemmas.List.Elements.{All-push}
@@ -12,7 +13,6 @@ use Rattle.sd_term.specs.Bank.{tree_at}
 use Rattle.sd_term.specs.Build.{Extends, not_of, or_of}
 use Rattle.sd_vcgen.specs.Body.{nothing}
 use Rattle.sd_vcgen.specs.Numbers.{Denotes, number_at}
-use Rattle.sd_vcgen.proofs.Stores.{map_absent}
 use Rattle.sd_vcgen.proofs.Numbers.{extends_self, extends_then, all_later, trees_later}
 use Rattle.sd_vcgen.proofs.Loops.{drop_split}
 use Rattle.sd_product.specs.Query.{under}
@@ -44,8 +44,8 @@ number_at-some bank n (Global i) id w e = record {
 }
 
 pub number_at-none : (bank : List Tree) (n : StateTerms) (s : Spot) → number_at (numbers_of n) s ≡ None → read nothing (store_at bank n) s ≡ nothing
-number_at-none bank n (Slot i) e = map_absent (tree_at bank) (n.ins.now ++ n.outs.now) i nothing e
-number_at-none bank n (Global i) e = map_absent (tree_at bank) n.globals.now i nothing e
+number_at-none bank n (Slot i) e = get_or-map_none (tree_at bank) (n.ins.now ++ n.outs.now) i nothing e
+number_at-none bank n (Global i) e = get_or-map_none (tree_at bank) n.globals.now i nothing e
 
 pub within_later : (a b : List Tree) (n : StateTerms) → Extends a b → AreWithin a n → AreWithin b n
 within_later a b n h w = record { ins = all_later a b n.ins.now h w.ins; outs = all_later a b n.outs.now h w.outs; globals = all_later a b n.globals.now h w.globals }

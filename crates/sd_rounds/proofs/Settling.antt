@@ -1,5 +1,6 @@
 -- How one candidate is judged.
 use Rattle.std.proofs.Common.{◌≡◌, ◌≢◌, ◌∙◌, sym, ap, refl, subst, ℕ, suc, zero, ◌+◌, ◌-◌, ◌<◌, ◌≤◌, Bool, true, false, List, [], ◌∷◌, ◌++◌, length, set, take, append_assoc, length-append, arith}
+use Rattle.sd_product.proofs.JudgedLemmas.{live_from-true, live_from-false}
 use Rattle.std.specs.Prelude.{Some, MatchBool, ◌||◌, replicate, slice_get, Contains}
 use Rattle.std.proofs.lemmas.List.{append-nil, map-append, take_more, take_all, get_or-replicate, length-take-le}
 use Rattle.std.proofs.lemmas.Option.{slice_get_within, slice_get-get_or, get_or_from_slice_get}
@@ -70,20 +71,6 @@ not_cleared : (t : List Bool) (cs : List ℕ) (i : ℕ) → slice_get (cleared t
 not_cleared t [] i e (k, within, is) = omega arith
 not_cleared t (c ∷ cs) i e (zero, within, is) = not_set t c (subst (λ (k : ℕ). slice_get (set t c false) k ≡ Some true) (sym is) (live_before (set t c false) cs i e))
 not_cleared t (c ∷ cs) i e (suc k, within, is) = not_cleared (set t c false) cs i e (k, omega arith, is)
-
-live_from-true : (n : ℕ) (bs : List Bool) → live_from n (bs ++ true ∷ []) ≡ live_from n bs ++ (n + length bs) ∷ []
-live_from-true n [] = let e : n ≡ n + 0 = omega arith in ap (λ k. k ∷ []) e
-live_from-true n (true ∷ bs) =
-    let e : suc n + length bs ≡ n + suc (length bs) = omega arith in
-    ap (λ ks. n ∷ ks) (live_from-true (suc n) bs ∙ ap (λ k. live_from (suc n) bs ++ k ∷ []) e)
-live_from-true n (false ∷ bs) =
-    let e : suc n + length bs ≡ n + suc (length bs) = omega arith in
-    live_from-true (suc n) bs ∙ ap (λ k. live_from (suc n) bs ++ k ∷ []) e
-
-live_from-false : (n : ℕ) (bs : List Bool) → live_from n (bs ++ false ∷ []) ≡ live_from n bs
-live_from-false n [] = refl
-live_from-false n (true ∷ bs) = ap (λ ks. n ∷ ks) (live_from-false (suc n) bs)
-live_from-false n (false ∷ bs) = live_from-false (suc n) bs
 
 -- all of a full table are live
 length-live_from-full : (n k : ℕ) → length (live_from n (replicate k true)) ≡ k

@@ -1,6 +1,5 @@
 -- forms within the bounds, and what the code computes of them
-use Rattle.std.proofs.Common.{◌≡◌, ℕ, ◌*◌, ◌≤◌, ◌^◌, [], ◌∷◌, refl, ap, ◌∙◌, true, false, ◌&&◌, arith, nat_le, unsigned_abs}
-use Rattle.std.proofs.Common.{ℤ, pos, negsuc, ◌+ℤ◌, ◌*ℤ◌, to_z, of_z}
+use Rattle.std.proofs.Common.{◌≡◌, ℕ, ◌*◌, ◌≤◌, ◌^◌, [], ◌∷◌, refl, ap, ◌∙◌, true, false, ◌&&◌, arith, nat_le, unsigned_abs, ℤ, pos, negsuc, ◌+ℤ◌, ◌*ℤ◌, to_z, of_z}
 use Rattle.std.specs.Prelude.{if◌then◌else◌}
 use mir.Syntax.{w128}
 use mir.Val.{SFits}

@@ -1,6 +1,5 @@
 -- the common divisor that Euclid's steps give is the greatest
-use Rattle.std.proofs.Common.{◌≡◌, ◌≢◌, ℕ, zero, suc, ◌+◌, ◌*◌, ◌%◌, ◌/◌, ◌<◌, ◌≤◌, max, [], ◌∷◌, refl, sym, ◌∙◌, subst, true, arith, ◌==◌, length, drop, get_or, add-one, drop-cons}
-use Rattle.std.proofs.Common.{ℤ, pos}
+use Rattle.std.proofs.Common.{◌≡◌, ◌≢◌, ℕ, zero, suc, ◌+◌, ◌*◌, ◌%◌, ◌/◌, ◌<◌, ◌≤◌, max, [], ◌∷◌, refl, sym, ◌∙◌, subst, true, arith, ◌==◌, length, drop, get_or, add-one, drop-cons, ℤ, pos}
 use Rattle.std.specs.Prelude.{unsigned_abs}
 use Rattle.std.specs.Int.{IsGcd, ◌∣◌}
 use Rattle.std.proofs.lemmas.Nat.Gcd.{dvd_refl, dvd_trans, le_of_dvd, dvd_of_mod-eq-zero, mod-eq-zero_of_dvd}

@@ -1,18 +1,12 @@
 -- Tests of parts and of lists.
 use Rattle.std.proofs.Common.{◌≡◌, ◌∙◌, sym, ap, refl, suc, zero, Bool, true, false, ◌&&◌, List, [], ◌∷◌, ◌++◌, ◌↔◌, Contains, arith}
+use Rattle.std.proofs.lemmas.Bool.{and_parts}
 use Rattle.std.specs.List.{list_all, AllByRecursion}
 use Rattle.std.proofs.lemmas.List.Folds.{list_all-append}
 use Rattle.sd_base.proofs.Lists.{contains-head, contains-tail}
 
 pub and_join : (a b : Bool) → a ≡ true → b ≡ true → (a && b) ≡ true
 and_join a b e f = ap (λ x. x && b) e ∙ f
-
-pub and_split : (a b : Bool) → (a && b) ≡ true → (a ≡ true) × (b ≡ true)
-and_split true b e = (refl, e)
-and_split false b e = absurd (let bad : false ≡ true = e in cc)
-
-pub not_false : (a : Bool) → a ≡ false → a ≡ true → ⊥
-not_false a f t = let bad : false ≡ true = sym f ∙ t in cc
 
 pub true_or_false : (a : Bool) → (a ≡ false → ⊥) → a ≡ true
 true_or_false true h = refl
@@ -21,8 +15,8 @@ true_or_false false h = absurd (h refl)
 module _ {X : Type 0} (f : X → Bool) where
   pub contains_true : (xs : List X) (x : X) → list_all f xs ≡ true → Contains xs x → f x ≡ true
   contains_true [] x h (k, within, is) = absurd (omega arith)
-  contains_true (y ∷ ys) x h (zero, within, is) = ap f (sym is) ∙ (and_split (f y) (list_all f ys) h).0
-  contains_true (y ∷ ys) x h (suc k, within, is) = contains_true ys x (and_split (f y) (list_all f ys) h).1 (k, omega arith, is)
+  contains_true (y ∷ ys) x h (zero, within, is) = ap f (sym is) ∙ (and_parts (f y) (list_all f ys) h).0
+  contains_true (y ∷ ys) x h (suc k, within, is) = contains_true ys x (and_parts (f y) (list_all f ys) h).1 (k, omega arith, is)
 
   pub true_contains : (xs : List X) → ((x : X) → Contains xs x → f x ≡ true) → list_all f xs ≡ true
   true_contains [] h = refl
@@ -32,10 +26,10 @@ module _ {X : Type 0} (f : X → Bool) where
   append_join xs ys a b = list_all-append f xs ys ∙ and_join (list_all f xs) (list_all f ys) a b
 
   pub append_split : (xs ys : List X) → list_all f (xs ++ ys) ≡ true → (list_all f xs ≡ true) × (list_all f ys ≡ true)
-  append_split xs ys h = and_split (list_all f xs) (list_all f ys) (sym (list_all-append f xs ys) ∙ h)
+  append_split xs ys h = and_parts (list_all f xs) (list_all f ys) (sym (list_all-append f xs ys) ∙ h)
 
   pub all_exact : (F : X → Type 0) → ((x : X) → (f x ≡ true) ↔ F x) → (xs : List X) → (list_all f xs ≡ true) ↔ AllByRecursion F xs
   all_exact F e [] = (λ h. tt, λ h. refl)
   all_exact F e (x ∷ xs) =
       let rest = all_exact F e xs in
-      (λ h. let both = and_split (f x) (list_all f xs) h in ((e x).0 both.0, rest.0 both.1), λ h. and_join (f x) (list_all f xs) ((e x).1 h.0) (rest.1 h.1))
+      (λ h. let both = and_parts (f x) (list_all f xs) h in ((e x).0 both.0, rest.0 both.1), λ h. and_join (f x) (list_all f xs) ((e x).1 h.0) (rest.1 h.1))

@@ -1,5 +1,6 @@
 -- The test for programs that are compared is exact.
 use Rattle.std.proofs.Common.{◌≡◌, ◌∙◌, sym, ap, refl, subst, Bool, true, false, ◌&&◌, List, ◌∷◌, ◌++◌, map, ◌↔◌, Contains, inl, inr, arith}
+use Rattle.std.proofs.lemmas.Bool.{and_parts}
 use Rattle.std.specs.Prelude.{Option, Some, None}
 use Rattle.std.specs.List.{list_all, AllByRecursion}
 use Rattle.std.proofs.lemmas.List.Folds.{list_all-map}
@@ -24,7 +25,7 @@ use Rattle.sd_ast.specs.declared.Decl.TheVariants.{Globals, Procedure, Implement
 use Rattle.sd_ast.specs.Tree.{OldOf, UnaryOf, BinaryOf, SelectOf, StoreOf}
 use Rattle.sd_run.specs.Compared.{is_plain_sort, are_plain, is_no_product, has_no_product, have_no_product, none_has_product, is_compared, have_compared, are_compared, is_compared_spec, is_compared_head, is_compared_body, maybe_compared_body, is_compared_decl}
 use Rattle.sd_run.specs.ComparedPrograms.{expressions_of, parts_of, Multiplies, product, part, statements_of, blocks_of, values_of, HasProduct, value, index, inner, IsPlainSort, locals_in, body_in, IsComparedClause, IsComparedDecl, ComparedIsExact}
-use Rattle.sd_run.proofs.Booleans.{and_join, and_split, contains_true, true_contains, append_join, append_split, all_exact}
+use Rattle.sd_run.proofs.Booleans.{and_join, contains_true, true_contains, append_join, append_split, all_exact}
 
 -- ---- expressions
 
@@ -36,10 +37,10 @@ one : (a : Bool) → a ≡ true → (a && true) ≡ true
 one a h = and_join a true h refl
 
 two : (a b : Bool) → (a && b) ≡ true → (a && (b && true)) ≡ true
-two a b h = let s = and_split a b h in and_join a (b && true) s.0 (one b s.1)
+two a b h = let s = and_parts a b h in and_join a (b && true) s.0 (one b s.1)
 
 three : (a b c : Bool) → ((a && b) && c) ≡ true → (a && (b && (c && true))) ≡ true
-three a b c h = let s = and_split (a && b) c h in let t = and_split a b s.0 in and_join a (b && (c && true)) t.0 (two b c (and_join b c t.1 s.1))
+three a b c h = let s = and_parts (a && b) c h in let t = and_parts a b s.0 in and_join a (b && (c && true)) t.0 (two b c (and_join b c t.1 s.1))
 
 -- no part has a product where the whole has none
 parts_plain : (e : ExprKind) → has_no_product e ≡ true → list_all has_no_product (parts_of e) ≡ true
@@ -47,8 +48,8 @@ parts_plain (Apply' f shape args) h = sym (row_parts args) ∙ h
 parts_plain (OldOf p a) h = one (has_no_product a) h
 parts_plain (UnaryOf op p a) h = one (has_no_product a) h
 parts_plain (BinaryOf op p a q b) h =
-    let s = and_split (is_no_product op && has_no_product a) (has_no_product b) h in
-    two (has_no_product a) (has_no_product b) (and_join (has_no_product a) (has_no_product b) (and_split (is_no_product op) (has_no_product a) s.0).1 s.1)
+    let s = and_parts (is_no_product op && has_no_product a) (has_no_product b) h in
+    two (has_no_product a) (has_no_product b) (and_join (has_no_product a) (has_no_product b) (and_parts (is_no_product op) (has_no_product a) s.0).1 s.1)
 parts_plain (SelectOf p m q i) h = two (has_no_product m) (has_no_product i) h
 parts_plain (StoreOf p m q i r v) h = three (has_no_product m) (has_no_product i) (has_no_product v) h
 parts_plain _ h = refl
@@ -95,26 +96,26 @@ row_blocks (more_of-Stmt p s ss) = ap (λ b. is_compared s && b) (row_blocks ss)
 values_plain : (s : StmtKind) → is_compared s ≡ true → list_all is_plain (values_of s) ≡ true
 values_plain (Assert e) h = one (is_plain e) h
 values_plain (Assume e) h = one (is_plain e) h
-values_plain (Assign ls es) h = (and_split (list_all (λ (l : Left). none_has_product l.indices) ls) (none_has_product es) h).1
+values_plain (Assign ls es) h = (and_parts (list_all (λ (l : Left). none_has_product l.indices) ls) (none_has_product es) h).1
 values_plain (Call xs f es) h = h
-values_plain (If' e shape a shape' b) h = one (is_plain e) (and_split (is_plain e) (have_compared a) (and_split (is_plain e && have_compared a) (have_compared b) h).0).0
+values_plain (If' e shape a shape' b) h = one (is_plain e) (and_parts (is_plain e) (have_compared a) (and_parts (is_plain e && have_compared a) (have_compared b) h).0).0
 values_plain (While' e is shape a) h =
-    let s = and_split (is_plain e) (list_all (λ (i : Invariant). is_plain i.expr) is) (and_split (is_plain e && list_all (λ (i : Invariant). is_plain i.expr) is) (have_compared a) h).0 in
+    let s = and_parts (is_plain e) (list_all (λ (i : Invariant). is_plain i.expr) is) (and_parts (is_plain e && list_all (λ (i : Invariant). is_plain i.expr) is) (have_compared a) h).0 in
     and_join (is_plain e) (list_all is_plain (map (λ (i : Invariant). i.expr) is)) s.0 (list_all-map is_plain (λ (i : Invariant). i.expr) is ∙ s.1)
 values_plain Break h = refl
 values_plain Return h = refl
 
 blocks_plain : (s : StmtKind) → is_compared s ≡ true → list_all is_compared (blocks_of s) ≡ true
 blocks_plain (If' e shape a shape' b) h =
-    let s = and_split (is_plain e && have_compared a) (have_compared b) h in
-    append_join is_compared (statements_of a) (statements_of b) (sym (row_blocks a) ∙ (and_split (is_plain e) (have_compared a) s.0).1) (sym (row_blocks b) ∙ s.1)
-blocks_plain (While' e is shape a) h = sym (row_blocks a) ∙ (and_split (is_plain e && list_all (λ (i : Invariant). is_plain i.expr) is) (have_compared a) h).1
+    let s = and_parts (is_plain e && have_compared a) (have_compared b) h in
+    append_join is_compared (statements_of a) (statements_of b) (sym (row_blocks a) ∙ (and_parts (is_plain e) (have_compared a) s.0).1) (sym (row_blocks b) ∙ s.1)
+blocks_plain (While' e is shape a) h = sym (row_blocks a) ∙ (and_parts (is_plain e && list_all (λ (i : Invariant). is_plain i.expr) is) (have_compared a) h).1
 blocks_plain _ h = refl
 
 no_product_in : (s : StmtKind) → is_compared s ≡ true → HasProduct s → ⊥
 no_product_in s h (value _ e c m) = no_product e.kind (contains_true is_plain (values_of s) e (values_plain s h) c) m
 no_product_in _ h (index ls es l e c d m) =
-    let lefts = (and_split (list_all (λ (k : Left). none_has_product k.indices) ls) (none_has_product es) h).0 in
+    let lefts = (and_parts (list_all (λ (k : Left). none_has_product k.indices) ls) (none_has_product es) h).0 in
     no_product e.kind (contains_true is_plain l.indices e (contains_true (λ (k : Left). none_has_product k.indices) ls l lefts c) d) m
 no_product_in s h (inner _ t c m) = no_product_in t (contains_true is_compared (blocks_of s) t (blocks_plain s h) c) m
 
@@ -138,7 +139,7 @@ mutual
       (compared_all b (λ t c m. h (inner (If' e shape a shape' b) t (Contains-append_right (statements_of a) (statements_of b) t c) m)))
   compared (While' e is shape a) h =
       let values = plain_values (e ∷ map (λ (i : Invariant). i.expr) is) (λ x c m. h (value (While' e is shape a) x c m)) in
-      let s = and_split (is_plain e) (list_all is_plain (map (λ (i : Invariant). i.expr) is)) values in
+      let s = and_parts (is_plain e) (list_all is_plain (map (λ (i : Invariant). i.expr) is)) values in
       and_join (is_plain e && list_all (λ (i : Invariant). is_plain i.expr) is) (have_compared a)
       (and_join (is_plain e) (list_all (λ (i : Invariant). is_plain i.expr) is) s.0 (sym (list_all-map is_plain (λ (i : Invariant). i.expr) is) ∙ s.1))
       (compared_all a (λ t c m. h (inner (While' e is shape a) t c m)))
@@ -181,7 +182,7 @@ maybe_body (Some b) = refl
 module _ (h : Head) (locals : List Var) (stmts : List Stmt) where
   vars_split : is_compared_head h ≡ true → are_plain locals ≡ true → are_plain (h.ins ++ (h.outs ++ locals)) ≡ true
   vars_split head is =
-      let s = and_split (are_plain h.ins) (are_plain h.outs) head in
+      let s = and_parts (are_plain h.ins) (are_plain h.outs) head in
       append_join (λ (x : Var). is_plain_sort x.sort) h.ins (h.outs ++ locals) s.0 (append_join (λ (x : Var). is_plain_sort x.sort) h.outs locals s.1 is)
 
   vars_join : are_plain (h.ins ++ (h.outs ++ locals)) ≡ true → (is_compared_head h ≡ true) × (are_plain locals ≡ true)
@@ -197,9 +198,9 @@ decl_exact (Globals vars) = (
 )
 decl_exact (Procedure p) = (
   λ h.
-      let s = and_split (is_compared_head p.head && list_all is_compared_spec p.specs) (maybe_compared_body p.body) h in
-      let t = and_split (is_compared_head p.head) (list_all is_compared_spec p.specs) s.0 in
-      let b = and_split (are_plain (locals_in p.body)) (are_compared (body_in p.body)) (sym (maybe_body p.body) ∙ s.1) in
+      let s = and_parts (is_compared_head p.head && list_all is_compared_spec p.specs) (maybe_compared_body p.body) h in
+      let t = and_parts (is_compared_head p.head) (list_all is_compared_spec p.specs) s.0 in
+      let b = and_parts (are_plain (locals_in p.body)) (are_compared (body_in p.body)) (sym (maybe_body p.body) ∙ s.1) in
       record { kind = tt; sorts = (sorts_exact _).0 (vars_split p.head (locals_in p.body) (body_in p.body) t.0 b.0); clauses = (clauses_exact p.specs).0 t.1; body = (body_exact (body_in p.body)).0 b.1 },
   λ h.
       let v = vars_join p.head (locals_in p.body) (body_in p.body) ((sorts_exact _).1 h.sorts) in
@@ -209,8 +210,8 @@ decl_exact (Procedure p) = (
 )
 decl_exact (Implementation i) = (
   λ h.
-      let s = and_split (is_compared_head i.head) (is_compared_body i.body) h in
-      let b = and_split (are_plain i.body.locals) (are_compared i.body.stmts) s.1 in
+      let s = and_parts (is_compared_head i.head) (is_compared_body i.body) h in
+      let b = and_parts (are_plain i.body.locals) (are_compared i.body.stmts) s.1 in
       record { kind = tt; sorts = (sorts_exact _).0 (vars_split i.head i.body.locals i.body.stmts s.0 b.0); clauses = tt; body = (body_exact i.body.stmts).0 b.1 },
   λ h.
       let v = vars_join i.head i.body.locals i.body.stmts ((sorts_exact _).1 h.sorts) in

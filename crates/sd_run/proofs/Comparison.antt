@@ -15,8 +15,7 @@ use Rattle.sd_extract.proofs.Propositional.{propositional_kept}
 use Rattle.sd_cand.specs.Candidates.{equal_inputs}
 use Rattle.sd_product.specs.Query.{Claimed}
 use Rattle.sd_product.specs.Work.{AreWellFormed, claims_in}
-use Rattle.sd_product.specs.Judged.{IsFlagAt}
-use Rattle.sd_product.specs.Judged.{LiveFlagsAreSafe, OpenFlagsAreFailures}
+use Rattle.sd_product.specs.Judged.{IsFlagAt, LiveFlagsAreSafe, OpenFlagsAreFailures}
 use Rattle.sd_product.proofs.JudgedLemmas.{live-flags-safe, open-flags-fail}
 use Rattle.sd_product.proofs.EqualInputs.{no_new_failure_lem}
 use Rattle.sd_product.proofs.Mutual.{mutual_summaries_lem}

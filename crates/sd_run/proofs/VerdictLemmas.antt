@@ -1,5 +1,6 @@
 -- What the verdicts on two programs tell.
 use Rattle.std.proofs.Common.{◌≡◌, ◌∙◌, sym, ap, refl, subst, ℕ, suc, zero, ◌+◌, ◌≤◌, Bool, true, false, List, [], ◌∷◌, ◌++◌, length, drop, arith}
+use Rattle.std.proofs.lemmas.Bool.{and_parts}
 use Rattle.std.specs.Prelude.{Option, Some, None, ◌↔◌, ◌&&◌, ◌||◌, map, is_some, slice_get, Contains, if◌then◌else◌}
 use Rattle.std.specs.List.{AllByRecursion}
 use Rattle.std.proofs.lemmas.Option.{none-some, same_Some}
@@ -38,7 +39,6 @@ use Rattle.sd_run.specs.declared.verdict.VerdictState.TheVariants.{Safe, Unknown
 use Rattle.sd_run.specs.declared.verdict.Otherwise.{Otherwise}
 use Rattle.sd_run.specs.declared.verdict.Otherwise.TheVariants as otherwise
 use Rattle.sd_run.proofs.Tables.{count_first}
-use Rattle.sd_run.proofs.Booleans.{and_split}
 use Rattle.sd_rounds.specs.declared.settle.Death.{Death}
 use Rattle.sd_run.specs.Verdicts.{is_flag, flag_live, said, state_of, verdict_by, verdict_of, verdicts_of, is_spent, IsSpentPair}
 
@@ -87,7 +87,7 @@ live_in (c ∷ cs) [] e = absurd (let bad : false ≡ true = e in cc)
 live_in (c ∷ cs) (b ∷ table) e = go (live_in cs table) (is_flag c.claim && b) refl e
   where
     go : (flag_live cs table ≡ true → FlagIn cs table true) → (x : Bool) → (is_flag c.claim && b) ≡ x → (x || flag_live cs table) ≡ true → FlagIn (c ∷ cs) (b ∷ table) true
-    go rest true is h = let both = and_split (is_flag c.claim) b is in record { place = 0; candidate = c; at = refl; flag = flag_is c.claim both.0; is = ap Some both.1 }
+    go rest true is h = let both = and_parts (is_flag c.claim) b is in record { place = 0; candidate = c; at = refl; flag = flag_is c.claim both.0; is = ap Some both.1 }
     go rest false is h = later c cs b table true (rest h)
 
 or_none : (a b : Bool) → (a || b) ≡ false → (a ≡ false) × (b ≡ false)

@@ -26,7 +26,6 @@ use Rattle.sd_search.specs.declared.assignment.Assignment.{Assignment}
 use Rattle.sd_search.specs.Atoms.{atom_literals}
 use Rattle.sd_search.specs.Settled.{IsSettled}
 use Rattle.sd_search.specs.Terms.{AreValuesUnder}
-use Rattle.sd_search.specs.Choice.{Begins}
 use Rattle.sd_search.specs.Running.{IsRunning}
 use Rattle.sd_search.specs.Assignment.{IsAssignment}
 use Rattle.sd_search.proofs.OpenCubes.{open-cube}

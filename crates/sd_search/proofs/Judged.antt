@@ -1,7 +1,6 @@
 -- heads that are judged by their parts: which sorts these have, and when the value is known
 use Rattle.std.proofs.Common.{◌≡◌, ℕ, zero, suc, ◌<◌, List, [], ◌∷◌, ◌++◌, length, refl, sym, ap, ◌∙◌, subst, Bool, true, false, cond, Option, Some, None, is_some, arith}
-use Rattle.sd_base.specs.declared.sort.Sort.{Sort}
-use Rattle.sd_base.specs.declared.sort.Sort.{Bool as Truth}
+use Rattle.sd_base.specs.declared.sort.Sort.{Sort, Bool as Truth}
 use Rattle.sd_term.specs.declared.node.Head.{Head}
 use Rattle.sd_term.specs.Heads.{True, False, Not, And, Or, Eq, Ite}
 use Rattle.sd_term.specs.Sorts.{is_truth_sort, sort_at, Takes}

@@ -2,8 +2,7 @@
 use Rattle.std.proofs.Common.{◌≡◌, ◌≢◌, ℕ, suc, ◌<◌, ◌≤◌, List, [], ◌∷◌, ◌++◌, map, length, get_or, refl, sym, ap, ◌∙◌, subst, Bool, true, false, not, ◌&&◌, ◌⊎◌, inl, inr, Option, Some, None, unwrap_or, is_some, All, arith}
 use Rattle.std.specs.Prelude.{Contains}
 use Rattle.std.proofs.lemmas.List.{get_or-map, length-map}
-use Rattle.sd_base.specs.declared.sort.Sort.{Sort}
-use Rattle.sd_base.specs.declared.sort.Sort.{Bool as Truth}
+use Rattle.sd_base.specs.declared.sort.Sort.{Sort, Bool as Truth}
 use Rattle.sd_term.specs.declared.node.TermNode.{TermNode}
 use Rattle.sd_term.specs.Heads.{Ite}
 use Rattle.sd_term.specs.Tree.{Tree, head_of, parts_of, at_parts}

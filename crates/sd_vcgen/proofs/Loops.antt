@@ -11,7 +11,6 @@ use Rattle.sd_core.specs.Run.{slots_from}
 use Rattle.sd_term.specs.Tree.{Tree}
 use Rattle.sd_term.specs.Bank.{tree_at}
 use Rattle.sd_term.specs.Build.{Extends}
-use Rattle.sd_vcgen.specs.Body.{nothing}
 use Rattle.sd_vcgen.specs.Body as spec
 use Rattle.sd_vcgen.specs.Numbers.{DenoteAll}
 use Rattle.sd_vcgen.proofs.Numbers.{all_later, trees_later}

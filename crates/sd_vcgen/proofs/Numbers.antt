@@ -1,5 +1,6 @@
 -- What numbers stand for in a bank that grows.
 use Rattle.std.proofs.Common.{◌≡◌, ℕ, ◌<◌, List, [], ◌∷◌, ◌++◌, length, get_or, refl, sym, ap, subst, ◌∙◌, arith}
+use Rattle.sd_base.proofs.Lists.{get_or-map_none}
 use Rattle.std.specs.Prelude.{None, All, map}
 use Rattle.sd_core.specs.declared.Spot.{Spot}
 use Rattle.sd_core.specs.declared.Spot.TheVariants.{Slot, Global}
@@ -14,7 +15,7 @@ use Rattle.sd_vcgen.specs.Numbers.{Denotes, DenoteAll, DenotesSite, DenoteSites,
 use Rattle.sd_vcgen.specs.declared.body.BodyState.{BodyState}
 use Rattle.sd_vcgen.specs.declared.call.Site.{Site}
 use Rattle.sd_vcgen.specs.declared.spots.Spots.{Spots}
-use Rattle.sd_vcgen.proofs.Stores.{write_map, map_absent}
+use Rattle.sd_vcgen.proofs.Stores.{write_map}
 
 pub extends_self : (bank : List Tree) → Extends bank bank
 extends_self bank = record { longer = omega arith; kept = λ i h. refl }
@@ -50,8 +51,8 @@ store_later a b n h w = λ i. record { slots = trees_later a b n.slots h w.slots
 
 -- a spot that isn't there
 pub number_at-none : (bank : List Tree) (n : Spots) (s : Spot) → number_at (numbers_of n) s ≡ None → read nothing (store_of bank n) s ≡ nothing
-number_at-none bank n (Slot i) e = map_absent (tree_at bank) n.slots i nothing e
-number_at-none bank n (Global i) e = map_absent (tree_at bank) n.globals i nothing e
+number_at-none bank n (Slot i) e = get_or-map_none (tree_at bank) n.slots i nothing e
+number_at-none bank n (Global i) e = get_or-map_none (tree_at bank) n.globals i nothing e
 
 -- a spot that takes another number
 pub held_store : (a b : List Tree) (n after : Spots) (s : Spot) (id : ℕ) (t : Tree) → AreWithin a n → Extends a b → numbers_of after ≡ write (numbers_of n) s id → tree_at b id ≡ t → store_of b after ≡ write (store_of a n) s t

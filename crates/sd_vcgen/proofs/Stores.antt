@@ -19,8 +19,3 @@ write_map f st (Global i) a = ap (λ (xs : List _). record { slots = map f st.sl
 pub write_read : {A : Type 0} (nothing : A) (st : Store A) (s : Spot) → write st s (read nothing st s) ≡ st
 write_read nothing st (Slot i) = ap (λ (xs : List _). record { slots = xs; globals = st.globals }) (set-get_or st.slots i nothing)
 write_read nothing st (Global i) = ap (λ (xs : List _). record { slots = st.slots; globals = xs }) (set-get_or st.globals i nothing)
-
-pub map_absent : {A B : Type 0} (f : A → B) (xs : List A) (i : ℕ) (d : B) → slice_get xs i ≡ None → get_or (map f xs) i d ≡ d
-map_absent f [] i d e = refl
-map_absent f (x ∷ xs) zero d e = cc
-map_absent f (x ∷ xs) (suc i) d e = map_absent f xs i d e

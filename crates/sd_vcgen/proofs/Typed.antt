@@ -7,8 +7,7 @@ use Rattle.sd_core.specs.declared.Spot.{Spot}
 use Rattle.sd_core.specs.declared.Spot.TheVariants.{Slot, Global}
 use Rattle.sd_core.specs.declared.CoreOp.{CoreOp}
 use Rattle.sd_core.specs.declared.CoreOp.TheVariants as op
-use Rattle.sd_core.specs.declared.CoreExpr.{CoreExpr, Num, At, Const, Apply', Op', Row_of-CoreExpr, end_of-CoreExpr, more_of-CoreExpr}
-use Rattle.sd_core.specs.declared.CoreExpr.{Truth as Literal}
+use Rattle.sd_core.specs.declared.CoreExpr.{CoreExpr, Num, At, Const, Apply', Op', Row_of-CoreExpr, end_of-CoreExpr, more_of-CoreExpr, Truth as Literal}
 use Rattle.sd_core.specs.declared.Function.{Function}
 use Rattle.sd_core.specs.Store.{Store, read, write, map_store}
 use Rattle.sd_core.specs.Formed.{sort_at, Takes, HasType, HaveTypes, AllHaveTypes, AreSpotsOf, declared_as}

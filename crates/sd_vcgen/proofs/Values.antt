@@ -9,8 +9,7 @@ use Rattle.sd_base.specs.Cast.{cast}
 use Rattle.sd_base.specs.Meaning.{Interpretation, number_of}
 use Rattle.sd_core.specs.declared.CoreOp.{CoreOp}
 use Rattle.sd_core.specs.declared.CoreOp.TheVariants as op
-use Rattle.sd_core.specs.declared.CoreExpr.{CoreExpr, Num, At, Const, Apply', Op', Row_of-CoreExpr, end_of-CoreExpr, more_of-CoreExpr}
-use Rattle.sd_core.specs.declared.CoreExpr.{Truth as Literal}
+use Rattle.sd_core.specs.declared.CoreExpr.{CoreExpr, Num, At, Const, Apply', Op', Row_of-CoreExpr, end_of-CoreExpr, more_of-CoreExpr, Truth as Literal}
 use Rattle.sd_core.specs.declared.Function.{Function}
 use Rattle.sd_core.specs.Store.{Store, map_store}
 use Rattle.sd_core.specs.Run.{apply, value_in, values_in}

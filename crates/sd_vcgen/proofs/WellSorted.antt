@@ -10,8 +10,7 @@ use Rattle.sd_core.specs.declared.Spot.{Spot}
 use Rattle.sd_core.specs.declared.Spot.TheVariants.{Slot, Global}
 use Rattle.sd_core.specs.declared.CoreOp.{CoreOp}
 use Rattle.sd_core.specs.declared.CoreOp.TheVariants as op
-use Rattle.sd_core.specs.declared.CoreExpr.{CoreExpr, Num, At, Const, Apply', Op', Row_of-CoreExpr, end_of-CoreExpr, more_of-CoreExpr}
-use Rattle.sd_core.specs.declared.CoreExpr.{Truth as Literal}
+use Rattle.sd_core.specs.declared.CoreExpr.{CoreExpr, Num, At, Const, Apply', Op', Row_of-CoreExpr, end_of-CoreExpr, more_of-CoreExpr, Truth as Literal}
 use Rattle.sd_core.specs.declared.CoreStmt.{CoreStmt, Assign, If', Call, Assume, Fail, Return, Row_of-CoreStmt, end_of-CoreStmt, more_of-CoreStmt}
 use Rattle.sd_core.specs.declared.CoreProc.{CoreProc}
 use Rattle.sd_core.specs.declared.CoreProgram.{CoreProgram}
@@ -29,8 +28,7 @@ use Rattle.sd_term.specs.Sorts.{sort_of, Takes, PartsWellSorted, IsWellSorted, A
 use Rattle.sd_term.specs.Build.{not_of, and_of, or_of, ite_of}
 use Rattle.sd_term.proofs.Trees.{head_of-applied}
 use Rattle.sd_term.proofs.BuildSorts.{not-sort, and-sort, or-sort, ite-sort, not-well, and-well, or-well, ite-well, eq-well, le-well}
-use Rattle.sd_vcgen.specs.Body.{Site, State, Context, nothing, constant, op_term, result_of, term_in, terms_in, guard_of, assign, symbols, site_flag, modified_sorts, changed, site_of, count, row_count, step, steps, all_steps, begun, body_of, outs_of}
-use Rattle.sd_vcgen.specs.Body.{call as call_term}
+use Rattle.sd_vcgen.specs.Body.{Site, State, Context, nothing, constant, op_term, result_of, term_in, terms_in, guard_of, assign, symbols, site_flag, modified_sorts, changed, site_of, count, row_count, step, steps, all_steps, begun, body_of, outs_of, call as call_term}
 use Rattle.sd_vcgen.specs.Laws.{site_terms, BodiesAreWellSorted}
 use Rattle.sd_vcgen.proofs.Truths.{all_push}
 use Rattle.sd_vcgen.proofs.Typed.{by_one, by_two, by_three, spot-sort, write-sorts, assign-sorts, term-sort, terms-sort, all-sorts}

@@ -1,11 +1,10 @@
 use Rattle.std.proofs.Common.{rules, ◌≡◌, ◌≢◌, sym, true, false, List, [], ◌++◌, subst, length, ◌+◌, pos, ◌<ℤ◌, ◌≤◌, ◌<◌}
-use Rattle.sd_rows.specs.Rows.{is_within}
+use Rattle.sd_rows.specs.Rows.{is_within, IsAbsurd}
 use Rattle.sd_rows.specs.Divisors.{greatest_divisor}
 use Rattle.sd_rows.specs.RowOps.{reduced, sizes}
 use Rattle.sd_linear.specs.DerivedRows.{rows_of, AreDerivedRows, with_cut}
 use Rattle.sd_linear.specs.Answers.{IsRefutation}
 use Rattle.sd_linear.specs.RowSteps.{rows_made, Refutes}
-use Rattle.sd_rows.specs.Rows.{IsAbsurd}
 use Rattle.sd_linear.specs.Elimination.{joined}
 use Rattle.sd_linear.proofs.Deriving.{Derives, derives, IsDerivedRow-derived, Refutes-derived, AreDerivedRows-extended}
 use Rattle.sd_linear.proofs.Coming.{come_in-refuted, come_in-continues, come_in-many}

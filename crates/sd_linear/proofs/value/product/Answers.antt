@@ -1,6 +1,5 @@
-use Rattle.std.proofs.Common.{rules, ◌≤◌, ◌^◌, sym, ap, unsigned_abs, ◌*ℤ◌, ℤ, FitsSigned, subst}
+use Rattle.std.proofs.Common.{rules, ◌≤◌, ◌^◌, sym, ap, unsigned_abs, ◌*ℤ◌, ℤ, FitsSigned, subst, lit<}
 use Rattle.std.specs.Int.{w128}
-use Rattle.std.proofs.Common.{lit<}
 use Rattle.std.proofs.lemmas.Int.{fits_signed_mul, to_z-of_z}
 use Rattle.sd_linear.proofs.Values.{near-value}
 use Rattle.sd_linear.proofs.value.product.Goals as goal

@@ -1,8 +1,8 @@
 use Rattle.std.proofs.Common.{◌≡◌, ◌∙◌, sym, ap, true, false}
 use Rattle.std.specs.Prelude.{◌&&◌}
+use Rattle.sd_base.proofs.SortLemmas.{same_sort-test}
 use Rattle.sd_core.specs.Formed.{same_sort}
 use Rattle.sd_match.specs.Refusals.{all_same_sorts}
-use Rattle.sd_match.proofs.SharedLemmas.{same_sort-test}
 use Rattle.sd_match.proofs.refusal.have_same_signature.Goals as goal
 
 pub returns-then-not-have_all_same_sorts : goal.returns-then-not-have_all_same_sorts

@@ -1,6 +1,6 @@
 use Rattle.std.proofs.Common.{◌∙◌, ap}
 use Rattle.std.specs.Prelude.{not, Some, None}
-use Rattle.sd_match.proofs.SharedLemmas.{same_sort-test}
+use Rattle.sd_base.proofs.SortLemmas.{same_sort-test}
 use Rattle.sd_match.proofs.RefusalLemmas.{is_other_sort-named}
 use Rattle.sd_match.proofs.refusal.is_retyped.Goals as goal
 

@@ -1,8 +1,9 @@
 use Rattle.std.proofs.Common.{◌∙◌, sym, ap}
 use Rattle.std.specs.Prelude.{Some, None, if◌then◌else◌}
+use Rattle.sd_base.proofs.SortLemmas.{same_sort-test}
 use Rattle.sd_base.specs.declared.Var.{Var}
 use Rattle.sd_match.proofs.PlaceLemmas.{place_none, place_not_past, place_within, found_is}
-use Rattle.sd_match.proofs.SharedLemmas.{no_place, typed_place, same_sort-test}
+use Rattle.sd_match.proofs.SharedLemmas.{no_place, typed_place}
 use Rattle.sd_match.proofs.shared.partner.Goals as goal
 
 pub returns-in-None : goal.returns-in-None

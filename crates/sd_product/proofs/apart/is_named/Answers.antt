@@ -1,8 +1,8 @@
 use Rattle.std.proofs.Common.{◌∙◌, Bool, sym, ap}
 use Rattle.std.specs.Prelude.{◌&&◌}
+use Rattle.sd_base.proofs.SortLemmas.{same_sort-test}
 use Rattle.sd_base.proofs.Texts.{same_text-test}
 use Rattle.sd_core.specs.Formed.{same_sort}
-use Rattle.sd_match.proofs.SharedLemmas.{same_sort-test}
 use Rattle.sd_product.proofs.apart.is_named.Goals as goal
 
 pub returns-then-not-is : goal.returns-then-not-is

@@ -1,7 +1,7 @@
 use Rattle.std.proofs.Common.{◌≡◌, ◌∙◌, Bool, [], ◌∷◌, ap, sym, subst}
 use Rattle.std.specs.Prelude.{if◌then◌else◌}
+use Rattle.sd_base.proofs.SortLemmas.{same_sort-test}
 use Rattle.sd_core.specs.Formed.{same_sort}
-use Rattle.sd_match.proofs.SharedLemmas.{same_sort-test}
 use Rattle.sd_term.specs.Bank.{tree_at}
 use Rattle.sd_term.specs.Build.{not_of, eq_of}
 use Rattle.sd_term.specs.Sorts.{sort_of}
