@@ -164,4 +164,3 @@ module _ (h : PairedPrograms) (claims : List CertPair) (fits : FitsPairs (header
   fault-left : (queries : List (List Tree)) (first line : ℕ) (ss : List PairHeader) → pairs_fault queries first line ss [] ≡ None
   fault-left queries first line [] = refl
   fault-left queries first line (s ∷ ss) = refl
-

@@ -1,12 +1,9 @@
 -- Tests of parts and of lists.
 use Rattle.std.proofs.Common.{◌≡◌, ◌∙◌, sym, ap, refl, suc, zero, Bool, true, false, ◌&&◌, List, [], ◌∷◌, ◌++◌, ◌↔◌, Contains, arith}
-use Rattle.std.proofs.lemmas.Bool.{and_parts}
+use Rattle.std.proofs.lemmas.Bool.{and_parts, and_from}
 use Rattle.std.specs.List.{list_all, AllByRecursion}
 use Rattle.std.proofs.lemmas.List.Folds.{list_all-append}
 use Rattle.sd_base.proofs.Lists.{contains-head, contains-tail}
-
-pub and_join : (a b : Bool) → a ≡ true → b ≡ true → (a && b) ≡ true
-and_join a b e f = ap (λ x. x && b) e ∙ f
 
 pub true_or_false : (a : Bool) → (a ≡ false → ⊥) → a ≡ true
 true_or_false true h = refl
@@ -20,10 +17,10 @@ module _ {X : Type 0} (f : X → Bool) where
 
   pub true_contains : (xs : List X) → ((x : X) → Contains xs x → f x ≡ true) → list_all f xs ≡ true
   true_contains [] h = refl
-  true_contains (x ∷ xs) h = and_join (f x) (list_all f xs) (h x (contains-head x xs)) (true_contains xs (λ y c. h y (contains-tail x xs y c)))
+  true_contains (x ∷ xs) h = and_from (f x) (list_all f xs) (h x (contains-head x xs)) (true_contains xs (λ y c. h y (contains-tail x xs y c)))
 
   pub append_join : (xs ys : List X) → list_all f xs ≡ true → list_all f ys ≡ true → list_all f (xs ++ ys) ≡ true
-  append_join xs ys a b = list_all-append f xs ys ∙ and_join (list_all f xs) (list_all f ys) a b
+  append_join xs ys a b = list_all-append f xs ys ∙ and_from (list_all f xs) (list_all f ys) a b
 
   pub append_split : (xs ys : List X) → list_all f (xs ++ ys) ≡ true → (list_all f xs ≡ true) × (list_all f ys ≡ true)
   append_split xs ys h = and_parts (list_all f xs) (list_all f ys) (sym (list_all-append f xs ys) ∙ h)
@@ -32,4 +29,4 @@ module _ {X : Type 0} (f : X → Bool) where
   all_exact F e [] = (λ h. tt, λ h. refl)
   all_exact F e (x ∷ xs) =
       let rest = all_exact F e xs in
-      (λ h. let both = and_parts (f x) (list_all f xs) h in ((e x).0 both.0, rest.0 both.1), λ h. and_join (f x) (list_all f xs) ((e x).1 h.0) (rest.1 h.1))
+      (λ h. let both = and_parts (f x) (list_all f xs) h in ((e x).0 both.0, rest.0 both.1), λ h. and_from (f x) (list_all f xs) ((e x).1 h.0) (rest.1 h.1))

@@ -1,5 +1,6 @@
 -- The verdicts of a report, in plain words.
 use Rattle.std.proofs.Common.{◌≡◌, ◌∙◌, sym, ap, refl, subst, ℕ, suc, zero, ◌+◌, ◌≤◌, Bool, true, false, List, [], ◌∷◌, ◌++◌, length, drop, take, inl, inr, arith}
+use Rattle.std.proofs.lemmas.Bool.{and_from}
 use Rattle.std.specs.Prelude.{Option, Some, None, ◌↔◌, ◌⊎◌, ◌&&◌, ◌||◌, is_some, slice_get, if◌then◌else◌}
 use Rattle.std.proofs.lemmas.Option.{none-some, same_Some}
 use Rattle.sd_base.specs.Value.{Text}
@@ -20,7 +21,6 @@ use Rattle.sd_run.specs.declared.verdict.VerdictState.TheVariants.{Safe, Signatu
 use Rattle.sd_run.specs.declared.verdict.Otherwise.{Otherwise}
 use Rattle.sd_run.specs.Verdicts.{is_flag, flag_live, said, state_of, verdict_by, verdict_of, verdicts_of}
 use Rattle.sd_run.specs.PlainVerdicts.{HasLiveClaim, AreVerdicts, none, loops, procedures, VerdictsArePlain}
-use Rattle.sd_run.proofs.Booleans.{and_join}
 use Rattle.sd_run.proofs.Tables.{count_first, drop-drop}
 use Rattle.sd_run.proofs.VerdictLemmas.{live_in, said_not_safe, slice_get-drop}
 
@@ -32,7 +32,7 @@ flag_found [] table k c at flag live = absurd (none-some c at)
 flag_found (d ∷ cs) [] k c at flag live = absurd (none-some true live)
 flag_found (d ∷ cs) (b ∷ table) zero c at flag live =
     let on : is_flag d.claim ≡ true = ap (λ (x : Candidate). is_flag x.claim) (same_Some d c at) ∙ ap is_flag flag in
-    ap (λ x. x || flag_live cs table) (and_join (is_flag d.claim) b on (same_Some b true live))
+    ap (λ x. x || flag_live cs table) (and_from (is_flag d.claim) b on (same_Some b true live))
 flag_found (d ∷ cs) (b ∷ table) (suc k) c at flag live = or_true (is_flag d.claim && b) (flag_live cs table) (flag_found cs table k c at flag live)
   where
     or_true : (x y : Bool) → y ≡ true → (x || y) ≡ true

@@ -1,5 +1,6 @@
 -- Parts of the table of live candidates, and of the lists of pairs.
 use Rattle.std.proofs.Common.{◌≡◌, ◌∙◌, sym, ap, refl, ℕ, suc, zero, ◌+◌, ◌<◌, Bool, true, false, List, [], ◌∷◌, ◌++◌, length, drop, get_or, append_assoc, length-append, arith}
+use Rattle.std.proofs.lemmas.Bool.{and_from}
 use Rattle.std.specs.Prelude.{Option, Some, None, slice_get, ◌&&◌, ◌||◌}
 use Rattle.std.proofs.Math.Seq.{drop-nil}
 use Rattle.std.proofs.lemmas.List.{length-drop, length-map}
@@ -13,7 +14,6 @@ use Rattle.sd_product.specs.Work.{PairedPrograms, candidates_in_pair, candidate_
 use Rattle.sd_run.specs.declared.verdict.PairVerdict.{PairVerdict}
 use Rattle.sd_run.specs.declared.verdict.Otherwise.{Otherwise}
 use Rattle.sd_run.specs.Verdicts.{is_flag, flag_live, verdict_of, verdicts_of}
-use Rattle.sd_run.proofs.Booleans.{and_join}
 
 pub drop-drop : {X : Type 0} (m n : ℕ) (xs : List X) → drop m (drop n xs) ≡ drop (n + m) xs
 drop-drop m zero xs = let e : m ≡ 0 + m = omega arith in ap (λ k. drop k xs) e
@@ -35,7 +35,7 @@ no_second false b e = refl
 pub flag_here : (cs : List Candidate) (t : List Bool) (i n : ℕ) (c : Candidate) (b : Bool) → i < length cs → n < length t → c ≡ get_or cs i c → slice_get t n ≡ Some b → is_flag c.claim ≡ true → b ≡ true
     → flag_live (drop i cs) (drop n t) ≡ true
 flag_here cs t i n c b within below at is flag live =
-    flag_step cs t i n c b within below at is ∙ ap (λ x. x || flag_live (drop (i + 1) cs) (drop (n + 1) t)) (and_join (is_flag c.claim) b flag live)
+    flag_step cs t i n c b within below at is ∙ ap (λ x. x || flag_live (drop (i + 1) cs) (drop (n + 1) t)) (and_from (is_flag c.claim) b flag live)
 
 -- a dead one
 pub flag_dead : (cs : List Candidate) (t : List Bool) (i n : ℕ) (c : Candidate) (b : Bool) → i < length cs → n < length t → c ≡ get_or cs i c → slice_get t n ≡ Some b → b ≡ false

@@ -1,5 +1,6 @@
 -- States of terms that agree with states of a run, and what keeps them so.
 use Rattle.std.proofs.Common.{◌≡◌, ℕ, ◌+◌, List, [], ◌∷◌, ◌++◌, length, Option, Some, refl, sym, ap, subst, ◌∙◌}
+use Rattle.std.proofs.lemmas.Bool.{and_from}
 use Rattle.std.specs.Prelude.{Bool, true, false, not, ◌&&◌, ◌||◌, cond, map, slice_get}
 use Rattle.std.proofs.lemmas.List.{map-append}
 use Rattle.sd_base.specs.declared.Sort.{Sort, Bool as BoolSort}
@@ -31,7 +32,7 @@ use Rattle.sd_vcgen.proofs.Typed.{spot-sort, write-sorts, assign-sorts, all-sort
 use Rattle.sd_vcgen.proofs.Values.{term-value}
 use Rattle.sd_vcgen.proofs.Symbols.{symbols-sort, modified-spots, write-globals}
 use Rattle.sd_vcgen.proofs.Sorted.{changed-sorts, call-sorts, begun-sorts}
-use Rattle.sd_vcgen.proofs.Truths.{all_push, not_truth, and_truth, or_truth, and_off, or_off, both_on, assumes_push}
+use Rattle.sd_vcgen.proofs.Truths.{all_push, not_truth, and_truth, or_truth, and_off, or_off, assumes_push}
 
 -- ---- assignments
 
@@ -183,7 +184,7 @@ module _ (C : Context) (formed : WellFormed C.program) (p : CoreProc) (calls : C
           store = a.store;
           flag_is = a.flag_is;
           gone_is = a.gone_is;
-          assumes = assumes_push v s.assumes (or_of (not_of guard) c') ∙ both_on (all_true v s.assumes) (truth v (or_of (not_of guard) c')) a.assumes holds;
+          assumes = assumes_push v s.assumes (or_of (not_of guard) c') ∙ and_from (all_true v s.assumes) (truth v (or_of (not_of guard) c')) a.assumes holds;
           sites = a.sites;
         }
     idle Fail is k path s st f g off a =

@@ -1,5 +1,6 @@
 -- Every ended run of a body is a valuation of its terms.
 use Rattle.std.proofs.Common.{◌≡◌, ℕ, ◌+◌, List, [], ◌∷◌, ◌++◌, length, Option, Some, refl, sym, ap, subst, ◌∙◌, arith}
+use Rattle.std.proofs.lemmas.Bool.{and_from}
 use Rattle.std.specs.Prelude.{Bool, true, false, not, ◌&&◌, map, slice_get, if◌then◌else◌}
 use Rattle.std.proofs.lemmas.List.{length-map}
 use Rattle.sd_base.specs.declared.Sort.{Sort, Bool as BoolSort}
@@ -26,7 +27,7 @@ use Rattle.sd_vcgen.specs.Laws.{Reads, truth, all_true, Carries, IsRun, HasLog, 
 use Rattle.sd_vcgen.proofs.Typed.{assign-sorts, all-sorts}
 use Rattle.sd_vcgen.proofs.Values.{have-sorts, all-values}
 use Rattle.sd_vcgen.proofs.Symbols.{set_all-map}
-use Rattle.sd_vcgen.proofs.Truths.{not_truth, and_truth, or_truth, and_gone, off_path, or_on, both_on, assumes_push}
+use Rattle.sd_vcgen.proofs.Truths.{not_truth, and_truth, or_truth, and_gone, off_path, or_on, assumes_push}
 use Rattle.sd_vcgen.proofs.Agrees.{Agrees, After, assign_on, guard_on, land, idle_row, idle_all, then_idle, holds_is, begins, outs-value}
 use Rattle.sd_vcgen.proofs.Logs.{carries_front, carries_back, two_sizes, resized, length-resized, resized-same, sorted-length, at_all-sorted, symbols-value, flag_log, length-flag, flag-value}
 
@@ -98,7 +99,7 @@ module _ (C : Context) (formed : WellFormed C.program) (I : Interpretation) (cal
     by = λ v k path s r h on a.
         let c' = term_in F s.store c in
         let holds : truth v c' ≡ true = holds_is C formed p calls v I r s st c false false typed a ∙ e in
-        let on1 : truth v (and_of path c') ≡ true = and_truth v path c' ∙ both_on (truth v path) (truth v c') on holds in
+        let on1 : truth v (and_of path c') ≡ true = and_truth v path c' ∙ and_from (truth v path) (truth v c') on holds in
         let path2 = and_of path (not_of c') in
         let mid = steps C x k (and_of path c') s in
         let off2 : (g : Bool) → (truth v path2 && not g) ≡ false =
@@ -114,7 +115,7 @@ module _ (C : Context) (formed : WellFormed C.program) (I : Interpretation) (cal
         let c' = term_in F s.store c in
         let fails : truth v c' ≡ false = holds_is C formed p calls v I r s st c false false typed a ∙ e in
         let off1 : (truth v (and_of path c') && not false) ≡ false = ap (λ (b : Bool). b && not false) (and_truth v path c') ∙ off_path (truth v path) (truth v c') false fails in
-        let on2 : truth v (and_of path (not_of c')) ≡ true = and_truth v path (not_of c') ∙ both_on (truth v path) (truth v (not_of c')) on (not_truth v c' ∙ ap not fails) in
+        let on2 : truth v (and_of path (not_of c')) ≡ true = and_truth v path (not_of c') ∙ and_from (truth v path) (truth v (not_of c')) on (not_truth v c' ∙ ap not fails) in
         ty.by v (k + row_count C x) (and_of path (not_of c')) (steps C x k (and_of path c') s) r (carries_back v k (filler (row_count C x)) ty.log (row_count C x) (length-resized (row_count C x) []) h) on2
         (idle_row C formed p calls v x fx k (and_of path c') s st false false off1 a);
   }
@@ -132,7 +133,7 @@ module _ (C : Context) (formed : WellFormed C.program) (I : Interpretation) (cal
           store = a.store;
           flag_is = a.flag_is;
           gone_is = a.gone_is;
-          assumes = assumes_push v s.assumes (or_of n c') ∙ both_on (all_true v s.assumes) (truth v (or_of n c')) a.assumes holds;
+          assumes = assumes_push v s.assumes (or_of n c') ∙ and_from (all_true v s.assumes) (truth v (or_of n c')) a.assumes holds;
           sites = a.sites;
         };
   }

@@ -56,9 +56,6 @@ pub or_on : (f g : Bool) → g ≡ true → (f || g) ≡ true
 or_on true g e = refl
 or_on false g e = e
 
-pub both_on : (a b : Bool) → a ≡ true → b ≡ true → (a && b) ≡ true
-both_on a b e f = λ i. e i && f i
-
 pub first_on : (a b : Bool) → (a && b) ≡ true → a ≡ true
 first_on true b e = refl
 first_on false b e = e

@@ -1,5 +1,6 @@
 -- A valuation with true assumptions, whose calls end as their terms say, is an ended run of the body.
 use Rattle.std.proofs.Common.{◌≡◌, ℕ, ◌+◌, List, [], ◌∷◌, Option, Some, None, refl, sym, ap, subst, ◌∙◌}
+use Rattle.std.proofs.lemmas.Bool.{and_from}
 use Rattle.std.specs.Prelude.{Bool, true, false, not, ◌&&◌, ◌||◌, map, slice_get, if◌then◌else◌}
 use Rattle.sd_base.specs.declared.Sort.{Sort, Bool as BoolSort}
 use Rattle.sd_base.specs.Value.{Value}
@@ -22,7 +23,7 @@ use Rattle.sd_vcgen.specs.Laws.{Reads, AreInputTerms, truth, all_true, SiteHolds
 use Rattle.sd_vcgen.proofs.Typed.{assign-sorts, all-sorts}
 use Rattle.sd_vcgen.proofs.Values.{all-values}
 use Rattle.sd_vcgen.proofs.Symbols.{set_all-map}
-use Rattle.sd_vcgen.proofs.Truths.{all_front, all_last, not_truth, and_truth, or_truth, and_gone, off_path, or_on, both_on, first_on, second_on, assumes_push}
+use Rattle.sd_vcgen.proofs.Truths.{all_front, all_last, not_truth, and_truth, or_truth, and_gone, off_path, or_on, first_on, second_on, assumes_push}
 use Rattle.sd_vcgen.proofs.Agrees.{Agrees, assign_on, guard_on, land, idle_row, idle_all, holds_is, begins, outs-value}
 
 module _ (C : Context) (formed : WellFormed C.program) (p : CoreProc) (I : Interpretation) (calls : Calls) (v : Valuation) (reads : Reads C.program.functions v I) where
@@ -101,7 +102,7 @@ module _ (C : Context) (formed : WellFormed C.program) (p : CoreProc) (I : Inter
   back_if c x y typed fx fy k path s st on a first second true e =
       let c' = term_in F s.store c in
       let holds : truth v c' ≡ true = holds_is C formed p calls v I reads s st c false false typed a ∙ e in
-      let on1 : truth v (and_of path c') ≡ true = and_truth v path c' ∙ both_on (truth v path) (truth v c') on holds in
+      let on1 : truth v (and_of path c') ≡ true = and_truth v path c' ∙ and_from (truth v path) (truth v c') on holds in
       let path2 = and_of path (not_of c') in
       let mid = steps C x k (and_of path c') s in
       let off2 : (g : Bool) → (truth v path2 && not g) ≡ false =
@@ -112,7 +113,7 @@ module _ (C : Context) (formed : WellFormed C.program) (p : CoreProc) (I : Inter
       let c' = term_in F s.store c in
       let fails : truth v c' ≡ false = holds_is C formed p calls v I reads s st c false false typed a ∙ e in
       let off1 : (truth v (and_of path c') && not false) ≡ false = ap (λ (b : Bool). b && not false) (and_truth v path c') ∙ off_path (truth v path) (truth v c') false fails in
-      let on2 : truth v (and_of path (not_of c')) ≡ true = and_truth v path (not_of c') ∙ both_on (truth v path) (truth v (not_of c')) on (not_truth v c' ∙ ap not fails) in
+      let on2 : truth v (and_of path (not_of c')) ≡ true = and_truth v path (not_of c') ∙ and_from (truth v path) (truth v (not_of c')) on (not_truth v c' ∙ ap not fails) in
       second on2 (idle_row C formed p calls v x fx k (and_of path c') s st false false off1 a)
 
   assumed : (s : State) (st : Store Value) (b : Bool) → b ≡ true → Here s st false false → Reaches s (if b then Goes st else Blocks)
