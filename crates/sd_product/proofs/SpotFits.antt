@@ -1,5 +1,6 @@
 -- What stands at the two places of a pair of inputs, or of outputs, has one type.
 use Rattle.std.proofs.Common.{◌≡◌, ◌∙◌, sym, ap, refl, subst, ℕ, zero, suc, ◌+◌, ◌≤◌, Bool, true, false, List, [], ◌∷◌, ◌++◌, length, get_or, take, drop, arith}
+use Rattle.sd_base.proofs.SortLemmas.{same_sort-is}
 use Rattle.std.specs.Prelude.{◌&&◌, Option, Some, None, slice_get, if◌then◌else◌}
 use Rattle.std.specs.List.{AllByRecursion}
 use Rattle.std.proofs.lemmas.Option.{same_Some}
@@ -13,7 +14,6 @@ use Rattle.sd_core.specs.Formed.{sorts_of, same_sort}
 use Rattle.sd_core.specs.Failure.{place_from, shared_at, shared_from}
 use Rattle.sd_match.specs.declared.pair.SpotPair.{SpotPair}
 use Rattle.sd_match.specs.Pairs.{same_sorts, by_position, named_pair, by_name, shared_pair, shared_pairs, in_pairs, out_pairs}
-use Rattle.sd_match.proofs.SharedLemmas.{sort_is}
 use Rattle.sd_term.specs.Tree.{and-left, and-right}
 
 -- ---- pairs of places
@@ -66,7 +66,7 @@ pub alike : (xs ys : List Var) → same_sorts xs ys ≡ true → Alike xs ys
 alike [] ys h = tt
 alike (x ∷ xs) [] h = tt
 alike (x ∷ xs) (y ∷ ys) h = (
-  sort_is x.sort y.sort (and-left (same_sort x.sort y.sort) (same_sorts xs ys) h),
+  same_sort-is x.sort y.sort (and-left (same_sort x.sort y.sort) (same_sorts xs ys) h),
   alike xs ys (and-right (same_sort x.sort y.sort) (same_sorts xs ys) h),
 )
 
@@ -75,7 +75,7 @@ alike-append [] [] more others h k = k
 alike-append [] (y ∷ ys) more others h k = let bad : ◌≡◌ {A = Bool} false true = h in absurd (cc)
 alike-append (x ∷ xs) [] more others h k = let bad : ◌≡◌ {A = Bool} false true = h in absurd (cc)
 alike-append (x ∷ xs) (y ∷ ys) more others h k = (
-  sort_is x.sort y.sort (and-left (same_sort x.sort y.sort) (same_sorts xs ys) h),
+  same_sort-is x.sort y.sort (and-left (same_sort x.sort y.sort) (same_sorts xs ys) h),
   alike-append xs ys more others (and-right (same_sort x.sort y.sort) (same_sorts xs ys) h) k,
 )
 
@@ -113,7 +113,7 @@ named-sort ss j n (y ∷ ys) x k h e =
         → get_or ss (j + k) BoolSort ≡ x.sort
     go true is here rest =
         let at : n ≡ k = same_Some n k here in
-        let sort : x.sort ≡ y.sort = sort_is x.sort y.sort (and-right (same_text x.name y.name) (same_sort x.sort y.sort) is) in
+        let sort : x.sort ≡ y.sort = same_sort-is x.sort y.sort (and-right (same_text x.name y.name) (same_sort x.sort y.sort) is) in
         ap (λ (m : ℕ). get_or ss (j + m) BoolSort) (sym at) ∙ h.0 ∙ sym sort
     go false is here rest = rest here
 

@@ -1,5 +1,6 @@
 -- The facts of a query are well sorted.
 use Rattle.std.proofs.Common.{◌≡◌, ℕ, suc, ◌+◌, Bool, true, false, List, [], ◌∷◌, ◌++◌, length, refl, sym, ap, subst, ◌∙◌}
+use Rattle.sd_base.proofs.SortLemmas.{same_sort-is}
 use Rattle.std.specs.Prelude.{◌&&◌, ◌==◌, Option, Some, None, map, slice_get, if◌then◌else◌}
 use Rattle.std.specs.List.{AllByRecursion, flat_map}
 use Rattle.std.proofs.lemmas.List.{map-append}
@@ -14,7 +15,6 @@ use Rattle.sd_core.specs.declared.Function.{Function}
 use Rattle.sd_core.specs.Store.{Store, read, map_store}
 use Rattle.sd_core.specs.Formed.{WellFormed, sorts_of, no_state, HasType, same_sort}
 use Rattle.sd_match.specs.declared.pair.SpotPair.{SpotPair}
-use Rattle.sd_match.proofs.SharedLemmas.{sort_is}
 use Rattle.sd_term.specs.declared.build.Kind.{Kind}
 use Rattle.sd_term.specs.declared.build.Kind.TheVariants as kind
 use Rattle.sd_term.specs.Tree.{Tree, and-left, and-right}
@@ -181,7 +181,7 @@ module _ (w : Work) (table : List Bool) where
       let test = same_sort c.sort d.sort && (occurs facts c && occurs facts d) in
       let t = not_of (eq_of (constant_term c) (constant_term d)) in
       append-well (if test then t ∷ [] else []) (apart_from facts c ds)
-      (if-well test t (λ e. not-well (eq_of (constant_term c) (constant_term d)) (eq-well (constant_term c) (constant_term d) (tt, refl) (tt, refl) (sort_is c.sort d.sort (and-left (same_sort c.sort d.sort) (occurs facts c && occurs facts d) e))) refl))
+      (if-well test t (λ e. not-well (eq_of (constant_term c) (constant_term d)) (eq-well (constant_term c) (constant_term d) (tt, refl) (tt, refl) (same_sort-is c.sort d.sort (and-left (same_sort c.sort d.sort) (occurs facts c && occurs facts d) e))) refl))
       (from-well facts c ds)
 
   apart-well : (facts : List Tree) (cs : List Var) → AllWellSorted (apart facts cs)
