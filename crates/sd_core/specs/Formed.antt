@@ -159,8 +159,8 @@ IsRoot p = IsDistinct same_text (filter is_plain (names_of (p.ins ++ (p.outs ++ 
 abbrev pub left : List Var
 left = record { name = codes "left"; sort = BoolSort } ∷ []
 
--- The procedure at place n is that of loop k of the procedure at place q. It gets the other's ins, outs, declared locals
--- and copies, and gives back the outs and declared locals, and maybe whether it left the other.
+-- The procedure at place n is that of loop k of the procedure at place q. It gets the other's ins, outs, declared
+-- locals and copies, and gives back the outs and declared locals, and maybe whether it left the other.
 pub record IsLoop (P : CoreProgram) (n q k : ℕ) (loop : CoreProc) : Type 0 where
   pub root : CoreProc
   pub found : slice_get P.procs q ≡ Some root

@@ -1,5 +1,5 @@
--- A state: what stands in the slots of the procedure and in the globals. It holds values in a run, and terms in a body's
--- terms.
+-- A state: what stands in the slots of the procedure and in the globals. It holds values in a run, and terms in a
+-- body's terms.
 use Rattle.std.specs.Prelude.{ℕ, List, [], ◌∷◌, map, get_or, set}
 use Rattle.sd_core.specs.declared.tree.Spot.{Spot}
 use Rattle.sd_core.specs.declared.tree.Spot.TheVariants.{Slot, Global}

@@ -5,8 +5,8 @@ use Rattle.sd_term.specs.Numbering.{numbered, has}
 use Rattle.sd_forms.specs.FactRows.{is_int_eq}
 use Rattle.sd_cube.specs.Required.{IsChoice, choice_eq, order_of, order_back}
 
--- The least set that has the terms of the facts and the parts of each of its terms, with a choice its equality with each
--- of the two parts, and with an equality of integers the two orders.
+-- The least set that has the terms of the facts and the parts of each of its terms, with a choice its equality with
+-- each of the two parts, and with an equality of integers the two orders.
 pub data IsNeeded (facts : List Tree) : Tree → Type 0 where
   term : (t : Tree) → has (numbered facts) t ≡ true → IsNeeded facts t
   part : (t p : Tree) → IsNeeded facts t → Contains (parts_of t) p → IsNeeded facts p

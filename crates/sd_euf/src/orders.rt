@@ -61,8 +61,8 @@ fn is_false(standing: Standing) -> bool
     }
 }
 
-/// Whether a false equality of integers with these sides has a false order. An order without a value is asked for before
-/// one without a number.
+/// Whether a false equality of integers with these sides has a false order. An order without a value is asked for
+/// before one without a number.
 fn judged_sides(
     terms: &Bank,
     table: &LeftTable,

@@ -60,7 +60,8 @@ abbrev pub loop_partner_in : CoreProgram → Option CoreProc → ℕ → Option 
 loop_partner_in Q None k = None
 loop_partner_in Q (Some root) k = loop_partner_at Q root k (root_from 0 Q.procs root.name)
 
--- The partner of a procedure of the text has its name. That of a loop has its number, in the partner of the procedure that it stands in.
+-- The partner of a procedure of the text has its name. That of a loop has its number, in the partner of the procedure
+-- that it stands in.
 abbrev pub partner_by : CoreProgram → CoreProgram → CoreProc → Option (ℕ × ℕ) → Option ℕ
 partner_by P Q p None = root_from 0 Q.procs p.name
 partner_by P Q p (Some parent) = loop_partner_in Q (slice_get P.procs parent.0) parent.1
@@ -106,8 +107,8 @@ root_by P (Some parent) = slice_get P.procs parent.0
 abbrev pub root_of : CoreProgram → CoreProc → Option CoreProc
 root_of P p = root_by P p.parent
 
--- How many in-parameters are paired by position: all of a procedure of the text, and of a loop those that stand for the parameters of
--- the procedure that it stands in.
+-- How many in-parameters are paired by position: all of a procedure of the text, and of a loop those that stand for the
+-- parameters of the procedure that it stands in.
 abbrev pub fixed_ins : CoreProc → Option CoreProc → ℕ
 fixed_ins p None = length p.ins
 fixed_ins p (Some root) = length root.ins + length root.outs
@@ -117,7 +118,8 @@ abbrev pub fixed_outs : CoreProc → Option CoreProc → ℕ
 fixed_outs p None = length p.outs
 fixed_outs p (Some root) = length root.outs
 
--- how many declared locals a loop carries: its in-parameters are those parameters, the locals, and a copy for each modified global
+-- how many declared locals a loop carries: its in-parameters are those parameters, the locals, and a copy for each
+-- modified global
 abbrev pub carried_count : CoreProc → Option CoreProc → ℕ
 carried_count p None = 0
 carried_count p (Some root) = length p.ins - (length root.ins + (length root.outs + length p.modifies))
@@ -126,7 +128,8 @@ carried_count p (Some root) = length p.ins - (length root.ins + (length root.out
 abbrev pub in_pairs : (a b : ℕ) → (olds news : List Var) → List SpotPair
 in_pairs a b olds news = by_position 0 0 (take a olds) (take b news) ++ by_name a b (drop a olds) (drop b news)
 
--- out-parameters, in slots from i and from j on: by position, then a loop's locals by name, and last whether it left the procedure
+-- out-parameters, in slots from i and from j on: by position, then a loop's locals by name, and last whether it left
+-- the procedure
 abbrev pub out_pairs : (i j a b d e : ℕ) → (olds news : List Var) → List SpotPair
 out_pairs i j a b d e olds news =
     by_position i j (take a olds) (take b news)

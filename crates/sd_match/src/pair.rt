@@ -30,7 +30,7 @@ pub struct Pair {
     pub state: PairState,
     /// In-parameters by position, a loop's locals and copies of globals by name, and then the shared globals.
     pub inputs: Items<SpotPair>,
-    /// Out-parameters by position, a loop's locals by name, whether a loop left its procedure, and then the shared globals
-    /// that one of the two may modify.
+    /// Out-parameters by position, a loop's locals by name, whether a loop left its procedure, and then the shared
+    /// globals that one of the two may modify.
     pub outputs: Items<SpotPair>,
 }

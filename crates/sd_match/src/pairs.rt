@@ -272,8 +272,8 @@ impl Pairs {
 
 /// Pairs the procedures and loops of two programs.
 ///
-/// A procedure's partner has its name, and a loop's partner its number in the partner of the procedure that it stands in, if
-/// those have parameters of the same types.
+/// A procedure's partner has its name, and a loop's partner its number in the partner of the procedure that it stands
+/// in, if those have parameters of the same types.
 ///
 /// # Errors
 ///

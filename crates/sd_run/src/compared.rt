@@ -10,7 +10,8 @@ use sd_ast::{
 use sd_base::{Sort, Var};
 use sqlite_items::{Boxed, Items};
 
-/// Whether a program is compared today: it is over truth values and integers, without products, functions, constants and axioms.
+/// Whether a program is compared today: it is over truth values and integers, without products, functions, constants
+/// and axioms.
 pub fn is_compared_program(program: &Program) -> bool
     ensures { (result ≡ true) ↔ IsComparedProgram program.now }
 {

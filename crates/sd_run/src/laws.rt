@@ -11,14 +11,14 @@ pub fn one_answer()
     sd_cert::laws::one_table();
 }
 
-/// The programs that are compared are those that declare globals, procedures and implementations alone, over truth values
-/// and integers, and multiply nothing.
+/// The programs that are compared are those that declare globals, procedures and implementations alone, over truth
+/// values and integers, and multiply nothing.
 pub fn compared_is_exact()
     ensures { ComparedIsExact }
 {}
 
-/// Each pair of procedures has one verdict, in order, and it is safe exactly where a live candidate of it claims that the
-/// new procedure fails only where the old one does at equal inputs.
+/// Each pair of procedures has one verdict, in order, and it is safe exactly where a live candidate of it claims that
+/// the new procedure fails only where the old one does at equal inputs.
 pub fn verdicts_are_plain()
     ensures { VerdictsArePlain }
 {}

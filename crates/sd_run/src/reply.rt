@@ -90,8 +90,8 @@ fn status_of(pairs: &[PairVerdict]) -> u8
     if all_safe(pairs) { 0 } else { 1 }
 }
 
-/// The report on two texts from the table of live candidates. A pair of which no claim on the flags is live is said to be
-/// `otherwise`.
+/// The report on two texts from the table of live candidates. A pair of which no claim on the flags is live is said to
+/// be `otherwise`.
 pub fn report_on(
     alloc: Global,
     matched: &Matched,

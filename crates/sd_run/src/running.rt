@@ -32,8 +32,8 @@ pub enum CertificateFile {
     Whole,
 }
 
-/// How a run ended: its status, and with the statuses 0 and 1, and with 7 while a report or its certificate was written,
-/// what is said of the pairs.
+/// How a run ended: its status, and with the statuses 0 and 1, and with 7 while a report or its certificate was
+/// written, what is said of the pairs.
 #[derive(Drop)]
 pub struct Ended {
     pub status: Status,
@@ -139,7 +139,8 @@ pub fn run<R: Threads + Sync, F: Files, S: Sink, G: Gate>(
 ) -> Ended
     ensures known { Contains (0 ∷ 1 ∷ 2 ∷ 3 ∷ 4 ∷ 5 ∷ 6 ∷ 7 ∷ 8 ∷ 9 ∷ []) result.status.code }
 
-    // Each other status than 6, 7 and 8 is a row of the table of answers, and its certificate and its text were written whole.
+    // Each other status than 6, 7 and 8 is a row of the table of answers, and its certificate and its text were written
+    // whole.
     ensures answer { result.status.code ≢ 6 → result.status.code ≢ 7 → result.status.code ≢ 8
         → (text : List ℕ) × (certificate : Option (List ℕ × List ℕ))
         × Answer (map string_bytes words.now) (F.content files.old) (outcome result.status.code text certificate result)
@@ -160,7 +161,8 @@ pub fn run<R: Threads + Sync, F: Files, S: Sink, G: Gate>(
     ensures silent { (result.status.code ≡ 6) ⊎ (result.status.code ≡ 8) → SaysNothing result
         × AllStay F.content files.old files.new × (S.written out.new ≡ S.written out.old) }
 
-    // The faults have their causes, and the first one ends the run: a file is read only where those before it are accepted.
+    // The faults have their causes, and the first one ends the run: a file is read only where those before it are
+    // accepted.
     ensures read_fault { result.status.code ≡ 6 → ReadRose (map string_bytes words.now) (F.content files.old)
         (F.read_faults files.old) (F.read_faults files.new) }
     ensures write_fault { result.status.code ≡ 7
@@ -179,8 +181,8 @@ pub fn run<R: Threads + Sync, F: Files, S: Sink, G: Gate>(
     // Where a pair is said to be safe, no meaning and no equal input let the old procedure end while the new one fails.
     ensures headline { Headline (map string_bytes words.now) (F.content files.old) result.pairs.items }
 
-    // Where a pair is said to be unknown, no search for a candidate of it was spent, and the texts are over truth values without
-    // calls and loops, such an input is there.
+    // Where a pair is said to be unknown, no search for a candidate of it was spent, and the texts are over truth
+    // values without calls and loops, such an input is there.
     ensures unknown { UnknownIsFailure (map string_bytes words.now)
         (F.content files.old) result.deaths.items result.pairs.items }
 {

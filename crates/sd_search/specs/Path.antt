@@ -4,7 +4,8 @@ use Rattle.std.specs.List.{AllByRecursion}
 use Rattle.sd_term.specs.declared.cube.Literal.{Literal}
 use Rattle.sd_kernel.specs.Known.{Trail}
 
--- the second branches that wait for the splits of a path, the latest first; a literal that is true is the first branch of its split
+-- the second branches that wait for the splits of a path, the latest first; a literal that is true is the first branch
+-- of its split
 abbrev pub waiting : Trail → Trail → List Trail
 waiting before [] = []
 waiting before (f ∷ fs) = waiting (before ++ f ∷ []) fs ++ cond f.1 ((before ++ (f.0, false) ∷ []) ∷ []) []

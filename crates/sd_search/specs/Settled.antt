@@ -9,7 +9,8 @@ use Rattle.sd_cube.specs.Required.{ChoicesHold, OrdersHold, NoneJoined}
 use Rattle.sd_cube.specs.CubeRows.{eliminated_branch}
 use Rattle.sd_cube.specs.OpenCube.{AllKnown}
 
--- every fact is true, each atom has a value, and no rule of choice, of order, of equality or of linear arithmetic is broken
+-- every fact is true, each atom has a value, and no rule of choice, of order, of equality or of linear arithmetic is
+-- broken
 pub record IsSettled (facts terms : List Tree) (trail : Trail) : Type 0 where
   pub facts_true : AllKnown trail facts
   pub valued : (n : ℕ) → n < length terms → is_atom (tree_at terms n) ≡ true → known trail (tree_at terms n) ≢ None

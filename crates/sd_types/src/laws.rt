@@ -7,8 +7,8 @@ pub fn types_are_exact()
     ensures { TypesAreExact }
 {}
 
-/// In the bodies of a well-typed program each expression has the type that it is used at: conditions are truth values, both sides of an
-/// assignment agree, and so do arguments and receivers with the callee. `break` stands in loops alone.
+/// In the bodies of a well-typed program each expression has the type that it is used at: conditions are truth values,
+/// both sides of an assignment agree, and so do arguments and receivers with the callee. `break` stands in loops alone.
 pub fn bodies_are_typed()
     ensures { BodiesAreTyped }
 {}

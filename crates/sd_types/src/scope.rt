@@ -76,8 +76,8 @@ pub struct Given {
     pub sort: Sort,
 }
 
-/// What a name stands for in an expression: a parameter or local, else a global or constant. An axiom sees constants alone, and
-/// a `requires` no out-parameter.
+/// What a name stands for in an expression: a parameter or local, else a global or constant. An axiom sees constants
+/// alone, and a `requires` no out-parameter.
 pub(crate) fn find_variable<'a>(
     scope: &'a Scope,
     locals: &'a Table<Variable>,

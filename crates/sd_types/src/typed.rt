@@ -52,8 +52,8 @@ fn check_program(alloc: Global, program: &Program) -> Result<(), TypeError>
     check_decls(alloc, &scope, &program.decls)
 }
 
-/// Takes a program that breaks no rule. Another one comes back unchanged with the first rule that it breaks: names that are declared
-/// twice in text order, then the declarations in text order, each from left to right, inner phrases first.
+/// Takes a program that breaks no rule. Another one comes back unchanged with the first rule that it breaks: names that
+/// are declared twice in text order, then the declarations in text order, each from left to right, inner phrases first.
 pub fn check(alloc: Global, program: Program) -> Result<Typed, (Program, TypeError)>
     ensures program { IfOk result (λ t. t ≡ program) }
     ensures typed { IfOk result WellTyped }

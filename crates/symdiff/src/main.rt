@@ -46,8 +46,8 @@ fn words_of<R: Env + Alloc<A = Global>>(rt: &R) -> Result<Vec<String>, NoWords> 
     }
 }
 
-/// The exit status of a run on these words. Without memory for them it is 8 and nothing is written. A word that isn't text makes
-/// a command line that names no job.
+/// The exit status of a run on these words. Without memory for them it is 8 and nothing is written. A word that isn't
+/// text makes a command line that names no job.
 fn status_of<R: Threads + Sync, F: Files, S: Sink>(
     rt: &R,
     alloc: Global,
