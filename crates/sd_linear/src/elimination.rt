@@ -6,7 +6,7 @@ ghost use Rattle.sd_linear.specs.DerivedRows.{rows_of, IsDerivation, DescendsFro
 ghost use Rattle.sd_linear.specs.Answers.{Stops, Fails, answer_of, Justified};
 
 use crate::columns::columns_of;
-use crate::combine::{comes_in, eliminate_column};
+use crate::combine::{Elimination, comes_in, eliminate_column};
 use crate::list::{DerivedRow, RowList};
 use crate::step::RowStep;
 use crate::value::choose;
@@ -99,6 +99,11 @@ fn take_inputs(alloc: Global, inputs: &[Row], steps: &mut Items<RowStep>) -> Res
     ensures derived { IfOk result (λ list. IsDerivation inputs.now steps.new list) }
     ensures stops { IfErr result (λ stop. Stops inputs.now stop (all_come_in 0 inputs.now [])) }
 {
+    let elimination = Elimination {
+        alloc,
+        inputs,
+        column: 0,
+    };
     let mut list = RowList::new(alloc);
     for (i, row) in inputs.iter().enumerate() {
         if i > u32::MAX as usize {
@@ -106,9 +111,7 @@ fn take_inputs(alloc: Global, inputs: &[Row], steps: &mut Items<RowStep>) -> Res
         }
         let row = row.copy(alloc)?;
         comes_in(
-            alloc,
-            inputs,
-            0,
+            &elimination,
             row,
             RowStep::Input(i as u32),
             &mut list,

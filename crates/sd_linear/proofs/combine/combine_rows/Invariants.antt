@@ -5,5 +5,5 @@ use Rattle.sd_linear.proofs.combine.combine_rows.Given as goal
 
 abbrev pub invariant-loop-r : goal.invariant-loop-r
 invariant-loop-r l =
-    Continues l.inputs (all_come_in l.column (combinations l.column (rows_of l.rows)) (rows_of l.fn.list)) l.column
-    (combined_from l.column (rows_of l.rows) (from_place l.r-index l.rows)) l.list l.fn.steps l.steps
+    Continues l.elimination.inputs.now (all_come_in l.elimination.column (combinations l.elimination.column (rows_of l.rows)) (rows_of l.fn.list)) l.elimination.column
+    (combined_from l.elimination.column (rows_of l.rows) (from_place l.r-index l.rows)) l.list l.fn.steps l.steps

@@ -20,11 +20,11 @@ needed-requires c =
     let s : c.in_ok-row.is_cut ≡ false → c.args.row ≡ reduced c.args.row = c.in_ok-row.ensures.same in
     let o : c.in_ok-row.is_cut ≡ true → 1 < greatest_divisor (sizes c.args.row.parts) = c.in_ok-row.ensures.cut in
     let f : c.derive.new.steps ≡ c.args.steps.now ++ with_cut c.args.how (length c.args.steps.now) c.in_ok-row.is_cut = search rules in
-    let d : Derives c.args.inputs.now c.derive.new.steps c.args.row =
-    derives c.args.inputs.now c.args.steps.now c.derive.new.steps c.args.how c.args.row c.in_ok-row.is_cut c.requires.made c.requires.step c.requires.useful c.requires.derived.are_steps c.requires.derived.within c.requires.derived.useful w s o f in
+    let d : Derives c.args.elimination.now.inputs.now c.derive.new.steps c.args.row =
+    derives c.args.elimination.now.inputs.now c.args.steps.now c.derive.new.steps c.args.how c.args.row c.in_ok-row.is_cut c.requires.made c.requires.step c.requires.useful c.requires.derived.are_steps c.requires.derived.within c.requires.derived.useful w s o f in
     let g : c.as_slice.result.now ≡ c.derive.new.steps = c.as_slice.ensures in
     record {
-      refutes = subst (Refutes c.args.inputs.now) (sym g) (Refutes-derived c.args.inputs.now c.derive.new.steps c.args.row d (subst IsAbsurd e (p, b)));
+      refutes = subst (Refutes c.args.elimination.now.inputs.now) (sym g) (Refutes-derived c.args.elimination.now.inputs.now c.derive.new.steps c.args.row d (subst IsAbsurd e (p, b)));
       within = rw g d.within;
       useful = rw g d.useful;
     }
@@ -35,8 +35,8 @@ returns-then-row-lt0-clause-stops c =
     let e : c.in_ok-row.row ≡ reduced c.args.row = search rules in
     let p : c.in_ok-row.row.parts ≡ [] = search rules in
     let b : c.in_ok-row.row.bound <ℤ pos 0 = search rules in
-    let k : IsRefutation c.args.inputs.now c.in_ok-kept.kept = search rules in
-    (come_in-refuted c.args.column c.args.row c.in_ok-row.row (rows_of c.args.list.now) w e p b, k)
+    let k : IsRefutation c.args.elimination.now.inputs.now c.in_ok-kept.kept = search rules in
+    (come_in-refuted c.args.elimination.now.column c.args.row c.in_ok-row.row (rows_of c.args.list.now) w e p b, k)
 
 pub returns-then-len-gt-MAX_ROWS-clause-stops : goal.returns-then-len-gt-MAX_ROWS-clause-stops
 returns-then-len-gt-MAX_ROWS-clause-stops c =
@@ -45,7 +45,7 @@ returns-then-len-gt-MAX_ROWS-clause-stops c =
     let p : c.in_ok-row.row.parts ≢ [] = search rules in
     let j : rows_of c.join.new.list ≡ joined c.in_ok-row.row (rows_of c.args.list.now) = search rules in
     let l : 20000 < length c.join.new.list = search rules in
-    (come_in-many c.args.column c.args.row c.in_ok-row.row (rows_of c.args.list.now) c.join.new.list w e p j l, tt)
+    (come_in-many c.args.elimination.now.column c.args.row c.in_ok-row.row (rows_of c.args.list.now) c.join.new.list w e p j l, tt)
 
 pub returns-clause-continues : goal.returns-clause-continues
 returns-clause-continues c =
@@ -54,7 +54,7 @@ returns-clause-continues c =
     let p : c.in_ok-row.row.parts ≢ [] = search rules in
     let j : rows_of c.join.new.list ≡ joined c.in_ok-row.row (rows_of c.args.list.now) = search rules in
     let l : length c.join.new.list ≤ 20000 = search rules in
-    come_in-continues c.args.column c.args.row c.in_ok-row.row (rows_of c.args.list.now) c.join.new.list w e p j l
+    come_in-continues c.args.elimination.now.column c.args.row c.in_ok-row.row (rows_of c.args.list.now) c.join.new.list w e p j l
 
 pub returns-clause-derived : goal.returns-clause-derived
 returns-clause-derived c =
@@ -64,15 +64,15 @@ returns-clause-derived c =
     let o : c.in_ok-row.is_cut ≡ true → 1 < greatest_divisor (sizes c.args.row.parts) = c.in_ok-row.ensures.cut in
     let more : List RowStep = with_cut c.args.how (length c.args.steps.now) c.in_ok-row.is_cut in
     let f : c.derive-2.new.steps ≡ c.args.steps.now ++ more = search rules in
-    let d : Derives c.args.inputs.now c.derive-2.new.steps c.args.row =
-    derives c.args.inputs.now c.args.steps.now c.derive-2.new.steps c.args.how c.args.row c.in_ok-row.is_cut c.requires.made c.requires.step c.requires.useful c.requires.derived.are_steps c.requires.derived.within c.requires.derived.useful w s o f in
+    let d : Derives c.args.elimination.now.inputs.now c.derive-2.new.steps c.args.row =
+    derives c.args.elimination.now.inputs.now c.args.steps.now c.derive-2.new.steps c.args.how c.args.row c.in_ok-row.is_cut c.requires.made c.requires.step c.requires.useful c.requires.derived.are_steps c.requires.derived.within c.requires.derived.useful w s o f in
     let n : c.in_ok-step.step + 1 ≡ length c.derive-2.new.steps = search rules in
-    let a : AreDerivedRows (rows_made c.args.inputs.now c.derive-2.new.steps) c.args.list.now =
-    subst (λ s. AreDerivedRows (rows_made c.args.inputs.now s) c.args.list.now) (sym f) (AreDerivedRows-extended c.args.inputs.now c.args.steps.now more c.args.list.now c.requires.derived.rows) in
+    let a : AreDerivedRows (rows_made c.args.elimination.now.inputs.now c.derive-2.new.steps) c.args.list.now =
+    subst (λ s. AreDerivedRows (rows_made c.args.elimination.now.inputs.now s) c.args.list.now) (sym f) (AreDerivedRows-extended c.args.elimination.now.inputs.now c.args.steps.now more c.args.list.now c.requires.derived.rows) in
     record {
       are_steps = d.are_steps;
       within = d.within;
       useful = d.useful;
-      rows = c.in_ok-join.ensures.derived (rows_made c.args.inputs.now c.derive-2.new.steps)
-          (IsDerivedRow-derived c.args.inputs.now c.derive-2.new.steps c.args.row (record { row = c.in_ok-row.row; step = c.in_ok-step.step }) d c.requires.proper w e n) a;
+      rows = c.in_ok-join.ensures.derived (rows_made c.args.elimination.now.inputs.now c.derive-2.new.steps)
+          (IsDerivedRow-derived c.args.elimination.now.inputs.now c.derive-2.new.steps c.args.row (record { row = c.in_ok-row.row; step = c.in_ok-step.step }) d c.requires.proper w e n) a;
     }
