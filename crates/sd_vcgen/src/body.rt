@@ -11,7 +11,7 @@ ghost use Rattle.sd_vcgen.specs.Body as spec;
 ghost use Rattle.sd_vcgen.specs.Body.{nothing, term_in, guard_of, assign, step, all_steps, begun, count, count_all};
 ghost use Rattle.sd_vcgen.specs.Numbers.{Denotes, DenoteAll, AreWithin, store_of, AreTermsOf, Stands, state_of, IsWithin, context_of, KeepsAll};
 
-use crate::call::{Context, Site, run_call};
+use crate::call::{CallStatement, Context, Site, run_call};
 use crate::expression::{put_expression, put_expressions};
 use crate::spots::{Spots, hold, put_slot, put_spot, put_truth};
 use sd_base::{CloneOf, NoMemory, Var};
@@ -392,15 +392,14 @@ fn run_statement(
             run_statements(bank, context, state, paths.then_path, yes.as_slice())?;
             run_statements(bank, context, state, paths.else_path, no.as_slice())
         }
-        CoreStmt::Call(receivers, callee, args) => run_call(
-            bank,
-            context,
-            state,
-            path,
-            receivers.as_slice(),
-            *callee,
-            args.as_slice(),
-        ),
+        CoreStmt::Call(receivers, callee, args) => {
+            let call = CallStatement {
+                receivers: receivers.as_slice(),
+                callee: *callee,
+                args: args.as_slice(),
+            };
+            run_call(bank, context, state, path, &call)
+        }
         CoreStmt::Assume(condition) => run_assumption(bank, context, state, path, condition),
         CoreStmt::Fail => run_failure(bank, state, path),
         CoreStmt::Return => run_return(bank, state, path),

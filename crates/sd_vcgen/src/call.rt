@@ -47,31 +47,35 @@ pub struct Site {
     pub flag: TermId,
 }
 
+/// A call as it is written: what it receives its results in, the place of the called procedure, and its arguments.
+#[derive(Clone, Copy)]
+pub(crate) struct CallStatement<'a> {
+    pub(crate) receivers: &'a [Spot],
+    pub(crate) callee: u32,
+    pub(crate) args: &'a [CoreExpr],
+}
+
 /// A call, where there is such a procedure.
 pub(crate) fn run_call(
     bank: &mut Bank,
     context: &Context<'_>,
     state: &mut BodyState,
     path: TermId,
-    receivers: &[Spot],
-    callee: u32,
-    args: &[CoreExpr],
+    call: &CallStatement<'_>,
 ) -> Result<(), NoMemory>
     requires state { IsWithin bank.old state.old }
     requires path { path < length bank.old }
     ensures state { OnOk result (Stands bank.new state.new
         (spec.call (context_of context.now) state.old.next (tree_at bank.old path)
-        (slice_get context.now.program.now.procs callee) receivers.now callee args.now (state_of bank.old state.old))) }
+        (slice_get context.now.program.now.procs call.now.callee) call.now.receivers.now call.now.callee
+        call.now.args.now (state_of bank.old state.old))) }
     ensures next { OnOk result (state.new.next ≡ state.old.next + call_symbols
-        ((context_of context.now).infallible callee) (slice_get context.now.program.now.procs callee)) }
+        ((context_of context.now).infallible call.now.callee)
+        (slice_get context.now.program.now.procs call.now.callee)) }
     ensures kept { OnOk result (Extends bank.old bank.new) }
 {
-    match context.program.procs.get(callee as usize) {
-        Some(procedure) => {
-            call_procedure(
-                bank, context, state, path, procedure, receivers, callee, args,
-            )
-        }
+    match context.program.procs.get(call.callee as usize) {
+        Some(procedure) => call_procedure(bank, context, state, path, procedure, call),
         None => Ok(()),
     }
 }
@@ -82,22 +86,27 @@ fn call_procedure(
     state: &mut BodyState,
     path: TermId,
     procedure: &CoreProc,
-    receivers: &[Spot],
-    callee: u32,
-    args: &[CoreExpr],
+    call: &CallStatement<'_>,
 ) -> Result<(), NoMemory>
     requires state { IsWithin bank.old state.old }
     requires path { path < length bank.old }
     ensures state { OnOk result (Stands bank.new state.new
-        (spec.call (context_of context.now) state.old.next (tree_at bank.old path) (Some procedure.now) receivers.now
-        callee args.now (state_of bank.old state.old))) }
+        (spec.call (context_of context.now) state.old.next (tree_at bank.old path) (Some procedure.now)
+        call.now.receivers.now call.now.callee call.now.args.now (state_of bank.old state.old))) }
     ensures next { OnOk result (state.new.next ≡ state.old.next + call_symbols
-        ((context_of context.now).infallible callee) (Some procedure.now)) }
+        ((context_of context.now).infallible call.now.callee) (Some procedure.now)) }
     ensures kept { OnOk result (Extends bank.old bank.new) }
 {
-    let made = put_site(bank, context, state, path, procedure, callee, args)?;
+    let made = put_site(bank, context, state, path, procedure, call)?;
     let Made { site, changed } = made;
-    receive(bank, state, procedure, receivers, changed.as_slice(), site)
+    receive(
+        bank,
+        state,
+        procedure,
+        call.receivers,
+        changed.as_slice(),
+        site,
+    )
 }
 
 // ---- the record
@@ -115,27 +124,26 @@ fn put_site(
     state: &mut BodyState,
     path: TermId,
     procedure: &CoreProc,
-    callee: u32,
-    args: &[CoreExpr],
+    call: &CallStatement<'_>,
 ) -> Result<Made, NoMemory>
     requires state { IsWithin bank.old state.old }
     requires path { path < length bank.old }
     ensures site { IfOk result (λ made. DenotesSite bank.new made.site
-        (site_of (context_of context.now) state.old.next (tree_at bank.old path) procedure.now callee args.now
-        (state_of bank.old state.old))) }
+        (site_of (context_of context.now) state.old.next (tree_at bank.old path) procedure.now call.now.callee
+        call.now.args.now (state_of bank.old state.old))) }
     ensures changed { IfOk result (λ made. DenoteAll bank.new made.changed
         (changed context.now.program.now state.old.next procedure.now)) }
     ensures state { OnOk result (Stands bank.new state.new (state_of bank.old state.old)) }
     ensures next { OnOk result (state.new.next ≡ state.old.next + call_symbols
-        ((context_of context.now).infallible callee) (Some procedure.now)) }
+        ((context_of context.now).infallible call.now.callee) (Some procedure.now)) }
     ensures kept { OnOk result (Extends bank.old bank.new) }
 {
     let alloc = bank.allocator();
     let guard = put_guard(bank, state.gone, path)?;
     let functions = context.program.functions.as_slice();
-    let args = put_expressions(bank, functions, &state.spots, args)?;
+    let args = put_expressions(bank, functions, &state.spots, call.args)?;
     let before = Items::from_slice(alloc, state.spots.globals.as_slice())?;
-    let results = put_results(bank, context, &mut state.next, procedure, callee)?;
+    let results = put_results(bank, context, &mut state.next, procedure, call.callee)?;
     let Results {
         outs,
         changed,
@@ -149,7 +157,7 @@ fn put_site(
     )?;
     Ok(Made {
         site: Site {
-            callee,
+            callee: call.callee,
             guard,
             args,
             before,

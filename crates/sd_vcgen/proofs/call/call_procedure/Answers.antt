@@ -12,5 +12,5 @@ pub returns-clause-state : goal.returns-clause-state
 returns-clause-state c =
     let made = c.in_ok-made.ensures in
     subst (λ (s : State). OnOk c.receive.result (Stands c.receive.new.bank c.receive.new.state s))
-    (called c.args.bank.now c.put_site.new.bank (context_of c.args.context.now) c.args.state.now.next c.args.state.now c.put_site.new.state c.args.procedure.now c.args.callee c.args.path c.args.receivers.now c.args.args.now c.in_ok-made.made.site c.in_ok-made.made.changed c.as_slice.result.now made.site made.changed c.as_slice.ensures made.state)
+    (called c.args.bank.now c.put_site.new.bank (context_of c.args.context.now) c.args.state.now.next c.args.state.now c.put_site.new.state c.args.procedure.now c.args.call.now.callee c.args.path c.args.call.now.receivers.now c.args.call.now.args.now c.in_ok-made.made.site c.in_ok-made.made.changed c.as_slice.result.now made.site made.changed c.as_slice.ensures made.state)
     c.receive.ensures.state

@@ -10,7 +10,7 @@ returns-clause-site c =
     let results = c.in_ok-results.ensures in
     let before = c.in_ok-before.ensures ∙ c.as_slice.ensures in
     let after = c.in_ok-after.ensures ∙ (λ i. set_all ((c.as_slice-2.ensures ∙ before) i) (c.as_slice-3.ensures i) (c.as_slice-4.ensures i)) in
-    site_made c.args.bank.now c.put_guard.new.bank c.put_expressions.new.bank c.put_results.new.bank (context_of c.args.context.now) c.as_slice-functions.result.now c.args.state.now.next c.args.state.now c.args.procedure.now c.args.callee c.args.path c.args.args.now _ c.in_ok-results.results.changed
+    site_made c.args.bank.now c.put_guard.new.bank c.put_expressions.new.bank c.put_results.new.bank (context_of c.args.context.now) c.as_slice-functions.result.now c.args.state.now.next c.args.state.now c.args.procedure.now c.args.call.now.callee c.args.path c.args.call.now.args.now _ c.in_ok-results.results.changed
     c.requires.state c.requires.path c.in_ok-guard.ensures.kept c.in_ok-guard.ensures.term c.as_slice-functions.ensures c.in_ok-args.ensures.kept c.in_ok-args.ensures.terms before results.kept results.outs results.changed results.flag after refl
 
 pub returns-clause-state : goal.returns-clause-state
