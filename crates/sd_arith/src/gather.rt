@@ -39,6 +39,13 @@ impl Gathered {
     }
 }
 
+/// A term with a known truth value.
+#[derive(Clone, Copy)]
+struct KnownTerm {
+    id: TermId,
+    value: bool,
+}
+
 /// The row of an order with this truth value.
 fn order_row(
     alloc: Global,
@@ -67,17 +74,17 @@ fn add_rows(
     alloc: Global,
     terms: &Bank,
     forms: &[Form],
-    id: TermId,
-    value: bool,
+    term: KnownTerm,
     place: u32,
     gathered: &mut Gathered,
 ) -> Result<(), NoMemory>
-    requires id { id < length terms.now }
-    requires sorted { IsWellSorted (tree_at terms.now id) }
+    requires id { term.id < length terms.now }
+    requires sorted { IsWellSorted (tree_at terms.now term.id) }
     requires forms { forms.now ≡ map (form_of terms.now) terms.now }
-    ensures { OnOk result ((trail : Trail) → IsPlace trail (tree_at terms.now id) value place
-        → AddsRows terms.now trail (tree_at terms.now id) value gathered.old gathered.new) }
+    ensures { OnOk result ((trail : Trail) → IsPlace trail (tree_at terms.now term.id) term.value place
+        → AddsRows terms.now trail (tree_at terms.now term.id) term.value gathered.old gathered.new) }
 {
+    let KnownTerm { id, value } = term;
     if is_le(terms, id) {
         let row = order_row(alloc, terms, forms, id, value)?;
         gathered.add(row, RowLine::Fact(place))?;
@@ -98,19 +105,19 @@ fn add_term(
     terms: &Bank,
     forms: &[Form],
     places: &[Option<u32>],
-    id: TermId,
-    value: bool,
+    term: KnownTerm,
     gathered: &mut Gathered,
 ) -> Result<(), NoMemory>
-    requires id { id < length terms.now }
-    requires sorted { IsWellSorted (tree_at terms.now id) }
+    requires id { term.id < length terms.now }
+    requires sorted { IsWellSorted (tree_at terms.now term.id) }
     requires forms { forms.now ≡ map (form_of terms.now) terms.now }
     requires places { length places.now ≡ length terms.now }
-    ensures { OnOk result ((trail : Trail) → HasPlaces terms.now 0 trail places.now → known trail (tree_at terms.now id)
-        ≡ Some value → AddsRows terms.now trail (tree_at terms.now id) value gathered.old gathered.new) }
+    ensures { OnOk result ((trail : Trail) → HasPlaces terms.now 0 trail places.now
+        → known trail (tree_at terms.now term.id) ≡ Some term.value
+        → AddsRows terms.now trail (tree_at terms.now term.id) term.value gathered.old gathered.new) }
 {
-    match places[id.number() as usize] {
-        Some(place) => add_rows(alloc, terms, forms, id, value, place, gathered),
+    match places[term.id.number() as usize] {
+        Some(place) => add_rows(alloc, terms, forms, term, place, gathered),
         None => Ok(()),
     }
 }
@@ -143,8 +150,7 @@ pub(crate) fn gather(
                 terms,
                 forms.as_slice(),
                 places.as_slice(),
-                id,
-                value,
+                KnownTerm { id, value },
                 &mut gathered,
             )?;
         }

@@ -14,14 +14,14 @@ pub returns-in-Some : goal.returns-in-Some
 returns-in-Some c =
     on-ok c.add_rows.result _ _
     (λ f trail h k. f trail
-    (table-place c.args.terms.now trail c.args.places.now c.args.id c.args.value h c.requires.id c.in-Some.place
+    (table-place c.args.terms.now trail c.args.places.now c.args.term.id c.args.term.value h c.requires.id c.in-Some.place
     (ap (place_in c.args.places.now) (sym c.number.ensures) ∙ c.in-Some.is) k))
     c.add_rows.ensures
 
 pub returns-in-None : goal.returns-in-None
 returns-in-None c = λ trail h k rows g.
-    gathered-none c.args.terms.now trail rows (rows_of c.args.terms.now (tree_at c.args.terms.now c.args.id) c.args.value) c.args.gathered.now c.args.gathered.now
-    (other-rows c.args.terms.now (tree_at c.args.terms.now c.args.id) c.args.value
-    (table-none c.args.terms.now trail c.args.places.now c.args.id c.args.value h c.requires.id
+    gathered-none c.args.terms.now trail rows (rows_of c.args.terms.now (tree_at c.args.terms.now c.args.term.id) c.args.term.value) c.args.gathered.now c.args.gathered.now
+    (other-rows c.args.terms.now (tree_at c.args.terms.now c.args.term.id) c.args.term.value
+    (table-none c.args.terms.now trail c.args.places.now c.args.term.id c.args.term.value h c.requires.id
     (ap (place_in c.args.places.now) (sym c.number.ensures) ∙ c.in-None.is) k))
     refl g
