@@ -59,6 +59,14 @@ fn call_ends<'a>(site: &'a Site) -> EndTerms<'a>
     }
 }
 
+/// Two calls, and the pair of what they call.
+#[derive(Clone, Copy)]
+struct PairedCalls<'a> {
+    pair: &'a Pair,
+    old: &'a Site,
+    new: &'a Site,
+}
+
 /// What a candidate says of two calls of its pair, where both count.
 fn put_implication(
     bank: &mut Bank,
@@ -100,21 +108,19 @@ fn put_if_live(
     facts: &mut Items<TermId>,
     table: &LiveTable,
     number: u32,
-    pair: &Pair,
+    calls: &PairedCalls<'_>,
     candidate: &Candidate,
-    old: &Site,
-    new: &Site,
 ) -> Result<(), NoMemory>
     requires number { number < length table.now }
     requires facts { All (λ id. id < length bank.old) facts.old }
-    requires old { IsSiteWithin bank.old old.now }
-    requires new { IsSiteWithin bank.old new.now }
+    requires old { IsSiteWithin bank.old calls.now.old.now }
+    requires new { IsSiteWithin bank.old calls.now.new.now }
     ensures { OnOk result (Adds bank.old facts.old bank.new facts.new
-        (if is_live table.now number then implication (record { pair = pair.now; candidate = candidate.now })
-        (site_at bank.old old.now) (site_at bank.old new.now) ∷ [] else [])) }
+        (if is_live table.now number then implication (record { pair = calls.now.pair.now; candidate = candidate.now })
+        (site_at bank.old calls.now.old.now) (site_at bank.old calls.now.new.now) ∷ [] else [])) }
 {
     if table.get(number) {
-        let id = put_implication(bank, pair, candidate, old, new)?;
+        let id = put_implication(bank, calls.pair, candidate, calls.old, calls.new)?;
         facts.push(id)?;
     }
     Ok(())
@@ -128,26 +134,24 @@ fn put_live(
     facts: &mut Items<TermId>,
     table: &LiveTable,
     first: u32,
-    pair: &Pair,
+    calls: &PairedCalls<'_>,
     candidates: &[Candidate],
-    old: &Site,
-    new: &Site,
 ) -> Result<(), NoMemory>
     requires numbers { first + length candidates.now ≤ length table.now }
-    requires old_callee { pair.now.old ≡ old.now.callee }
-    requires new_callee { pair.now.new ≡ new.now.callee }
+    requires old_callee { calls.now.pair.now.old ≡ calls.now.old.now.callee }
+    requires new_callee { calls.now.pair.now.new ≡ calls.now.new.now.callee }
     requires facts { All (λ id. id < length bank.old) facts.old }
-    requires old { IsSiteWithin bank.old old.now }
-    requires new { IsSiteWithin bank.old new.now }
+    requires old { IsSiteWithin bank.old calls.now.old.now }
+    requires new { IsSiteWithin bank.old calls.now.new.now }
     ensures { OnOk result (Adds bank.old facts.old bank.new facts.new
-        (calls_related table.now first (claimed pair.now candidates.now) (site_at bank.old old.now)
-        (site_at bank.old new.now))) }
+        (calls_related table.now first (claimed calls.now.pair.now candidates.now) (site_at bank.old calls.now.old.now)
+        (site_at bank.old calls.now.new.now))) }
 {
     let end = table.count();
     let mut number = first;
     for candidate in candidates {
         prove!(number < end);
-        put_if_live(bank, facts, table, number, pair, candidate, old, new)?;
+        put_if_live(bank, facts, table, number, calls, candidate)?;
         number += 1;
     }
     Ok(())
@@ -211,10 +215,12 @@ fn put_related(
             facts,
             table,
             claims.first[place as usize],
-            &claims.pairs[place as usize],
+            &PairedCalls {
+                pair: &claims.pairs[place as usize],
+                old,
+                new,
+            },
             claims.candidates[place as usize].as_slice(),
-            old,
-            new,
         ),
         None => Ok(()),
     }
