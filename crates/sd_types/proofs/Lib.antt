@@ -7,3 +7,5 @@ pub mod ScopeLemmas
 pub mod TableLemmas
 pub mod DeclaredLemmas
 pub mod TypedBodyLemmas
+pub mod DistinctLemmas
+pub mod WellTypedStmtLemmas
