@@ -1,6 +1,6 @@
 -- Names that are added one after another are distinct.
-use Rattle.std.proofs.Common.{◌≡◌, Bool, true, false, cond, List, [], ◌∷◌, ◌++◌, Option, Some, is_some, Result, Ok, Err, refl, sym, ap, ◌∙◌, subst, append_assoc, append-nil}
-use Rattle.std.specs.Prelude.{◌||◌, map, if◌then◌else◌}
+use Rattle.std.proofs.Common.{◌≡◌, Bool, true, false, cond, List, [], ◌∷◌, ◌++◌, Some, is_some, Ok, Err, refl, sym, ap, ◌∙◌, subst, append_assoc, append-nil}
+use Rattle.std.specs.Prelude.{◌||◌, if◌then◌else◌}
 use Rattle.std.specs.List.{AllByRecursion}
 use Rattle.std.specs.Cmp.Lexicographic.{nat_list_eq_equiv}
 use Rattle.std.proofs.lemmas.List.Folds.{list_any-append}
@@ -8,7 +8,6 @@ use Rattle.sd_base.specs.Value.{Text, same_text}
 use Rattle.sd_base.specs.declared.sort.Var.{Var}
 use Rattle.sd_ast.specs.declared.tree.Head.{Head}
 use Rattle.sd_ast.specs.Tree.{names_of}
-use Rattle.sd_types.specs.declared.refusal.TypeError.{TypeError}
 use Rattle.sd_types.specs.declared.refusal.TypeError.TheVariants.{Twice}
 use Rattle.sd_types.specs.Names.{is_among}
 use Rattle.sd_types.specs.Answer.{and_then}
@@ -115,7 +114,7 @@ fresh-names seen (x ∷ xs) f =
 
 -- ---- tables
 
-among-entries : {X : Type 0} (es : List (Text × X)) (x : Text) → is_some (named es x) ≡ is_among (entry_names es) x
+pub among-entries : {X : Type 0} (es : List (Text × X)) (x : Text) → is_some (named es x) ≡ is_among (entry_names es) x
 among-entries [] x = refl
 among-entries (e ∷ es) x = go (same_text x e.0) (among-entries es x)
   where
@@ -170,7 +169,8 @@ pub distinct-own : (h : Head) (locals : List Var) → AreDistinct (own_names_of 
 distinct-own h locals d =
     let f = is-fresh (own_names_of h locals) d in
     let a = fresh-split [] (names_of h.ins) (names_of h.outs ++ names_of locals) f in
-    let b = fresh-split (names_of h.ins) (names_of h.outs) (names_of locals) a.1 in
-    ((names_of h.ins ++ names_of h.outs) ++ names_of locals,
-    joined (λ ins. and_then (with_names ins (names_of h.outs)) (λ outs. with_names outs (names_of locals))) (fresh-names [] (names_of h.ins) a.0)
-    (joined (λ outs. with_names outs (names_of locals)) (fresh-names (names_of h.ins) (names_of h.outs) b.0) (fresh-names (names_of h.ins ++ names_of h.outs) (names_of locals) b.1)))
+    let b = fresh-split (names_of h.ins) (names_of h.outs) (names_of locals) a.1 in (
+      (names_of h.ins ++ names_of h.outs) ++ names_of locals,
+      joined (λ ins. and_then (with_names ins (names_of h.outs)) (λ outs. with_names outs (names_of locals))) (fresh-names [] (names_of h.ins) a.0)
+          (joined (λ outs. with_names outs (names_of locals)) (fresh-names (names_of h.ins) (names_of h.outs) b.0) (fresh-names (names_of h.ins ++ names_of h.outs) (names_of locals) b.1)),
+    )

@@ -9,3 +9,4 @@ pub mod DeclaredLemmas
 pub mod TypedBodyLemmas
 pub mod DistinctLemmas
 pub mod WellTypedStmtLemmas
+pub mod WellTypedLemmas

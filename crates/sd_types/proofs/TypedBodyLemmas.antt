@@ -184,7 +184,7 @@ decls-typed G [] u h = tt
 decls-typed G (d ∷ ds) u h =
     let k = parts (decl_rule G d) (λ _. each (decl_rule G) ds) u h in (decl-typed G d k.0 k.1, decls-typed G ds u k.2)
 
-none_broken : (d : Result (Unit {0}) TypeError) → refusal d ≡ None → d ≡ Ok tt
+pub none_broken : (d : Result (Unit {0}) TypeError) → refusal d ≡ None → d ≡ Ok tt
 none_broken (Ok u) h = refl
 none_broken (Err e) h = absurd (cc)
 

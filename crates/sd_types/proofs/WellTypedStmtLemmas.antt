@@ -1,15 +1,13 @@
 -- Statements break no rule exactly where they are well typed.
-use Rattle.std.proofs.Common.{◌≡◌, Bool as Test, true, false, List, [], ◌∷◌, ◌++◌, Option, Some, None, Result, Ok, Err, refl, sym, ap, ◌∙◌, subst, length}
-use Rattle.std.specs.Prelude.{map, if◌then◌else◌}
+use Rattle.std.proofs.Common.{◌≡◌, Bool as Test, true, false, List, [], ◌∷◌, Option, Some, None, Result, Ok, Err, refl, sym, ap, ◌∙◌, subst, length}
+use Rattle.std.specs.Prelude.{if◌then◌else◌}
 use Rattle.std.specs.List.{AllByRecursion}
 use Rattle.sd_base.specs.declared.sort.Sort.{Sort, Bool}
 use Rattle.sd_base.specs.declared.sort.Place.{Place}
 use Rattle.sd_base.specs.Value.{Text}
-use Rattle.sd_base.specs.Sorts.{MapOf}
 use Rattle.sd_ast.specs.declared.tree.Expr.{Expr}
 use Rattle.sd_ast.specs.declared.tree.Left.{Left}
 use Rattle.sd_ast.specs.declared.tree.Invariant.{Invariant}
-use Rattle.sd_ast.specs.declared.tree.Stmt.{Stmt}
 use Rattle.sd_ast.specs.declared.tree.StmtKind.{StmtKind, Assert, Assume, Assign, Call, If', While', Break, Return, Row_of-Stmt, end_of-Stmt, more_of-Stmt}
 use Rattle.sd_types.specs.declared.refusal.TypeError.{TypeError}
 use Rattle.sd_types.specs.declared.refusal.TypeError.TheVariants.{NotModified, NoBody}
@@ -22,18 +20,18 @@ use Rattle.sd_types.specs.Names.{is_among}
 use Rattle.sd_types.specs.Answer.{and_then, both, each, all_of}
 use Rattle.sd_types.specs.Tables.{named, with_names}
 use Rattle.sd_types.specs.Scopes.{Context, declared_as}
-use Rattle.sd_types.specs.Phrases.{is_of, agree, same_number, selected, sort_in, at_place, sort_of, given, all_given, is_truth}
-use Rattle.sd_types.specs.Statements.{Routine, distinct, target, targets, assigned_as, assignable, is_global, modified_rule, has_body, indexed, left_sort, left_names, typed_indices, assignment, assign_rule, same_numbers, fits_callee, callee_rule, call_rule, true_invariant, break_rule, stmt_rule, row_rule, each_stmt}
+use Rattle.sd_types.specs.Phrases.{is_of, agree, same_number, selected, sort_in, at_place, given, all_given, is_truth}
+use Rattle.sd_types.specs.Statements.{Routine, distinct, target, targets, assigned_as, assignable, is_global, modified_rule, has_body, indexed, left_sort, left_names, typed_indices, assignment, assign_rule, same_numbers, fits_callee, callee_rule, call_rule, true_invariant, break_rule, stmt_rule, row_rule}
 use Rattle.sd_types.specs.Typing.{HasType}
 use Rattle.sd_types.specs.TypedBodies.{AllHave, IsVariableOf, AreVariablesOf, Leads, LeftHasType, Assigns, AllTruths}
 use Rattle.sd_types.specs.WellTypedStatements.{AreDistinct, MayChange, IsChangeable, IsGlobal, MayModify, IsWellTypedAssign, IsWellTypedCall, IsWellTypedStmt, AreWellTypedStmts, StatementsAreExact}
 use Rattle.sd_types.proofs.DistinctLemmas.{is-distinct, is-fresh, names-fresh, fresh-names}
-use Rattle.sd_types.proofs.TypingLemmas.{ok_of, ok_is, parts, joined, same-fits, map-selected, sorts_given, sorts-agree, sorts-length, same-numbers, gets_type}
+use Rattle.sd_types.proofs.TypingLemmas.{ok_of, parts, joined, same-fits, map-selected, sorts_given, sorts-agree, sorts-length, same-numbers, gets_type}
 use Rattle.sd_types.proofs.TypedBodyLemmas.{truth-typed, assign-typed, call-typed, truths-typed, in_loop, declared-as}
 
 -- ---- checks that pass
 
-abbrev done : Result (Unit {0}) TypeError
+abbrev pub done : Result (Unit {0}) TypeError
 done = Ok tt
 
 pub passed : (b : Test) (e : TypeError) → (if b then done else Err e) ≡ done → b ≡ true
@@ -117,10 +115,11 @@ leads-indexed : (C : Context) (p : Place) (es : List Expr) (s r : Sort) → Lead
 leads-indexed C p [] s r h = ([], refl, ap ok_of h)
 leads-indexed C p (e ∷ es) s r h =
     let k = leads-indexed C p es h.1 r h.4 in
-    let g = at_place e.at h.0 in
-    (g ∷ k.0,
-    joined (λ b. and_then (all_given C es) (λ bs. ok_of (b ∷ bs))) (given-has C e h.0 h.3) (joined (λ bs. ok_of (g ∷ bs)) k.1 refl),
-    joined (λ t. indexed p t k.0) (ap (λ (m : Sort). selected p m g) h.2 ∙ map-selected p g h.1) k.2)
+    let g = at_place e.at h.0 in (
+      g ∷ k.0,
+      joined (λ b. and_then (all_given C es) (λ bs. ok_of (b ∷ bs))) (given-has C e h.0 h.3) (joined (λ bs. ok_of (g ∷ bs)) k.1 refl),
+      joined (λ t. indexed p t k.0) (ap (λ (m : Sort). selected p m g) h.2 ∙ map-selected p g h.1) k.2,
+    )
 
 left-has : (C : Context) (p : Place) (l : Left) (r : Sort) → LeftHasType C l r → left_sort C p l ≡ Ok r
 left-has C p l r h =
@@ -179,7 +178,7 @@ assign-passes R p ls es h =
 
 -- ---- calls
 
-global-named : (o : Option Variable) → is_global o ≡ true → (v : Variable) × (o ≡ Some v) × (v.nature ≡ Global)
+pub global-named : (o : Option Variable) → is_global o ≡ true → (v : Variable) × (o ≡ Some v) × (v.nature ≡ Global)
 global-named None h = absurd (cc)
 global-named (Some v) h = (v, refl, go v.nature h)
   where
@@ -220,9 +219,16 @@ call-holds R p xs f es h =
     let e = parts (fits_callee p d.0 c.0 a.0) (λ _. both (each (assignable R) xs) (both (each (modified_rule R) d.0.modifies) (has_body R.scope.bodies f))) tt d.2 in
     let i = parts (each (assignable R) xs) (λ _. both (each (modified_rule R) d.0.modifies) (has_body R.scope.bodies f)) tt e.2 in
     let j = parts (each (modified_rule R) d.0.modifies) (λ _. has_body R.scope.bodies f) tt i.2 in
-    let same : ◌≡◌ {A = Callee} d.0 t.0 = same_callee (named R.scope.procedures f) d.0 t.0 (declared-as f (named R.scope.procedures f) d.0 d.1) t.1 in
-    (t.0, t.1, body-holds R.scope.bodies f j.2, distinct-holds xs b.1, t.2, t.3, each-holds (assignable R) (IsChangeable R) (changeable R) xs i.1,
-    subst (MayModify R) same (each-holds (modified_rule R) (λ x. IsGlobal R.scope x → R.modifies x ≡ true) (modified-holds R) d.0.modifies j.1))
+    let same : ◌≡◌ {A = Callee} d.0 t.0 = same_callee (named R.scope.procedures f) d.0 t.0 (declared-as f (named R.scope.procedures f) d.0 d.1) t.1 in (
+      t.0,
+      t.1,
+      body-holds R.scope.bodies f j.2,
+      distinct-holds xs b.1,
+      t.2,
+      t.3,
+      each-holds (assignable R) (IsChangeable R) (changeable R) xs i.1,
+      subst (MayModify R) same (each-holds (modified_rule R) (λ x. IsGlobal R.scope x → R.modifies x ≡ true) (modified-holds R) d.0.modifies j.1),
+    )
   where
     same_callee : (o : Option Callee) (q r : Callee) → o ≡ Some q → o ≡ Some r → q ≡ r
     same_callee o q r h k = let s : ◌≡◌ {A = Option Callee} (Some q) (Some r) = sym h ∙ k in cc
@@ -289,6 +295,7 @@ mutual
   row-passes R loop (more_of-Stmt p k ks) h = joined (λ _. row_rule R loop ks) (stmt-passes R loop p k h.0) (row-passes R loop ks h.1)
 
 pub statements_exact : StatementsAreExact
-statements_exact R loop ss =
-    (each-holds (λ s. stmt_rule R loop s.at s.kind) (λ s. IsWellTypedStmt R loop s.kind) (λ s h. stmt-holds R loop s.at s.kind h) ss,
-    each-passes (λ s. stmt_rule R loop s.at s.kind) (λ s. IsWellTypedStmt R loop s.kind) (λ s h. stmt-passes R loop s.at s.kind h) ss)
+statements_exact R loop ss = (
+  each-holds (λ s. stmt_rule R loop s.at s.kind) (λ s. IsWellTypedStmt R loop s.kind) (λ s h. stmt-holds R loop s.at s.kind h) ss,
+  each-passes (λ s. stmt_rule R loop s.at s.kind) (λ s. IsWellTypedStmt R loop s.kind) (λ s h. stmt-passes R loop s.at s.kind h) ss,
+)

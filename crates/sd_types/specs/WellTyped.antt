@@ -6,7 +6,6 @@ use Rattle.sd_base.specs.declared.sort.Sort.{Sort, Int, Bool, Named}
 use Rattle.sd_base.specs.declared.sort.Var.{Var}
 use Rattle.sd_base.specs.Sorts.{MapOf}
 use Rattle.sd_base.specs.Value.{Text}
-use Rattle.sd_ast.specs.declared.tree.Expr.{Expr}
 use Rattle.sd_ast.specs.declared.tree.Head.{Head}
 use Rattle.sd_ast.specs.declared.tree.Body.{Body}
 use Rattle.sd_ast.specs.declared.tree.Proc.{Proc}
