@@ -1,5 +1,5 @@
 -- What a check answers after a check before it.
-use Rattle.std.proofs.Common.{append_assoc, append-nil, ◌++◌, ◌≡◌, ℕ, suc, ◌+◌, ◌<◌, ◌≤◌, List, [], ◌∷◌, Result, Ok, Err, IsErrAnd, refl, sym, ap, ◌∙◌, subst, drop, get_or, length, add-one}
+use Rattle.std.proofs.Common.{append_assoc, ◌++◌, ◌≡◌, ℕ, suc, ◌+◌, ◌<◌, ◌≤◌, List, [], ◌∷◌, Result, Ok, Err, IsErrAnd, refl, sym, ap, ◌∙◌, subst, drop, get_or, length, add-one}
 use Rattle.std.proofs.Math.Seq.{drop-cons}
 use Rattle.std.proofs.Math.ListN.{drop_of_length-le}
 use Rattle.sd_types.specs.declared.refusal.TypeError.{TypeError}

@@ -1,7 +1,7 @@
 -- In a well-typed text each implementation has its procedure.
-use Rattle.std.proofs.Common.{◌≡◌, Bool, true, false, cond, List, [], ◌∷◌, ◌++◌, Option, Some, None, is_some, Result, Ok, Err, refl, sym, ap, ◌∙◌, subst, inl, inr, arith}
+use Rattle.std.proofs.Common.{◌≡◌, Bool, true, false, List, [], ◌∷◌, ◌++◌, is_some, Result, Ok, Err, refl, sym, ap, ◌∙◌, subst, inl, inr, arith}
 use Rattle.std.specs.Prelude.{◌⊎◌, if◌then◌else◌}
-use Rattle.sd_base.specs.Value.{Text, same_text}
+use Rattle.sd_base.specs.Value.{Text}
 use Rattle.sd_ast.specs.declared.tree.Decl.{Decl}
 use Rattle.sd_ast.specs.declared.tree.Decl.TheVariants.{Types, Const, Function, Axiom, Globals, Procedure, Implementation}
 use Rattle.sd_types.specs.declared.refusal.TypeError.{TypeError}
@@ -11,7 +11,7 @@ use Rattle.sd_types.specs.declared.scope.Scope.{Scope}
 use Rattle.sd_types.specs.Names.{is_among, HaveSame}
 use Rattle.sd_types.specs.Answer.{and_then, Answers}
 use Rattle.sd_types.specs.Tables.{named, with_names, with_entry, with_entries}
-use Rattle.sd_types.specs.Declarations.{variables_as, constants_of, callee_of, locals_of, own_names, with_body, with_implementation, procedure_names, enter_procedure, enter_implementation, enter_implementation_of, enter, enter_of, enter_all, enter_all_of}
+use Rattle.sd_types.specs.Declarations.{variables_as, constants_of, callee_of, locals_of, own_names, with_body, with_implementation, procedure_names, enter_implementation, enter, enter_of, enter_all, enter_all_of}
 use Rattle.sd_types.specs.TypedBodies.{HaveTypedBodies}
 use Rattle.sd_types.proofs.TypingLemmas.{parts, ok_is}
 
@@ -69,12 +69,12 @@ module _ (declared : Text → Bool) (f : Text) where
 
 -- ---- all bodies count
 
-abbrev HaveProcedures : (Text → Bool) → List Decl → Type 0
+abbrev pub HaveProcedures : (Text → Bool) → List Decl → Type 0
 HaveProcedures declared [] = Unit {0}
 HaveProcedures declared (Implementation i ∷ ds) = (declared i.head.name ≡ true) × HaveProcedures declared ds
 HaveProcedures declared (_ ∷ ds) = HaveProcedures declared ds
 
-bodies-count : (declared : Text → Bool) (ds : List Decl) (G : Scope) → HaveProcedures declared ds → enter_all_of declared G ds ≡ enter_all G ds
+pub bodies-count : (declared : Text → Bool) (ds : List Decl) (G : Scope) → HaveProcedures declared ds → enter_all_of declared G ds ≡ enter_all G ds
 bodies-count declared [] G h = refl
 bodies-count declared (Implementation i ∷ ds) G h =
     ap (λ b. and_then (and_then (with_implementation b G.bodies i.head.name) (λ bs. and_then (own_names i.head i.body.locals) (λ _. Ok (record G { bodies = bs })))) (λ H. enter_all_of declared H ds)) h.0

@@ -7,3 +7,6 @@ pub mod ScopeLemmas
 pub mod TableLemmas
 pub mod DeclaredLemmas
 pub mod TypedBodyLemmas
+pub mod DistinctLemmas
+pub mod WellTypedStmtLemmas
+pub mod WellTypedLemmas

@@ -29,7 +29,7 @@ use Rattle.sd_types.proofs.TypingLemmas.{ok_of, ok_is, parts, fits-same, selecte
 
 -- ---- expressions
 
-truth-typed : (C : Context) (e : Expr) (u : Unit {0}) → is_truth C e ≡ Ok u → HasType C e.kind Bool
+pub truth-typed : (C : Context) (e : Expr) (u : Unit {0}) → is_truth C e ≡ Ok u → HasType C e.kind Bool
 truth-typed C e u h =
     let k = parts (sort_of C e.at e.kind) (λ s. is_of Bool e.at s) u h in
     subst (HasType C e.kind) (sym (fits-same Bool e.at k.0 u k.2)) (has_type C e.at e.kind k.0 k.1)
@@ -88,7 +88,7 @@ sides-typed C p (l ∷ ls) es ss h w =
     go s ts [] v rest t = absurd v
     go s ts (e ∷ r) v rest t = ((s, t, v.0), rest r v.1)
 
-assign-typed : (R : Routine) (p : Place) (ls : List Left) (es : List Expr) (u : Unit {0}) → assign_rule R p ls es ≡ Ok u → Assigns R.context ls es
+pub assign-typed : (R : Routine) (p : Place) (ls : List Left) (es : List Expr) (u : Unit {0}) → assign_rule R p ls es ≡ Ok u → Assigns R.context ls es
 assign-typed R p ls es u h =
     let a = parts (each (typed_indices R.context) ls) (λ _. and_then (all_given R.context es) (λ gs. assignment R p ls gs)) u h in
     let b = parts (all_given R.context es) (λ gs. assignment R p ls gs) u a.2 in
@@ -100,11 +100,11 @@ assign-typed R p ls es u h =
     sides-typed R.context p ls es e.0 e.1
     (subst (AllHave R.context es) (sym (agree-sorts e.0 b.0 f.1 (numbers-same p e.0 b.0 g.0 g.1))) (all-typed R.context es b.0 b.1))
 
-declared-as : {X : Type 0} (x : Text) (o : Option X) (v : X) → declared_as x o ≡ Ok v → o ≡ Some v
+pub declared-as : {X : Type 0} (x : Text) (o : Option X) (v : X) → declared_as x o ≡ Ok v → o ≡ Some v
 declared-as x None v h = absurd (cc)
 declared-as x (Some w) v h = ap Some (ok_is h)
 
-call-typed : (R : Routine) (p : Place) (xs : List Text) (f : Text) (es : List Expr) (u : Unit {0}) → call_rule R p xs f es ≡ Ok u → Calls R xs f es
+pub call-typed : (R : Routine) (p : Place) (xs : List Text) (f : Text) (es : List Expr) (u : Unit {0}) → call_rule R p xs f es ≡ Ok u → Calls R xs f es
 call-typed R p xs f es u h =
     let a = parts (all_given R.context es) (λ gs. callee_rule R p xs f gs) u h in
     let b = parts (distinct xs) (λ _. and_then (targets R.context p xs) (λ ts. and_then (declared_as f (named R.scope.procedures f)) (λ q. both (fits_callee p q ts a.0) (both (each (assignable R) xs) (both (each (modified_rule R) q.modifies) (has_body R.scope.bodies f)))))) u a.2 in
@@ -120,12 +120,12 @@ call-typed R p xs f es u h =
       subst (AllHave R.context es) (sym (agree-sorts d.0.ins a.0 j.1 (numbers-same p d.0.ins a.0 e.0 k.2))) (all-typed R.context es a.0 a.1),
     )
 
-truths-typed : (C : Context) (invs : List Invariant) (u : Unit {0}) → each (true_invariant C) invs ≡ Ok u → AllTruths C invs
+pub truths-typed : (C : Context) (invs : List Invariant) (u : Unit {0}) → each (true_invariant C) invs ≡ Ok u → AllTruths C invs
 truths-typed C [] u h = tt
 truths-typed C (i ∷ invs) u h =
     let k = parts (true_invariant C i) (λ _. each (true_invariant C) invs) u h in (truth-typed C i.expr k.0 k.1, truths-typed C invs u k.2)
 
-in_loop : (loop : Test) (p : Place) (u : Unit {0}) → break_rule loop p ≡ Ok u → loop ≡ true
+pub in_loop : (loop : Test) (p : Place) (u : Unit {0}) → break_rule loop p ≡ Ok u → loop ≡ true
 in_loop true p u h = refl
 in_loop false p u h = absurd (cc)
 
@@ -184,7 +184,7 @@ decls-typed G [] u h = tt
 decls-typed G (d ∷ ds) u h =
     let k = parts (decl_rule G d) (λ _. each (decl_rule G) ds) u h in (decl-typed G d k.0 k.1, decls-typed G ds u k.2)
 
-none_broken : (d : Result (Unit {0}) TypeError) → refusal d ≡ None → d ≡ Ok tt
+pub none_broken : (d : Result (Unit {0}) TypeError) → refusal d ≡ None → d ≡ Ok tt
 none_broken (Ok u) h = refl
 none_broken (Err e) h = absurd (cc)
 

@@ -29,7 +29,7 @@ pub parts : {A B : Type 0} (d : Result A TypeError) (f : A → Result B TypeErro
 parts (Ok a) f b h = (a, refl, h)
 parts (Err e) f b h = absurd (cc)
 
-joined : {A B : Type 0} {d : Result A TypeError} (f : A → Result B TypeError) {a : A} {b : B} → d ≡ Ok a → f a ≡ Ok b → and_then d f ≡ Ok b
+pub joined : {A B : Type 0} {d : Result A TypeError} (f : A → Result B TypeError) {a : A} {b : B} → d ≡ Ok a → f a ≡ Ok b → and_then d f ≡ Ok b
 joined f h k = ap (λ d. and_then d f) h ∙ k
 
 abbrev pub ok_of : {A : Type 0} → A → Result A TypeError
@@ -45,7 +45,7 @@ fits-same w p s u = go (same_sort w s) refl
     go true e h = same_sort-is w s e
     go false e h = absurd (cc)
 
-same-fits : (w : Sort) (p : Place) (s : Sort) → w ≡ s → is_of w p s ≡ Ok tt
+pub same-fits : (w : Sort) (p : Place) (s : Sort) → w ≡ s → is_of w p s ≡ Ok tt
 same-fits w p s e = subst (λ (t : Sort). is_of w p t ≡ Ok tt) e (rw (same_sort-refl w) refl)
 
 -- ---- operators
@@ -113,7 +113,7 @@ selected-map p (MapOf i v) g r h =
     let k = parts (is_of i g.at g.sort) (λ _. Ok v) r h in (λ j. MapOf (fits-same i g.at g.sort k.0 k.1 j) (ok_is k.2 j))
 selected-map p _ g r h = absurd (cc)
 
-map-selected : (p : Place) (g : Given) (r : Sort) → selected p (MapOf g.sort r) g ≡ Ok r
+pub map-selected : (p : Place) (g : Given) (r : Sort) → selected p (MapOf g.sort r) g ≡ Ok r
 map-selected p g r = joined _ (same-fits g.sort g.at g.sort refl) refl
 
 -- ---- expressions
@@ -131,11 +131,11 @@ agree-sorts (s ∷ ss) (g ∷ gs) h e =
     let k = parts (is_of s g.at g.sort) (λ _. agree ss gs) tt h in
     (λ j. fits-same s g.at g.sort k.0 k.1 j ∷ agree-sorts ss gs k.2 (omega (arith, e)) j)
 
-sorts-agree : (gs : List Given) → agree (sorts_given gs) gs ≡ Ok tt
+pub sorts-agree : (gs : List Given) → agree (sorts_given gs) gs ≡ Ok tt
 sorts-agree [] = refl
 sorts-agree (g ∷ gs) = joined _ (same-fits g.sort g.at g.sort refl) (sorts-agree gs)
 
-sorts-length : (gs : List Given) → length (sorts_given gs) ≡ length gs
+pub sorts-length : (gs : List Given) → length (sorts_given gs) ≡ length gs
 sorts-length [] = refl
 sorts-length (g ∷ gs) = ap suc (sorts-length gs)
 
@@ -146,7 +146,7 @@ numbers-same p ss gs u = go (length ss == length gs) refl
     go true e h = eqb→eq (length ss) (length gs) (rw e tt)
     go false e h = absurd (cc)
 
-same-numbers : (p : Place) (ss : List Sort) (gs : List Given) → length ss ≡ length gs → same_number p ss gs ≡ Ok tt
+pub same-numbers : (p : Place) (ss : List Sort) (gs : List Given) → length ss ≡ length gs → same_number p ss gs ≡ Ok tt
 same-numbers p ss gs e = rw (eq-eqb (length ss) (length gs) e) refl
 
 applied-as : (p : Place) (f : Text) (o : Option Signature) (gs : List Given) (r : Sort) → applied p f o gs ≡ Ok r → (sig : Signature) × (o ≡ Some sig) × (sig.args ≡ sorts_given gs) × (sig.result ≡ r)
@@ -210,7 +210,7 @@ mutual
       subst (λ (x : List Given). HaveTypes C (more_of-Expr p e es) (sorts_given x)) (ok_is l.2) (has_type C p e k.0 k.1, have_types C es l.0 l.1)
 
 mutual
-  gets_type : (C : Context) (p : Place) (e : ExprKind) (s : Sort) → HasType C e s → sort_of C p e ≡ Ok s
+  pub gets_type : (C : Context) (p : Place) (e : ExprKind) (s : Sort) → HasType C e s → sort_of C p e ≡ Ok s
   gets_type C p (Num n) s h = ap ok_of (sym h)
   gets_type C p (Truth b) s h = ap ok_of (sym h)
   gets_type C p (Var x) s h = ap (sort_in x) h.1 ∙ ap ok_of h.2

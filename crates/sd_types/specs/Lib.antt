@@ -7,3 +7,5 @@ pub mod Statements
 pub mod Declarations
 pub mod Typing
 pub mod TypedBodies
+pub mod WellTypedStatements
+pub mod WellTyped

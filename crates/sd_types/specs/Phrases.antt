@@ -1,5 +1,5 @@
 -- The types of types and expressions, or the first rule that is broken: from left to right, inner phrases first.
-use Rattle.std.specs.Prelude.{Bool as Test, true, false, ◌==◌, List, [], ◌∷◌, length, Option, Some, None, Result, Ok, Err, codes, if◌then◌else◌}
+use Rattle.std.specs.Prelude.{◌==◌, List, [], ◌∷◌, length, Option, Some, None, Result, Ok, Err, codes, if◌then◌else◌}
 use Rattle.sd_base.specs.declared.sort.Sort.{Sort, Int, Bool, Named}
 use Rattle.sd_base.specs.declared.sort.Place.{Place}
 use Rattle.sd_base.specs.Value.{Text}
