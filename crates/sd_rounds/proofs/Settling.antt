@@ -40,7 +40,7 @@ slice_get-replicate n i h =
 
 -- ---- tables
 
-cleared-snoc : (t : List Bool) (cs : List ℕ) (c : ℕ) → cleared t (cs ++ c ∷ []) ≡ set (cleared t cs) c false
+pub cleared-snoc : (t : List Bool) (cs : List ℕ) (c : ℕ) → cleared t (cs ++ c ∷ []) ≡ set (cleared t cs) c false
 cleared-snoc t [] c = refl
 cleared-snoc t (d ∷ cs) c = cleared-snoc (set t d false) cs c
 
@@ -50,12 +50,12 @@ cleared-other t (c ∷ cs) i none =
     cleared-other (set t c false) cs i (λ h. none (contains-tail c cs i h))
     ∙ slice_get-set_other t c i false (λ e. none (subst (λ (k : ℕ). Contains (c ∷ cs) k) (sym e) (contains-head c cs)))
 
-not_set : (t : List Bool) (c : ℕ) → slice_get (set t c false) c ≡ Some true → ⊥
+pub not_set : (t : List Bool) (c : ℕ) → slice_get (set t c false) c ≡ Some true → ⊥
 not_set [] c e = cc
 not_set (x ∷ xs) zero e = cc
 not_set (x ∷ xs) (suc c) e = not_set xs c e
 
-live_before_set : (t : List Bool) (c i : ℕ) → slice_get (set t c false) i ≡ Some true → slice_get t i ≡ Some true
+pub live_before_set : (t : List Bool) (c i : ℕ) → slice_get (set t c false) i ≡ Some true → slice_get t i ≡ Some true
 live_before_set [] c i e = e
 live_before_set (x ∷ xs) zero zero e = absurd (cc)
 live_before_set (x ∷ xs) zero (suc i) e = e

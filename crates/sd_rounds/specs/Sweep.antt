@@ -1,5 +1,6 @@
 -- What holds while candidates are judged.
-use Rattle.std.specs.Prelude.{◌≡◌, ℕ, ◌+◌, Bool, true, List, [], Some, length, replicate, slice_get, take}
+use Rattle.std.specs.Prelude.{◌≡◌, ℕ, ◌+◌, ◌<◌, Bool, true, List, [], ◌++◌, Some, length, replicate, slice_get, take}
+use Rattle.std.specs.List.{AllByRecursion, flat_map}
 use Rattle.sd_term.specs.Tree.{Tree}
 use Rattle.sd_kernel.specs.declared.proved.How.TheVariants.{Steps}
 use Rattle.sd_kernel.specs.declared.proved.Proved.{Proved}
@@ -12,7 +13,7 @@ use Rattle.sd_rounds.specs.declared.settle.Cause.TheVariants.{Open, Spent}
 use Rattle.sd_product.specs.Work.{PairedPrograms, claims_in, queries_of}
 use Rattle.sd_rounds.specs.declared.settle.Death.{Death}
 use Rattle.sd_rounds.specs.Table.{live_from, cleared}
-use Rattle.sd_rounds.specs.Settled.{dead_of, IsCause, AreLegal, IsProved, AreProved}
+use Rattle.sd_rounds.specs.Settled.{dead_of, IsCause, AreLegal, IsProved, AreProved, Ascend, table_after, IsProvedIn, IsSweep, Lead}
 
 -- The query of candidate n isn't refuted, for this cause.
 pub record IsCauseAt (leaves : ℕ) (queries : List (List Tree)) (n : ℕ) (cause : Cause) : Type 0 where
@@ -49,3 +50,36 @@ pub record GoesOn (work : PairedPrograms) (n m : ℕ) (table table' : List Bool)
   pub table_stays : table' ≡ table
   pub deaths_stay : deaths' ≡ deaths
   pub proved : AreProvedBelow work n table proofs → AreProvedBelow work m table proofs'
+
+-- ---- a sweep that goes on
+
+-- A sweep began with one table, judged the candidates below n, and has led to another one: each of those that is live
+-- was proved in it.
+pub record IsSweptTo (work : PairedPrograms) (start : List Bool) (n : ℕ) (deaths : List Death) (table : List Bool)
+    : Type 0 where
+  pub table_is : table ≡ table_after start deaths
+  pub below : AllByRecursion (λ d. d.candidate < n) deaths
+  pub ascend : Ascend (dead_of deaths)
+  pub proved : (c : ℕ) → c < n → slice_get table c ≡ Some true → IsProvedIn work start deaths c
+
+-- a sweep that has judged the candidates below n goes on to those below m, of which these died
+pub record SweepsOn (work : PairedPrograms) (n m : ℕ) (table table' : List Bool) (deaths deaths' : List Death)
+    : Type 0 where
+  pub more : List Death
+  pub added : deaths' ≡ deaths ++ more
+  pub goes : (start : List Bool) (before : List Death) → IsSweptTo work start n before table
+      → IsSweptTo work start m (before ++ more) table'
+
+-- a whole sweep from one table to another
+pub record IsWholeSweep (work : PairedPrograms) (table table' : List Bool) (deaths deaths' : List Death) : Type 0 where
+  pub more : List Death
+  pub added : deaths' ≡ deaths ++ more
+  pub sweep : IsSweep work table more
+  pub table_is : table' ≡ table_after table more
+
+-- so many sweeps are over or under way, and those that are over led from the full table to this one
+pub record HaveLed (work : PairedPrograms) (number : ℕ) (deaths : List Death) (table : List Bool) : Type 0 where
+  pub dropping : List (List Death)
+  pub all : flat_map (λ deaths. deaths) dropping ≡ deaths
+  pub number_is : number ≡ length dropping + 1
+  pub lead : Lead work (replicate (length (claims_in work)) true) dropping table

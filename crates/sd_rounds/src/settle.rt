@@ -1,8 +1,8 @@
 ghost use Rattle.std.specs.Prelude.{◌≡◌, ◌<◌, ◌≤◌, ◌+◌, ℕ, true, false, IfOk, OnOk, IsTrue, MatchBool, Some, length, slice_get};
 ghost use Rattle.sd_product.specs.Bodies.{IsAbout, count_before};
 ghost use Rattle.sd_product.specs.Work.{claims_in, pairs_in, queries_of};
-ghost use Rattle.sd_rounds.specs.Settled.{AreSweeps, IsInductive, IsSettled};
-ghost use Rattle.sd_rounds.specs.Sweep.{AreDead, GoesOn, IsFinding, finding_of};
+ghost use Rattle.sd_rounds.specs.Settled.{AreAllSweeps, AreSweeps, IsInductive, IsSettled};
+ghost use Rattle.sd_rounds.specs.Sweep.{AreDead, GoesOn, IsFinding, IsWholeSweep, SweepsOn, finding_of};
 
 use sd_base::NoMemory;
 use sd_cand::LiveTable;
@@ -100,6 +100,8 @@ fn visit(
         (length settled.new.deaths.items ≡ length settled.old.deaths.items + 1)
         (GoesOn work.now candidate (candidate + 1) settled.old.table settled.new.table settled.old.deaths.items
         settled.new.deaths.items settled.old.proofs.items settled.new.proofs.items)) }
+    ensures swept { OnOk result (SweepsOn work.now candidate (candidate + 1) settled.old.table settled.new.table
+        settled.old.deaths.items settled.new.deaths.items) }
 {
     if !settled.table.get(candidate) {
         return Ok(false);
@@ -162,6 +164,8 @@ fn sweep_pair(
         settled.new.table settled.old.deaths.items settled.new.deaths.items settled.old.proofs.items
         settled.new.proofs.items)) }
     ensures grown { OnOk result (length settled.old.deaths.items ≤ length settled.new.deaths.items) }
+    ensures swept { OnOk result (SweepsOn work.now (count_before work.now pair) (count_before work.now (pair + 1))
+        settled.old.table settled.new.table settled.old.deaths.items settled.new.deaths.items) }
 {
     let (first, end) = work.numbers_of(pair);
     if !any_live(&settled.table, first, end) {
@@ -189,6 +193,8 @@ fn sweep(alloc: Global, work: &Work, settled: &mut Settled, leaves: u32) -> Resu
         (IsInductive work.now settled.new.table settled.new.proofs.items)) }
     ensures still { IfOk result (λ dropped. dropped ≡ false →
         length settled.new.deaths.items ≡ length settled.old.deaths.items) }
+    ensures swept { OnOk result (IsWholeSweep work.now settled.old.table settled.new.table settled.old.deaths.items
+        settled.new.deaths.items) }
 {
     settled.proofs.clear();
     let mut dropped = false;
@@ -214,6 +220,7 @@ pub fn settle_one(alloc: Global, work: &Work, leaves: u32) -> Result<Settled, No
     requires { 1 ≤ leaves }
     ensures settled { IfOk result (λ s. IsSettled leaves work.now s.table s.deaths.items s.proofs.items) }
     ensures sweeps { IfOk result (λ s. AreSweeps s.sweeps (length s.deaths.items)) }
+    ensures all_swept { IfOk result (λ s. AreAllSweeps work.now s.sweeps s.deaths.items s.table) }
 {
     let mut settled = Settled {
         table: LiveTable::full(alloc, work.count())?,

@@ -3,6 +3,7 @@ use Rattle.std.specs.Prelude.{Some}
 use Rattle.std.proofs.lemmas.List.{length_push}
 use Rattle.sd_kernel.specs.declared.proved.How.TheVariants.{Steps}
 use Rattle.sd_rounds.proofs.Settling.{cause_kills, passes_dead, passes_live}
+use Rattle.sd_rounds.proofs.Sweeping.{sweeps-idle, sweeps-proved, sweeps-died}
 use Rattle.sd_rounds.proofs.settle.visit.Goals as goal
 
 pub returns-then-not-get-clause-dropped : goal.returns-then-not-get-clause-dropped
@@ -21,3 +22,14 @@ returns-in_ok-push-in-Dropped-clause-dead c =
 
 pub returns-in_ok-push-in-Dropped-clause-dropped : goal.returns-in_ok-push-in-Dropped-clause-dropped
 returns-in_ok-push-in-Dropped-clause-dropped c = ap length c.in_ok-push-in-Dropped.ensures.items ∙ length_push _ _
+
+pub returns-then-not-get-clause-swept : goal.returns-then-not-get-clause-swept
+returns-then-not-get-clause-swept c = sweeps-idle c.args.work.now c.args.candidate c.args.settled.now.table c.args.settled.now.deaths.items (c.get.ensures ∙ ap Some c.if-not-get.true)
+
+pub returns-in_ok-push-in-Proved-clause-swept : goal.returns-in_ok-push-in-Proved-clause-swept
+returns-in_ok-push-in-Proved-clause-swept c =
+    sweeps-proved c.args.work.now c.args.candidate c.args.settled.now.table c.args.settled.now.deaths.items c.in-Proved.proof (rw c.in-Proved.is at c.in_ok-proof.ensures)
+
+pub returns-in_ok-push-in-Dropped-clause-swept : goal.returns-in_ok-push-in-Dropped-clause-swept
+returns-in_ok-push-in-Dropped-clause-swept c =
+    sweeps-died c.args.work.now (record { candidate = c.args.candidate; seen = c.in_ok-seen-in-Dropped.seen; cause = c.in-Dropped.cause }) c.args.settled.now.table _ c.args.settled.now.deaths.items _ c.clear.ensures c.in_ok-push-in-Dropped.ensures.items
