@@ -8,3 +8,8 @@ pub mod LeastLemmas
 pub mod SpotLemmas
 pub mod RefusalLemmas
 pub mod PairLemmas
+pub mod PlainPairLemmas
+pub mod PlainCallLemmas
+pub mod ContainLemmas
+pub mod PlainStateLemmas
+pub mod PlainListLemmas

@@ -2,3 +2,4 @@ pub mod Places
 pub mod Pairs
 pub mod Refusals
 pub mod Tables
+pub mod PlainPairs

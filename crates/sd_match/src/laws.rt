@@ -1,0 +1,9 @@
+//! What the pairs of two programs come to.
+ghost use Rattle.sd_match.specs.PlainPairs.{PairsArePlain};
+
+/// Procedures of one name are paired, and so are loops of one number in paired procedures of the same types, in the
+/// order of the old program. A pair is refused exactly where types differ, or where a procedure without a partner is
+/// called, and then the first of those is told.
+pub fn pairs_are_plain()
+    ensures { PairsArePlain }
+{}
