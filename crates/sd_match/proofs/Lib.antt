@@ -9,7 +9,9 @@ pub mod SpotLemmas
 pub mod RefusalLemmas
 pub mod PairLemmas
 pub mod PlainPairLemmas
-pub mod PlainCallLemmas
 pub mod ContainLemmas
+pub mod PlainCallLemmas
 pub mod PlainStateLemmas
 pub mod PlainListLemmas
+pub mod SpotListLemmas
+pub mod PlainSpotLemmas

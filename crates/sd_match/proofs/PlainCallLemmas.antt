@@ -15,6 +15,7 @@ use Rattle.sd_runs.specs.Calls.{callees, row_callees, callees_of}
 use Rattle.sd_runs.proofs.Contained.{contains_first, contains_later, contains_none, contains_cases}
 use Rattle.sd_match.specs.Pairs.{owner, least, least_with, is_unmatched, unmatched_calls, name_at, first_unmatched}
 use Rattle.sd_match.specs.PlainPairs.{IsInText, ArePartners, HasNoPartner, BelongsTo, IsUnmatchedCall, CallsNoUnmatched, IsFirstUnmatched, IsFirstUnmatchedName}
+use Rattle.sd_match.proofs.ContainLemmas.{kept_exact}
 use Rattle.sd_match.proofs.PlainPairLemmas.{unmatched_exact}
 
 -- ---- a callee is there
@@ -73,22 +74,6 @@ least_below (n ∷ ns) m d e h = ⊎_elim
     later : Contains ns d → ((j : ℕ) → least ns ≡ Some j → j ≤ d) → (o : Option ℕ) → least ns ≡ o → least_with n o ≡ m → m ≤ d
     later k below None none s = contains_none d (subst (λ l. Contains l d) (least_none ns none) k)
     later k below (Some j) some s = let b : j ≤ d = below j some in omega (arith, b, s)
-
--- ---- lists that keep what passes a test
-
-kept_exact : (f : ℕ → Bool) (ns : List ℕ) (c : ℕ) → Contains (filter f ns) c ↔ (Contains ns c × (f c ≡ true))
-kept_exact f [] c = (λ h. contains_none c h, λ h. contains_none c h.0)
-kept_exact f (n ∷ ns) c = go (f n) refl (kept_exact f ns c)
-  where
-    go : (b : Bool) → f n ≡ b → (Contains (filter f ns) c ↔ (Contains ns c × (f c ≡ true))) → Contains (if b then n ∷ filter f ns else filter f ns) c ↔ (Contains (n ∷ ns) c × (f c ≡ true))
-    go true is rest = (
-      λ h. ⊎_elim (λ (e : n ≡ c). (subst (λ k. Contains (n ∷ ns) k) e (contains_first n ns), ap f (sym e) ∙ is)) (λ k. let r = rest.0 k in (contains_later n c ns r.0, r.1)) (contains_cases c n (filter f ns) h),
-      λ h. ⊎_elim (λ (e : n ≡ c). subst (λ k. Contains (n ∷ filter f ns) k) e (contains_first n (filter f ns))) (λ k. contains_later n c (filter f ns) (rest.1 (k, h.1))) (contains_cases c n ns h.0),
-    )
-    go false is rest = (
-      λ h. let r = rest.0 h in (contains_later n c ns r.0, r.1),
-      λ h. ⊎_elim (λ (e : n ≡ c). absurd (let bad : false ≡ true = sym is ∙ ap f e ∙ h.1 in cc)) (λ k. rest.1 (k, h.1)) (contains_cases c n ns h.0),
-    )
 
 -- ---- calls of a procedure and its loops
 

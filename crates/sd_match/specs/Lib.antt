@@ -3,3 +3,4 @@ pub mod Pairs
 pub mod Refusals
 pub mod Tables
 pub mod PlainPairs
+pub mod PlainSpots
