@@ -14,4 +14,5 @@ pub mod PlainCallLemmas
 pub mod PlainStateLemmas
 pub mod PlainListLemmas
 pub mod SpotListLemmas
+pub mod SpotOrderLemmas
 pub mod PlainSpotLemmas

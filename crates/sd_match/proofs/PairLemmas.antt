@@ -24,7 +24,7 @@ place_from-within n (y ∷ ys) x i found = go (same_text x.name y.name && same_s
     go true here rest = let same : n ≡ i = some_is n i here in omega arith
     go false there rest = let h : i < suc n + length ys = rest there in omega arith
 
-all-append : {A : Type 0} (P : A → Type 0) (xs ys : List A) → AllByRecursion P xs → AllByRecursion P ys → AllByRecursion P (xs ++ ys)
+pub all-append : {A : Type 0} (P : A → Type 0) (xs ys : List A) → AllByRecursion P xs → AllByRecursion P ys → AllByRecursion P (xs ++ ys)
 all-append P [] ys h k = k
 all-append P (x ∷ xs) ys h k = (h.0, all-append P xs ys h.1 k)
 

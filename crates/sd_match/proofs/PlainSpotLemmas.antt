@@ -18,9 +18,10 @@ use Rattle.sd_match.specs.declared.pair.PairState.TheVariants.{Open, Signature, 
 use Rattle.sd_match.specs.declared.pair.Pair.{Pair}
 use Rattle.sd_match.specs.Pairs.{by_position, by_name, shared_pairs, modified_globals, root_by, root_of, fixed_ins, fixed_outs, carried_count, in_pairs, out_pairs, inputs_of, outputs_of, pair_with, pairs_of}
 use Rattle.sd_match.specs.PlainPairs.{IsInText, IsLoopOf}
-use Rattle.sd_match.specs.PlainSpots.{IsOf, IsAtOnePosition, IsOfOneName, IsSharedGlobal, IsModified, ArePlainInText, parameters, carried, results, IsLeft, ArePlainInLoops, ArePlainSpots, SpotsArePlain}
+use Rattle.sd_match.specs.PlainSpots.{IsOf, IsAtOnePosition, IsOfOneName, IsSharedGlobal, IsModified, ArePlainInText, parameters, carried, results, IsLeft, ArePlainInLoops, Ascend, ArePlainSpots, SpotsArePlain}
 use Rattle.sd_match.proofs.ContainLemmas.{append_exact}
 use Rattle.sd_match.proofs.PlainListLemmas.{IsMade, made, root_state, old_is, new_is, state_is}
+use Rattle.sd_match.proofs.SpotOrderLemmas.{inputs-order, outputs-order}
 use Rattle.sd_match.proofs.SpotListLemmas.{position_exact, name_exact, global_exact, modified_exact}
 
 -- ---- parts of lists
@@ -268,12 +269,20 @@ no_spots Open h P Q i j p q = absurd (let bad : Open ≡ Signature = h in cc)
 no_spots Signature h P Q i j p q = (refl, refl)
 no_spots (UnmatchedRecursion x) h P Q i j p q = absurd (let bad : UnmatchedRecursion x ≡ Signature = h in cc)
 
+spots_ascend : (s : PairState) (P Q : CoreProgram) (i j : ℕ) (p q : CoreProc) → Ascend (pair_with s P Q i j p q).inputs × Ascend (pair_with s P Q i j p q).outputs
+spots_ascend Open P Q i j p q = (inputs-order P Q p q, outputs-order P Q p q)
+spots_ascend Signature P Q i j p q = (tt, tt)
+spots_ascend (UnmatchedRecursion x) P Q i j p q = (inputs-order P Q p q, outputs-order P Q p q)
+
 module _ (P Q : CoreProgram) (pair : Pair) (m : IsMade P Q 0 P.procs pair) where
   abbrev state : PairState
   state = root_state P Q (0 + m.place) m.new_place m.p m.q
 
   has_state : pair.state ≡ state
   has_state = ap (λ (x : Pair). x.state) (sym m.is) ∙ state_is state P Q (0 + m.place) m.new_place m.p m.q
+
+  ordered_spots : Ascend pair.inputs × Ascend pair.outputs
+  ordered_spots = subst (λ (x : Pair). Ascend x.inputs × Ascend x.outputs) m.is (spots_ascend state P Q (0 + m.place) m.new_place m.p m.q)
 
   refused_spots : pair.state ≡ Signature → (pair.inputs ≡ []) × (pair.outputs ≡ [])
   refused_spots e =
@@ -312,4 +321,6 @@ spots_plain P Q formed formed' pair h =
             inputs = λ s. (λ h. (ins s).0 (subst (λ l. Contains l s) (sym are.0) h), λ h. subst (λ l. Contains l s) are.0 ((ins s).1 h));
             outputs = λ s. (λ h. (outs s).0 (subst (λ l. Contains l s) (sym are.1) h), λ h. subst (λ l. Contains l s) are.1 ((outs s).1 h));
           };
+      inputs_ascend = (ordered_spots P Q pair m).0;
+      outputs_ascend = (ordered_spots P Q pair m).1;
     }

@@ -1,4 +1,5 @@
 -- Which procedures of two programs are compared, on which inputs and outputs, and why a pair can be refused.
+-- `PlainPairs` and `PlainSpots` say it in plain words.
 use Rattle.std.specs.Prelude.{◌≡◌, ℕ, suc, ◌+◌, ◌-◌, ◌==◌, min, Bool, true, false, not, ◌&&◌, ◌||◌, List, [], ◌∷◌, ◌++◌, map, length, take, drop, Option, Some, None, slice_get, if◌then◌else◌}
 use Rattle.std.specs.Option.{is_none, option_map}
 use Rattle.std.specs.List.{filter}

@@ -1,5 +1,6 @@
 -- What is compared of a pair where its runs begin and where they end, in plain words.
-use Rattle.std.specs.Prelude.{◌≡◌, ◌≢◌, ◌<◌, ◌⊎◌, ◌↔◌, ℕ, ◌+◌, List, [], ◌++◌, length, Some, None, slice_get, Contains}
+use Rattle.std.specs.Prelude.{◌≡◌, ◌≢◌, ◌<◌, ◌⊎◌, ◌↔◌, ℕ, ◌+◌, List, [], ◌∷◌, ◌++◌, length, Some, None, slice_get, Contains}
+use Rattle.std.specs.List.{AllByRecursion}
 use Rattle.sd_base.specs.declared.Sort.{Sort}
 use Rattle.sd_base.specs.declared.Sort.TheVariants.{Bool as BoolSort}
 use Rattle.sd_base.specs.declared.Var.{Var}
@@ -100,6 +101,20 @@ pub record ArePlainInLoops {P Q : CoreProgram} {m n i j k k' : ℕ} {p q : CoreP
       old.declared new.declared s
       ⊎ (IsLeft old new s ⊎ IsModified P Q p q s)))
 
+-- ---- their order
+
+-- Slots come before globals.
+abbrev pub ComesBefore : Spot → Spot → Type 0
+ComesBefore (Slot i) (Slot j) = i < j
+ComesBefore (Slot i) (Global j) = Unit {0}
+ComesBefore (Global i) (Slot j) = ⊥
+ComesBefore (Global i) (Global j) = i < j
+
+-- Each comes before all later ones in the old program.
+abbrev pub Ascend : List SpotPair → Type 0
+Ascend [] = Unit {0}
+Ascend (s ∷ ss) = AllByRecursion (λ t. ComesBefore s.old t.old) ss × Ascend ss
+
 -- ---- pairs
 
 -- A pair whose types differ has no inputs and no outputs.
@@ -111,6 +126,8 @@ pub record ArePlainSpots (P Q : CoreProgram) (pair : Pair) : Type 0 where
       → IsLoopOf P pair.old p i k → IsLoopOf Q pair.new q j k'
       → (old : IsLoop P pair.old i k p) (new : IsLoop Q pair.new j k' q)
       → ArePlainInLoops old new pair
+  pub inputs_ascend : Ascend pair.inputs
+  pub outputs_ascend : Ascend pair.outputs
 
 -- The inputs and outputs of the pairs of two well formed programs are these.
 abbrev pub SpotsArePlain : Type 0

@@ -9,8 +9,9 @@ pub fn pairs_are_plain()
     ensures { PairsArePlain }
 {}
 
-/// The inputs and the outputs of a pair are exactly its parameters by position, the carried locals of loops by name,
-/// and the globals that both programs declare, of which only those that may be modified are outputs.
+/// The inputs and the outputs of a pair are exactly its parameters by position, the carried variables of loops by name,
+/// and the globals that both programs declare, of which only those that may be modified are outputs. They stand in the
+/// order of the old program.
 pub fn spots_are_plain()
     ensures { SpotsArePlain }
 {}

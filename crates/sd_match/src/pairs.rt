@@ -145,9 +145,11 @@ fn pair_of(
     requires { AreTablesOf old.now new.now tables.now }
     ensures { IfOk result
         (λ pair. pair
-        ≡ pair_with (state_of old.now new.now (owner p.entry.place p.entry.proc.now.parent) (owner q.entry.place q.entry.proc.now.parent)
+        ≡ pair_with (state_of old.now new.now
+        (owner p.entry.place p.entry.proc.now.parent) (owner q.entry.place q.entry.proc.now.parent)
         (slice_get old.now.procs (owner p.entry.place p.entry.proc.now.parent))
-        (slice_get new.now.procs (owner q.entry.place q.entry.proc.now.parent))) old.now new.now p.entry.place q.entry.place p.entry.proc.now q.entry.proc.now) }
+        (slice_get new.now.procs (owner q.entry.place q.entry.proc.now.parent)))
+        old.now new.now p.entry.place q.entry.place p.entry.proc.now q.entry.proc.now) }
 {
     let state = state_of(
         alloc,
@@ -189,7 +191,8 @@ fn put_pair(
     requires tables { AreTablesOf old.now new.now tables.now }
     requires proc { slice_get old.now.procs p.place ≡ Some p.proc.now }
     ensures { OnOk result
-        (pairs.new ≡ pairs.old ++ pair_by old.now new.now p.entry.place p.entry.proc.now (partner old.now new.now p.entry.proc.now)) }
+        (pairs.new ≡ pairs.old ++ pair_by old.now new.now p.entry.place p.entry.proc.now
+        (partner old.now new.now p.entry.proc.now)) }
 {
     match number_at(&tables.partners, p.place) {
         None => Ok(()),
