@@ -1,11 +1,11 @@
 -- Calls of procedures without partners, in plain words.
-use Rattle.std.proofs.Common.{◌≡◌, ◌∙◌, sym, ap, refl, subst, ℕ, zero, suc, ◌+◌, ◌<◌, ◌≤◌, min, Bool, true, false, List, [], ◌∷◌, ◌++◌, length, ◌⊎◌, inl, inr, ⊎_elim, arith}
+use Rattle.std.proofs.Common.{◌≡◌, ◌∙◌, sym, ap, refl, subst, ℕ, zero, suc, ◌+◌, ◌≤◌, min, Bool, true, false, List, [], ◌∷◌, ◌⊎◌, inl, inr, ⊎_elim, arith}
 use Rattle.std.proofs.lemmas.Option.{none-some, same_Some}
 use Rattle.std.proofs.lemmas.Bool.Decides.{nat_tests}
 use Rattle.std.proofs.lemmas.List.Elements.{Contains-append_left, Contains-append_right, Contains-append_cases}
 use Rattle.std.specs.Prelude.{◌==◌, ◌↔◌, Option, Some, None, slice_get, Contains, if◌then◌else◌}
 use Rattle.std.specs.Option.{option_map}
-use Rattle.std.specs.List.{AllByRecursion, filter}
+use Rattle.std.specs.List.{filter}
 use Rattle.sd_base.specs.Value.{Text}
 use Rattle.sd_core.specs.declared.CoreProc.{CoreProc}
 use Rattle.sd_core.specs.declared.CoreStmt.{CoreStmt, Assign, If', Call, Assume, Fail, Return, Row_of-CoreStmt, end_of-CoreStmt, more_of-CoreStmt}
@@ -14,7 +14,7 @@ use Rattle.sd_core.specs.Formed.{WellFormed, IsFormed, AreFormed, AllFormed}
 use Rattle.sd_runs.specs.Calls.{callees, row_callees, callees_of}
 use Rattle.sd_runs.proofs.Contained.{contains_first, contains_later, contains_none, contains_cases}
 use Rattle.sd_match.specs.Pairs.{owner, least, least_with, is_unmatched, unmatched_calls, name_at, first_unmatched}
-use Rattle.sd_match.specs.PlainPairs.{IsInText, ArePartners, HasNoPartner, BelongsTo, IsUnmatchedCall, CallsNoUnmatched, IsFirstUnmatched, IsFirstUnmatchedName}
+use Rattle.sd_match.specs.PlainPairs.{IsInText, BelongsTo, IsUnmatchedCall, CallsNoUnmatched, IsFirstUnmatchedName}
 use Rattle.sd_match.proofs.ContainLemmas.{kept_exact}
 use Rattle.sd_match.proofs.PlainPairLemmas.{unmatched_exact}
 

@@ -1,19 +1,18 @@
 -- The pairs of two programs, in plain words.
-use Rattle.std.proofs.Common.{◌≡◌, ◌∙◌, sym, ap, refl, subst, ℕ, zero, suc, ◌+◌, ◌<◌, ◌≤◌, Bool, true, false, List, [], ◌∷◌, ◌++◌, length, map, get_or, ◌⊎◌, inl, inr, ⊎_elim, arith}
+use Rattle.std.proofs.Common.{◌≡◌, ◌∙◌, sym, ap, refl, subst, ℕ, zero, suc, ◌+◌, Bool, true, false, List, [], ◌∷◌, map, inl, inr, arith}
 use Rattle.std.proofs.lemmas.Bool.{and_from, and_parts}
 use Rattle.std.proofs.lemmas.Option.{none-some, same_Some}
-use Rattle.std.proofs.lemmas.List.Elements.{Contains-append_left, Contains-append_right, Contains-append_cases}
-use Rattle.std.specs.Prelude.{◌==◌, ◌&&◌, ◌↔◌, Option, Some, None, is_none, slice_get, Contains, if◌then◌else◌}
-use Rattle.std.specs.List.{AllByRecursion, IsDistinct, filter}
+use Rattle.std.specs.Prelude.{◌==◌, ◌&&◌, ◌↔◌, Option, Some, None, is_none, slice_get, if◌then◌else◌}
+use Rattle.std.specs.List.{AllByRecursion, IsDistinct}
 use Rattle.sd_base.specs.declared.Var.{Var}
 use Rattle.sd_base.specs.Value.{Text, same_text}
 use Rattle.sd_base.proofs.Texts.{same_text-is, same_text-refl, same_text-flip}
 use Rattle.sd_base.proofs.SortLemmas.{same_sort-is, same_sort-refl}
 use Rattle.sd_core.specs.declared.CoreProc.{CoreProc}
 use Rattle.sd_core.specs.declared.CoreProgram.{CoreProgram}
-use Rattle.sd_core.specs.Formed.{sorts_of, same_sort, roots, WellFormed, IsLoop}
+use Rattle.sd_core.specs.Formed.{sorts_of, same_sort, roots, WellFormed}
 use Rattle.sd_match.specs.Pairs.{same_sorts, same_types, root_from, is_loop_of, loop_at, loop_partner, loop_partner_at, loop_partner_in, partner, partner_by, is_unmatched}
-use Rattle.sd_match.specs.PlainPairs.{IsInText, IsLoopOf, HaveSameTypes, AreNamesakes, AreSameLoops, ArePartners, HasNoPartner}
+use Rattle.sd_match.specs.PlainPairs.{IsInText, IsLoopOf, HaveSameTypes, ArePartners, HasNoPartner}
 use Rattle.sd_match.proofs.PartnerLemmas.{loop_is}
 
 -- ---- types

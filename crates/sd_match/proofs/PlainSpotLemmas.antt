@@ -1,5 +1,5 @@
 -- The inputs and outputs of pairs, in plain words.
-use Rattle.std.proofs.Common.{◌≡◌, ◌∙◌, sym, ap, refl, subst, ℕ, zero, suc, ◌+◌, ◌-◌, ◌<◌, List, [], ◌∷◌, ◌++◌, append_assoc, append-nil, length, length-append, take, drop, ◌⊎◌, inl, inr, ⊎_elim, arith}
+use Rattle.std.proofs.Common.{◌≡◌, ◌∙◌, sym, ap, refl, subst, ℕ, zero, suc, ◌+◌, ◌<◌, List, [], ◌∷◌, ◌++◌, append_assoc, append-nil, length, length-append, take, drop, ◌⊎◌, inl, inr, ⊎_elim, arith}
 use Rattle.std.proofs.Math.Seq.{take-append_seam, drop-append_seam, take-length, drop-length}
 use Rattle.std.proofs.lemmas.List.{append_cancel_left}
 use Rattle.std.proofs.lemmas.Option.{none-some, same_Some}
@@ -16,9 +16,9 @@ use Rattle.sd_match.specs.declared.pair.SpotPair.{SpotPair}
 use Rattle.sd_match.specs.declared.pair.PairState.{PairState}
 use Rattle.sd_match.specs.declared.pair.PairState.TheVariants.{Open, Signature, UnmatchedRecursion}
 use Rattle.sd_match.specs.declared.pair.Pair.{Pair}
-use Rattle.sd_match.specs.Pairs.{by_position, by_name, shared_pairs, modified_globals, root_by, root_of, fixed_ins, fixed_outs, carried_count, in_pairs, out_pairs, inputs_of, outputs_of, pair_with, pairs_of}
-use Rattle.sd_match.specs.PlainPairs.{IsInText, IsLoopOf}
-use Rattle.sd_match.specs.PlainSpots.{IsOf, IsAtOnePosition, IsOfOneName, IsSharedGlobal, IsModified, ArePlainInText, parameters, carried, results, IsLeft, ArePlainInLoops, Ascend, ArePlainSpots, SpotsArePlain}
+use Rattle.sd_match.specs.Pairs.{by_position, by_name, shared_pairs, modified_globals, root_by, root_of, fixed_ins, fixed_outs, carried_count, in_pairs, out_pairs, inputs_of, outputs_of, pair_with}
+use Rattle.sd_match.specs.PlainPairs.{IsLoopOf}
+use Rattle.sd_match.specs.PlainSpots.{IsOf, IsAtOnePosition, IsOfOneName, IsSharedGlobal, IsModified, parameters, carried, results, IsLeft, Ascend, SpotsArePlain}
 use Rattle.sd_match.proofs.ContainLemmas.{append_exact}
 use Rattle.sd_match.proofs.PlainListLemmas.{IsMade, made, root_state, old_is, new_is, state_is}
 use Rattle.sd_match.proofs.SpotOrderLemmas.{inputs-order, outputs-order}

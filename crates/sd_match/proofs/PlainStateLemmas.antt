@@ -1,14 +1,13 @@
 -- The states of pairs, in plain words.
-use Rattle.std.proofs.Common.{◌≡◌, ◌∙◌, sym, ap, refl, subst, ℕ, Bool, true, false, ◌⊎◌, inl, inr, ⊎_elim}
-use Rattle.std.specs.Prelude.{◌↔◌, Option, Some, None, if◌then◌else◌}
+use Rattle.std.proofs.Common.{◌≡◌, ◌∙◌, sym, ap, refl, subst, ℕ, Bool, true, false, inl, inr}
+use Rattle.std.specs.Prelude.{Option, Some, None, if◌then◌else◌}
 use Rattle.sd_base.specs.Value.{Text}
 use Rattle.sd_core.specs.declared.CoreProc.{CoreProc}
 use Rattle.sd_core.specs.declared.CoreProgram.{CoreProgram}
 use Rattle.sd_core.specs.Formed.{WellFormed}
-use Rattle.sd_match.specs.declared.pair.PairState.{PairState}
 use Rattle.sd_match.specs.declared.pair.PairState.TheVariants.{Open, Signature, UnmatchedRecursion}
 use Rattle.sd_match.specs.Pairs.{same_types, first_unmatched, state_by, state_of}
-use Rattle.sd_match.specs.PlainPairs.{HaveSameTypes, AreNamesakes, CallsNoUnmatched, IsFirstUnmatchedName, IsRefusedFor, HasState}
+use Rattle.sd_match.specs.PlainPairs.{HaveSameTypes, AreNamesakes, CallsNoUnmatched, IsRefusedFor, HasState}
 use Rattle.sd_match.proofs.PlainPairLemmas.{types_exact}
 use Rattle.sd_match.proofs.PlainCallLemmas.{IsTold, told, one_name}
 

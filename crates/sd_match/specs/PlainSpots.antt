@@ -1,5 +1,5 @@
 -- What is compared of a pair where its runs begin and where they end, in plain words.
-use Rattle.std.specs.Prelude.{◌≡◌, ◌≢◌, ◌<◌, ◌⊎◌, ◌↔◌, ℕ, ◌+◌, List, [], ◌∷◌, ◌++◌, length, Some, None, slice_get, Contains}
+use Rattle.std.specs.Prelude.{◌≡◌, ◌≢◌, ◌<◌, ◌⊎◌, ◌↔◌, ℕ, ◌+◌, List, [], ◌∷◌, ◌++◌, length, Some, slice_get, Contains}
 use Rattle.std.specs.List.{AllByRecursion}
 use Rattle.sd_base.specs.declared.Sort.{Sort}
 use Rattle.sd_base.specs.declared.Sort.TheVariants.{Bool as BoolSort}

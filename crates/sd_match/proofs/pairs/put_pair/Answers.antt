@@ -1,5 +1,5 @@
-use Rattle.std.proofs.Common.{◌≡◌, ◌∙◌, sym, ap, get_or, [], ◌∷◌, ◌++◌}
-use Rattle.std.specs.Prelude.{Some, None}
+use Rattle.std.proofs.Common.{◌∙◌, sym, ap, get_or, [], ◌∷◌, ◌++◌}
+use Rattle.std.specs.Prelude.{None}
 use Rattle.sd_match.specs.Pairs.{partner, pair_by, pair_at}
 use Rattle.sd_match.proofs.PairLemmas.{partner-is, none-added}
 use Rattle.sd_match.proofs.pairs.put_pair.Goals as goal
