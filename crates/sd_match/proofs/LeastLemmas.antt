@@ -1,7 +1,7 @@
 -- The least of some numbers, and the calls of procedures without partners.
 use Rattle.std.proofs.Common.{◌≡◌, ◌∙◌, sym, ap, refl, subst, ℕ, zero, suc, ◌+◌, ◌<◌, Bool, true, false, List, [], ◌∷◌, ◌++◌, length, map, get_or, drop, add-one, arith}
 use Rattle.sd_base.proofs.Lists.{drop-at}
-use Rattle.std.specs.Prelude.{◌==◌, Option, Some, None, slice_get, is_none, if◌then◌else◌}
+use Rattle.std.specs.Prelude.{◌==◌, Option, Some, None, slice_get, if◌then◌else◌}
 use Rattle.std.specs.List.{filter}
 use Rattle.sd_core.specs.declared.CoreProc.{CoreProc}
 use Rattle.sd_core.specs.declared.CoreProgram.{CoreProgram}

@@ -8,3 +8,11 @@ pub mod LeastLemmas
 pub mod SpotLemmas
 pub mod RefusalLemmas
 pub mod PairLemmas
+pub mod PlainPairLemmas
+pub mod ContainLemmas
+pub mod PlainCallLemmas
+pub mod PlainStateLemmas
+pub mod PlainListLemmas
+pub mod SpotListLemmas
+pub mod SpotOrderLemmas
+pub mod PlainSpotLemmas

@@ -1,9 +1,9 @@
 -- The pairs, from the tables of two programs.
-use Rattle.std.proofs.Common.{◌≡◌, ◌∙◌, sym, ap, refl, subst, ℕ, zero, suc, ◌+◌, ◌<◌, Bool, true, false, List, [], ◌∷◌, ◌++◌, length, map, get_or, append-nil, zero-add, arith}
+use Rattle.std.proofs.Common.{◌≡◌, ◌∙◌, sym, ap, refl, subst, ℕ, suc, ◌+◌, ◌<◌, Bool, true, false, List, [], ◌∷◌, ◌++◌, length, get_or, append-nil, zero-add, arith}
 use Rattle.std.specs.Prelude.{◌&&◌, Option, Some, None, slice_get, if◌then◌else◌}
 use Rattle.std.specs.List.{AllByRecursion}
 use Rattle.sd_base.specs.declared.Var.{Var}
-use Rattle.sd_base.specs.Value.{Text, same_text}
+use Rattle.sd_base.specs.Value.{same_text}
 use Rattle.sd_core.specs.declared.CoreProc.{CoreProc}
 use Rattle.sd_core.specs.declared.CoreProgram.{CoreProgram}
 use Rattle.sd_core.specs.declared.Shared.{Shared}
@@ -24,7 +24,7 @@ place_from-within n (y ∷ ys) x i found = go (same_text x.name y.name && same_s
     go true here rest = let same : n ≡ i = some_is n i here in omega arith
     go false there rest = let h : i < suc n + length ys = rest there in omega arith
 
-all-append : {A : Type 0} (P : A → Type 0) (xs ys : List A) → AllByRecursion P xs → AllByRecursion P ys → AllByRecursion P (xs ++ ys)
+pub all-append : {A : Type 0} (P : A → Type 0) (xs ys : List A) → AllByRecursion P xs → AllByRecursion P ys → AllByRecursion P (xs ++ ys)
 all-append P [] ys h k = k
 all-append P (x ∷ xs) ys h k = (h.0, all-append P xs ys h.1 k)
 

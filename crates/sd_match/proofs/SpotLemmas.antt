@@ -2,10 +2,10 @@
 use Rattle.std.proofs.Common.{◌≡◌, ◌∙◌, sym, ap, refl, ℕ, zero, suc, ◌+◌, ◌<◌, ◌≤◌, min, Bool, true, false, List, [], ◌∷◌, length, get_or, drop, add-one, arith}
 use Rattle.sd_base.proofs.Lists.{drop-at}
 use Rattle.std.proofs.lemmas.List.{drop_more}
-use Rattle.std.specs.Prelude.{◌&&◌, ◌↔◌, IsTrue, Option, Some, slice_get, if◌then◌else◌}
+use Rattle.std.specs.Prelude.{◌&&◌, Option, Some, slice_get, if◌then◌else◌}
 use Rattle.std.specs.List.{AllByRecursion, IsDistinct}
 use Rattle.sd_base.specs.declared.Var.{Var}
-use Rattle.sd_base.specs.Value.{Text, same_text}
+use Rattle.sd_base.specs.Value.{same_text}
 use Rattle.sd_core.specs.declared.Spot.TheVariants.{Slot}
 use Rattle.sd_core.specs.Formed.{names_of, same_sort}
 use Rattle.sd_core.specs.Failure as failure

@@ -2,7 +2,7 @@
 use Rattle.std.proofs.Common.{◌≡◌, ◌≢◌, ◌∙◌, sym, ap, refl, ℕ, suc, ◌+◌, ◌<◌, Bool, true, false, List, [], ◌∷◌, length, get_or, drop, arith}
 use Rattle.sd_base.proofs.Lists.{drop-at}
 use Rattle.sd_base.proofs.SortLemmas.{same_sort-test}
-use Rattle.std.specs.Prelude.{◌&&◌, ◌↔◌, IsTrue, not}
+use Rattle.std.specs.Prelude.{◌&&◌, ◌↔◌, IsTrue}
 use Rattle.sd_base.specs.declared.Sort.{Sort}
 use Rattle.sd_base.specs.declared.Var.{Var}
 use Rattle.sd_core.specs.Formed.{same_sort}

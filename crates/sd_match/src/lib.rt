@@ -1,6 +1,7 @@
 //! Which procedures, loops and globals of two programs belong together.
 #![tactic(auto)]
 
+pub mod laws;
 mod modified;
 mod pair;
 mod pairs;

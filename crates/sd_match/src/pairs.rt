@@ -126,47 +126,54 @@ fn outputs_of(
     Ok(outputs)
 }
 
-/// The pair of the procedures at these places.
+/// A procedure, or that of a loop, and its place in the program.
+#[derive(Clone, Copy)]
+struct Placed<'a> {
+    pub place: u32,
+    pub proc: &'a CoreProc,
+}
+
+/// The pair of two procedures.
 fn pair_of(
     alloc: Global,
     old: &CoreProgram,
     new: &CoreProgram,
     tables: &Tables,
-    i: u32,
-    j: u32,
-    p: &CoreProc,
-    q: &CoreProc,
+    p: Placed<'_>,
+    q: Placed<'_>,
 ) -> Result<Pair, NoMemory>
     requires { AreTablesOf old.now new.now tables.now }
     ensures { IfOk result
         (λ pair. pair
-        ≡ pair_with (state_of old.now new.now (owner i p.now.parent) (owner j q.now.parent)
-        (slice_get old.now.procs (owner i p.now.parent))
-        (slice_get new.now.procs (owner j q.now.parent))) old.now new.now i j p.now q.now) }
+        ≡ pair_with (state_of old.now new.now
+        (owner p.entry.place p.entry.proc.now.parent) (owner q.entry.place q.entry.proc.now.parent)
+        (slice_get old.now.procs (owner p.entry.place p.entry.proc.now.parent))
+        (slice_get new.now.procs (owner q.entry.place q.entry.proc.now.parent)))
+        old.now new.now p.entry.place q.entry.place p.entry.proc.now q.entry.proc.now) }
 {
     let state = state_of(
         alloc,
         old,
         new,
         tables,
-        owner(i, p.parent),
-        owner(j, q.parent),
+        owner(p.place, p.proc.parent),
+        owner(q.place, q.proc.parent),
     )?;
     if let PairState::Signature = state {
         return Ok(Pair {
-            old: i,
-            new: j,
+            old: p.place,
+            new: q.place,
             state,
             inputs: Items::new(alloc),
             outputs: Items::new(alloc),
         });
     }
     Ok(Pair {
-        old: i,
-        new: j,
+        old: p.place,
+        new: q.place,
         state,
-        inputs: inputs_of(alloc, old, new, tables, p, q)?,
-        outputs: outputs_of(alloc, old, new, tables, p, q)?,
+        inputs: inputs_of(alloc, old, new, tables, p.proc, q.proc)?,
+        outputs: outputs_of(alloc, old, new, tables, p.proc, q.proc)?,
     })
 }
 
@@ -179,20 +186,24 @@ fn put_pair(
     old: &CoreProgram,
     new: &CoreProgram,
     tables: &Tables,
-    place: u32,
-    proc: &CoreProc,
+    p: Placed<'_>,
 ) -> Result<(), NoMemory>
     requires tables { AreTablesOf old.now new.now tables.now }
-    requires proc { slice_get old.now.procs place ≡ Some proc.now }
+    requires proc { slice_get old.now.procs p.place ≡ Some p.proc.now }
     ensures { OnOk result
-        (pairs.new ≡ pairs.old ++ pair_by old.now new.now place proc.now (partner old.now new.now proc.now)) }
+        (pairs.new ≡ pairs.old ++ pair_by old.now new.now p.entry.place p.entry.proc.now
+        (partner old.now new.now p.entry.proc.now)) }
 {
-    match number_at(&tables.partners, place) {
+    match number_at(&tables.partners, p.place) {
         None => Ok(()),
         Some(partner) => match new.procs.get(partner as usize) {
             None => Ok(()),
-            Some(other) => {
-                pairs.push(pair_of(alloc, old, new, tables, place, partner, proc, other)?)?;
+            Some(proc) => {
+                let q = Placed {
+                    place: partner,
+                    proc,
+                };
+                pairs.push(pair_of(alloc, old, new, tables, p, q)?)?;
                 Ok(())
             }
         },
@@ -212,15 +223,11 @@ fn pairs_of(
     let procs = old.procs.as_slice();
     let mut pairs = Items::new(alloc);
     'procs: for place in 0..procs.len() {
-        put_pair(
-            alloc,
-            &mut pairs,
-            old,
-            new,
-            tables,
-            place as u32,
-            &procs[place],
-        )?;
+        let p = Placed {
+            place: place as u32,
+            proc: &procs[place],
+        };
+        put_pair(alloc, &mut pairs, old, new, tables, p)?;
     }
     Ok(pairs)
 }

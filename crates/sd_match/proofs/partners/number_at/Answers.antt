@@ -1,4 +1,4 @@
-use Rattle.std.proofs.Common.{sym, ◌∙◌, ap}
+use Rattle.std.proofs.Common.{sym}
 use Rattle.std.specs.Prelude.{None}
 use Rattle.sd_match.proofs.ListLemmas.{get_or-none, get_or-some}
 use Rattle.sd_match.proofs.partners.number_at.Goals as goal

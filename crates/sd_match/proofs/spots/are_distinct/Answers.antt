@@ -1,4 +1,4 @@
-use Rattle.std.proofs.Common.{sym, ◌∙◌, ap, arith}
+use Rattle.std.proofs.Common.{arith}
 use Rattle.sd_match.proofs.ListLemmas.{slice_get-within}
 use Rattle.sd_match.proofs.SpotLemmas.{own_places-distinct}
 use Rattle.sd_match.proofs.spots.are_distinct.Goals as goal

@@ -1,4 +1,4 @@
-use Rattle.std.proofs.Common.{sym, ◌∙◌, ap, get_or, arith}
+use Rattle.std.proofs.Common.{◌∙◌, ap, get_or, arith}
 use Rattle.std.specs.Prelude.{None, ◌==◌, if◌then◌else◌}
 use Rattle.std.specs.List.{filter}
 use Rattle.sd_runs.specs.Calls.{callees_of}
