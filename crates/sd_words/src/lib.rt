@@ -1,0 +1,8 @@
+//! The words of the command line: which job they name.
+#![tactic(auto)]
+
+mod command;
+mod job;
+mod number;
+
+pub use job::{Job, Task, job_named};
