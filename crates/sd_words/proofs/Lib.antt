@@ -1,2 +1,3 @@
 pub mod NumberLemmas
 pub mod CommandLemmas
+pub mod OddLines

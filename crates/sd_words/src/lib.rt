@@ -3,6 +3,7 @@
 
 mod command;
 mod job;
+pub mod laws;
 mod number;
 
 pub use job::{Job, Task, job_named};
