@@ -85,7 +85,7 @@ number-decimal most n word small = (there, back)
         let parts = numeral-parts word r.2 in
         let value : digits_value 10 word ≡ n = sym r.3 in
         let text : decimal (digits_value 10 word) ≡ word =
-            decimal-digits_value own word parts.digits parts.some (λ z. absurd (parts.first z)) (omega (arith, r.1, value, small)) in
+        decimal-digits_value own word parts.digits parts.some (λ z. absurd (parts.first z)) (omega (arith, r.1, value, small)) in
         (sym text ∙ ap decimal value, r.0, r.1)
 
     back : (word ≡ decimal n) × (1 ≤ n) × (n ≤ most) → number_to most word ≡ Some n

@@ -9,7 +9,7 @@ use Rattle.clap.specs.Walk.{Walk, finished, nothing_held, plain_word, after_step
 use Rattle.clap.proofs.OnLiterals.{clap_on_literals}
 use Rattle.sd_words.specs.Commands.{verify_command, replay_command, rows_of_words}
 use Rattle.sd_words.specs.Words.{JobNames, Task, verify, replay, is_another_file, verify_job, verify_of, replay_job, job_of}
-use Rattle.sd_words.specs.Laws.{IsPlain, PlainVerify, PlainCertificate, PlainLeaves, PlainReplay, PlainWorkers, compared, replayed}
+use Rattle.sd_words.specs.Laws.{AnyNames, IsPlain, PlainVerify, PlainCertificate, PlainLeaves, PlainReplay, PlainWorkers, compared, replayed}
 use Rattle.sd_words.proofs.PlainWords.{Passes, between, flag-passes, no-more, passed-rows, plain-passes}
 
 abbrev verify_shape : Shape
@@ -98,8 +98,7 @@ one_of_two file old new (inr e) = ap (λ b. not (bytes_eq file old) && not b) ((
 
 pub plain-certificate : PlainCertificate
 plain-certificate old new file p q r =
-    let job = certificate-job old new file p q r in
-    (
+    let job = certificate-job old new file p q r in (
       λ a b. job ∙ ap (λ t. cond t (compared old new 1 2000 (Some file)) None) (another file old new a b),
       λ e. job ∙ ap (λ t. cond t (compared old new 1 2000 (Some file)) None) (one_of_two file old new e),
     )
@@ -148,3 +147,13 @@ module _ (old new file : Text) (p : IsPlain old) (q : IsPlain new) (r : IsPlain 
 
 pub plain-replay : PlainReplay
 plain-replay = replay-job
+
+-- ---- words of any kind
+
+pub any-names : AnyNames
+unfolding clap_on_literals
+any-names old new file = (
+  refl,
+  λ a b. ap (λ t. cond t (compared old new 1 2000 (Some file)) None) (another file old new a b),
+  refl,
+)

@@ -113,5 +113,5 @@ passed-rows command first words there named alone r fine =
     let free : walk_fault a.top (names_of a) (walk_from nothing_held) words ≡ [] = ap (λ n. walk_fault a.top n (walk_from nothing_held) words) alone ∙ r.fault in
     let fault : fault_of command (first ∷ words) ≡ [] = ap (built_fault a nothing_held) used ∙ split a words ∙ ap₂ (end_fault a) walked_to free ∙ fine in
     let rows : matches_of command (first ∷ words) ≡ finished a.top.rules there.held =
-        ap (λ ws. finished a.top.rules (walk a.top.rules (names_of a) nothing_held ws).held) used ∙ ap (λ (w : Walk). finished a.top.rules w.held) walked_to in
+    ap (λ ws. finished a.top.rules (walk a.top.rules (names_of a) nothing_held ws).held) used ∙ ap (λ (w : Walk). finished a.top.rules w.held) walked_to in
     ap₂ (λ kinds found. cond (is_empty kinds) (Some found) None) fault rows

@@ -1,5 +1,6 @@
 -- The job of the code, as its names.
-use Rattle.std.specs.Prelude.{ℕ, ◌≤◌, ⊤}
+use Rattle.std.specs.Prelude.{⊤}
+use Rattle.std.specs.Int.{IsInRange}
 use Rattle.std.specs.Option.{option_copied}
 use Rattle.sd_words.specs.declared.job.Task.{Task}
 use Rattle.sd_words.specs.declared.job.Task.TheVariants.{Verify, Replay}
@@ -16,5 +17,5 @@ names_of job = record { old = job.old.now; new = job.new.now; task = task_of job
 
 -- from 1 to 64 threads, and from 1 to 20000 branches
 abbrev pub IsInLimits : Task → Type 0
-IsInLimits (Verify workers leaves certificate) = (1 ≤ workers) × (workers ≤ 64) × (1 ≤ leaves) × (leaves ≤ 20000)
+IsInLimits (Verify workers leaves certificate) = IsInRange 1 64 workers × IsInRange 1 20000 leaves
 IsInLimits (Replay name) = ⊤

@@ -1,5 +1,5 @@
 -- What words mean, said without clap.
-use Rattle.std.specs.Prelude.{◌≡◌, ◌≢◌, ◌⊎◌, ◌↔◌, ◌<◌, ◌≤◌, ◌^◌, ◌==◌, ℕ, Bool, true, not, List, [], ◌∷◌, Option, None, Some, codes, decimal}
+use Rattle.std.specs.Prelude.{◌≡◌, ◌≢◌, ◌⊎◌, ◌↔◌, ◌<◌, ◌≤◌, ◌^◌, ◌==◌, ℕ, Bool, true, not, List, [], ◌∷◌, ◌++◌, Option, None, Some, codes, decimal}
 use Rattle.std.specs.List.{AllByRecursion}
 use Rattle.clap.specs.Words.{Text}
 use Rattle.sd_words.specs.Numbers.{number_to}
@@ -38,6 +38,14 @@ PlainCertificate = (old new file : Text) → IsPlain old → IsPlain new → IsP
 abbrev pub PlainReplay : Type 0
 PlainReplay = (old new file : Text) → IsPlain old → IsPlain new → IsPlain file
     → job_of (codes "replay" ∷ old ∷ new ∷ file ∷ []) ≡ replayed old new file
+
+-- `verify -- OLD NEW`, `verify --certificate=FILE -- OLD NEW` and `replay -- OLD NEW CERTIFICATE`, whatever the names
+abbrev pub AnyNames : Type 0
+AnyNames = (old new file : Text)
+    → (job_of (codes "verify" ∷ codes "--" ∷ old ∷ new ∷ []) ≡ compared old new 1 2000 None)
+    × (file ≢ old → file ≢ new → job_of (codes "verify" ∷ (codes "--certificate=" ++ file) ∷ codes "--" ∷ old ∷ new ∷ [])
+    ≡ compared old new 1 2000 (Some file))
+    × (job_of (codes "replay" ∷ codes "--" ∷ old ∷ new ∷ file ∷ []) ≡ replayed old new file)
 
 -- a word is read as a number exactly where it is the number's decimal text, and the number is within the bounds
 abbrev pub NumbersAreSpelled : Type 0

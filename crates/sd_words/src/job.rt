@@ -1,6 +1,7 @@
 //! The job that the words name.
 ghost use Rattle.std.specs.Prelude.{◌≡◌, ◌≤◌, map, option_map, IfOk, IfSome, string_bytes};
 ghost use Rattle.clap.specs.Words.{first_of, rows_of, found_of};
+ghost use Rattle.std.specs.Int.{IsInRange};
 ghost use Rattle.std.specs.Option.{option_copied};
 ghost use Rattle.sd_words.specs.Words.{verify_job, replay_job, job_by, job_of, number_or, is_another_file};
 ghost use Rattle.std.specs.Prelude.{option_and_then};
@@ -40,7 +41,7 @@ pub struct Job<'a> {
 /// The number that an option gives, from 1 to `most`; where the option is absent, another one.
 fn number_or(absent: u32, most: u32, word: Option<&str>) -> Option<u32>
     ensures number { result ≡ number_or absent most (option_copied word.entry) }
-    ensures range { 1 ≤ absent → absent ≤ most → IfSome result (λ n. (1 ≤ n) × (n ≤ most)) }
+    ensures range { 1 ≤ absent → absent ≤ most → IfSome result (IsInRange 1 most) }
 {
     match word {
         None => Some(absent),
@@ -117,7 +118,11 @@ fn replay_words<'a>(alloc: Global, words: &'a [String]) -> Result<Option<Job<'a>
 }
 
 /// The job of words of which this is the first.
-fn job_by<'a>(alloc: Global, command: &str, words: &'a [String]) -> Result<Option<Job<'a>>, NoMemory>
+fn job_by<'a>(
+    alloc: Global,
+    command: &str,
+    words: &'a [String],
+) -> Result<Option<Job<'a>>, NoMemory>
     ensures job { IfOk result (λ found. option_map names_of found ≡ job_by command.now (map string_bytes words.now)) }
     ensures range { IfOk result (λ found. IfSome found (λ job. IsInLimits job.task)) }
 {

@@ -1,5 +1,5 @@
 //! Laws of what words mean.
-ghost use Rattle.sd_words.specs.Laws.{PlainVerify, PlainCertificate, PlainReplay, PlainLeaves, PlainWorkers};
+ghost use Rattle.sd_words.specs.Laws.{PlainVerify, PlainCertificate, PlainReplay, PlainLeaves, PlainWorkers, AnyNames};
 ghost use Rattle.sd_words.specs.Laws.{NumbersAreSpelled, OddWords};
 
 /// `verify OLD NEW`, where neither name begins with a hyphen, compares these two with one thread and 2000 branches.
@@ -15,6 +15,11 @@ pub fn plain_certificate()
 /// `replay OLD NEW CERTIFICATE`, where no name begins with a hyphen, replays that certificate of these two.
 pub fn plain_replay()
     ensures { PlainReplay }
+{}
+
+/// After `--` files of any names are compared or replayed, and after `--certificate=` the certificate has any name.
+pub fn any_names()
+    ensures { AnyNames }
 {}
 
 /// `verify OLD NEW --leaves WORD` compares with so many branches exactly where the word is the number's decimal text,

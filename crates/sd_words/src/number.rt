@@ -1,5 +1,6 @@
 //! Numbers among the words.
-ghost use Rattle.std.specs.Prelude.{◌≡◌, ◌≤◌, IfSome};
+ghost use Rattle.std.specs.Prelude.{◌≡◌, IfSome};
+ghost use Rattle.std.specs.Int.{IsInRange};
 ghost use Rattle.std.specs.Char.{is_ascii_digit};
 ghost use Rattle.std.specs.List.{list_all};
 ghost use Rattle.sd_words.specs.Numbers.{is_numeral, number_to};
@@ -24,7 +25,7 @@ fn is_numeral(word: &str) -> bool
 /// The number that a word spells, from 1 to `most`.
 pub(crate) fn number_to(most: u32, word: &str) -> Option<u32>
     ensures number { result ≡ number_to most word.now }
-    ensures range { IfSome result (λ n. (1 ≤ n) × (n ≤ most)) }
+    ensures range { IfSome result (IsInRange 1 most) }
 {
     if !is_numeral(word) {
         return None;
