@@ -1,5 +1,5 @@
 -- What clap matches on the words of a command.
-use Rattle.std.proofs.Common.{◌≡◌, ◌∙◌, List, [], Option, Some, None, ap, sym, cond}
+use Rattle.std.proofs.Common.{◌≡◌, ◌∙◌, List, [], Some, None, ap, sym, cond}
 use Rattle.clap.specs.Words.{App, Row, Text, fault_of, matches_of}
 use Rattle.clap.specs.Walk.{is_empty}
 use Rattle.sd_words.specs.Commands.{rows_of_words}

@@ -1,16 +1,16 @@
 -- What plain words name.
-use Rattle.std.proofs.Common.{◌≡◌, ◌≢◌, ◌⊎◌, ◌∙◌, ◌≤◌, ℕ, Bool, cond, true, false, not, inl, inr, refl, sym, ap, ap₂, arith, ◌&&◌, List, [], ◌∷◌, codes}
+use Rattle.std.proofs.Common.{◌≡◌, ◌≢◌, ◌⊎◌, ◌∙◌, ℕ, Bool, cond, true, false, not, inl, inr, refl, sym, ap, ap₂, arith, ◌&&◌, List, [], ◌∷◌, codes}
 use Rattle.std.specs.Prelude.{Option, Some, None, option_and_then, option_map, bytes_eq}
 use Rattle.std.proofs.lemmas.Slice.Eq.{bytes_eq-Decides}
 use Rattle.sd_words.specs.Numbers.{number_to}
 use Rattle.sd_words.proofs.NumberLemmas.{number-decimal}
-use Rattle.clap.specs.Words.{App, Row, Rule, Shape, Text, built}
-use Rattle.clap.specs.Walk.{Walk, finished, nothing_held, plain_word, after_step, walk_from, walked}
+use Rattle.clap.specs.Words.{Shape, Text, built}
+use Rattle.clap.specs.Walk.{Walk, nothing_held, plain_word, after_step, walk_from, walked}
 use Rattle.clap.proofs.OnLiterals.{clap_on_literals}
-use Rattle.sd_words.specs.Commands.{verify_command, replay_command, rows_of_words}
-use Rattle.sd_words.specs.Words.{JobNames, Task, verify, replay, is_another_file, verify_job, verify_of, replay_job, job_of}
+use Rattle.sd_words.specs.Commands.{verify_command, replay_command}
+use Rattle.sd_words.specs.Words.{JobNames, is_another_file, verify_job, verify_of, replay_job, job_of}
 use Rattle.sd_words.specs.Laws.{AnyNames, IsPlain, PlainVerify, PlainCertificate, PlainLeaves, PlainReplay, PlainWorkers, compared, replayed}
-use Rattle.sd_words.proofs.PlainWords.{Passes, between, flag-passes, no-more, passed-rows, plain-passes}
+use Rattle.sd_words.proofs.PlainWords.{Passes, flag-passes, no-more, passed-rows, plain-passes}
 
 abbrev verify_shape : Shape
 verify_shape = (built verify_command).top

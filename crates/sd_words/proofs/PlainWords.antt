@@ -1,10 +1,10 @@
 -- What clap makes of words that don't begin with a hyphen.
-use Rattle.std.proofs.Common.{◌≡◌, ◌∙◌, ◌&&◌, ℕ, Bool, cond, true, false, not, refl, sym, ap, ap₂, List, [], ◌∷◌, codes}
-use Rattle.std.specs.Prelude.{◌==◌, Option, Some, None, is_some, fold, bytes_eq, option_and_then}
+use Rattle.std.proofs.Common.{◌≡◌, ◌∙◌, ◌&&◌, ℕ, Bool, cond, true, false, not, refl, ap, ap₂, List, [], ◌∷◌}
+use Rattle.std.specs.Prelude.{◌==◌, Some, None, is_some, fold, bytes_eq, option_and_then}
 use Rattle.std.specs.Option.{option_map_or}
 use Rattle.clap.specs.Lexer.{long_of, long_of_rest, short_of, short_of_rest, strip_byte}
-use Rattle.clap.specs.Words.{App, Row, Rule, Shape, Text, Kinds, built, fault_of, matches_of}
-use Rattle.clap.specs.Walk.{Held, Names, Step, Waiting, idle, option, positional, trailing, Walk, after_step, finished, is_empty, long_or_other, nothing_held, plain_word, settled, short_or_plain, subcommand_met, subcommand_or_other, walk, walk_from, walked, word_met}
+use Rattle.clap.specs.Words.{App, Shape, Text, Kinds, built, fault_of, matches_of}
+use Rattle.clap.specs.Walk.{Held, Step, Waiting, idle, option, positional, trailing, Walk, after_step, finished, is_empty, long_or_other, nothing_held, plain_word, settled, short_or_plain, subcommand_met, subcommand_or_other, walk, walk_from, walked, word_met}
 use Rattle.clap.specs.Kinds.{or_else}
 use Rattle.clap.specs.Faults.{bundle_fault, built_fault, check_fault, defaults_fault, entered_fault, flag_word_fault, other_fault, settle_fault, step_fault, turn_fault, walk_fault}
 use Rattle.clap.specs.Simple.{entered, names_of}

@@ -1,5 +1,6 @@
 -- What words mean, said without clap.
-use Rattle.std.specs.Prelude.{◌≡◌, ◌≢◌, ◌⊎◌, ◌↔◌, ◌<◌, ◌≤◌, ◌^◌, ◌==◌, ℕ, Bool, true, not, List, [], ◌∷◌, ◌++◌, Option, None, Some, codes, decimal}
+use Rattle.std.specs.Prelude.{◌≡◌, ◌≢◌, ◌⊎◌, ◌↔◌, ◌<◌, ◌≤◌, ◌^◌, ◌==◌, ◌++◌, ℕ, Bool, true, not, List, [], ◌∷◌}
+use Rattle.std.specs.Prelude.{Option, None, Some, codes, decimal}
 use Rattle.std.specs.List.{AllByRecursion}
 use Rattle.clap.specs.Words.{Text}
 use Rattle.sd_words.specs.Numbers.{number_to}
@@ -43,7 +44,8 @@ PlainReplay = (old new file : Text) → IsPlain old → IsPlain new → IsPlain 
 abbrev pub AnyNames : Type 0
 AnyNames = (old new file : Text)
     → (job_of (codes "verify" ∷ codes "--" ∷ old ∷ new ∷ []) ≡ compared old new 1 2000 None)
-    × (file ≢ old → file ≢ new → job_of (codes "verify" ∷ (codes "--certificate=" ++ file) ∷ codes "--" ∷ old ∷ new ∷ [])
+    × (file ≢ old → file ≢ new
+    → job_of (codes "verify" ∷ (codes "--certificate=" ++ file) ∷ codes "--" ∷ old ∷ new ∷ [])
     ≡ compared old new 1 2000 (Some file))
     × (job_of (codes "replay" ∷ codes "--" ∷ old ∷ new ∷ file ∷ []) ≡ replayed old new file)
 
@@ -128,7 +130,10 @@ place_lines =
     ∷ (codes "verify" ∷ codes "a" ∷ codes "-b" ∷ [], None)
     ∷ (codes "verify" ∷ codes "a" ∷ [], None)
     ∷ (after_texts ([] ∷ []), None)
-    ∷ (codes "replay" ∷ codes "--" ∷ codes "a" ∷ codes "b" ∷ codes "-c" ∷ [], replayed (codes "a") (codes "b") (codes "-c"))
+    ∷ (
+      codes "replay" ∷ codes "--" ∷ codes "a" ∷ codes "b" ∷ codes "-c" ∷ [],
+      replayed (codes "a") (codes "b") (codes "-c"),
+    )
     ∷ (codes "replay" ∷ codes "a" ∷ codes "a" ∷ codes "a" ∷ [], replayed (codes "a") (codes "a") (codes "a"))
     ∷ (codes "replay" ∷ codes "a" ∷ codes "b" ∷ [], None)
     ∷ (codes "replay" ∷ codes "a" ∷ codes "b" ∷ codes "c" ∷ codes "d" ∷ [], None)

@@ -1,7 +1,8 @@
 //! The simple commands of clap that the jobs are.
 ghost use Rattle.std.specs.Prelude.{◌≡◌, true, false, map, IfOk, IfErr, string_bytes, option_map};
 ghost use Rattle.clap.specs.Words.{rule_of, app_of, rows_of, found_of, is_simple_and_free};
-ghost use Rattle.sd_words.specs.Commands.{positional, option, command_on_texts, verify_command, replay_command, rows_of_words};
+ghost use Rattle.sd_words.specs.Commands.{positional, option, command_on_texts, verify_command, replay_command};
+ghost use Rattle.sd_words.specs.Commands.{rows_of_words};
 
 use clap::error::ErrorKind;
 use clap::{Arg, ArgAction, ArgMatches, Command, Error};
@@ -56,7 +57,8 @@ pub(crate) fn matches_in<'a>(
     words: &'a [String],
 ) -> Result<Option<ArgMatches<'a>>, NoMemory>
     ensures { is_simple_and_free (app_of command.entry) ≡ true → IfOk result (λ found.
-        option_map (λ m. rows_of (found_of m)) found ≡ rows_of_words (app_of command.entry) (map string_bytes words.now)) }
+        option_map (λ m. rows_of (found_of m)) found
+        ≡ rows_of_words (app_of command.entry) (map string_bytes words.now)) }
 {
     match command.try_get_matches_from(words) {
         Ok(matches) => Ok(Some(matches)),

@@ -1,4 +1,4 @@
-use Rattle.std.proofs.Common.{◌≡◌, ◌∙◌, rules, ℕ, Err, Some, subst, sym}
+use Rattle.std.proofs.Common.{◌≡◌, ◌∙◌, rules, Some, subst, sym}
 use Rattle.std.specs.Str.Parse.{ParsesUnsigned}
 use Rattle.sd_words.specs.Numbers.{number_to}
 use Rattle.sd_words.proofs.NumberLemmas.{number-range, number-unread}
