@@ -20,11 +20,10 @@ AreKnown words content =
 abbrev pub IsReported : Outcome → Type 0
 IsReported o = (o.status ≡ 0) ⊎ (o.status ≡ 1)
 
--- Two answers are the same, in the status and in every byte; or both refuse the certificate; or both are reports of a
--- comparison, whose searches may have gone apart.
+-- Two answers are the same, in the status and in every byte; or both are reports of a comparison, whose searches may
+-- have gone apart.
 pub data AreAlike (words : List (List ℕ)) (o p : Outcome) : Type 0 where
   same : o ≡ p → AreAlike words o p
-  refused : o.status ≡ 5 → p.status ≡ 5 → AreAlike words o p
   reports :
       (job : JobNames) (name : Option (List ℕ))
       → job_of words ≡ Some job
@@ -33,7 +32,7 @@ pub data AreAlike (words : List (List ℕ)) (o p : Outcome) : Type 0 where
       → IsReported p
       → AreAlike words o p
 
--- Where the files are known, two answers to the same words are alike: they have the same status, or both are reports.
+-- Where the files are known, two answers to the same words are alike: they are the same, or both are reports.
 abbrev pub OneAnswer : Type 0
 OneAnswer =
     (words : List (List ℕ)) (content : List ℕ → Option (List ℕ)) (o p : Outcome) → AreKnown words content

@@ -3,12 +3,13 @@ ghost use Rattle.sd_run.specs.ComparedPrograms.{ComparedIsExact};
 ghost use Rattle.sd_run.specs.OneAnswer.{OneAnswer};
 ghost use Rattle.sd_run.specs.PlainVerdicts.{VerdictsArePlain};
 
-/// Where the files are known, words have one answer: the same status and the same bytes, or two refusals of the
-/// certificate, or two reports of a comparison.
+/// Where the files are known, words have one answer: the same status and the same bytes, or two reports of a
+/// comparison.
 pub fn one_answer()
     ensures { OneAnswer }
 {
     sd_cert::laws::one_table();
+    sd_cert::laws::one_fault();
 }
 
 /// The programs that are compared are those that declare globals, procedures and implementations alone, over truth
