@@ -17,7 +17,7 @@ use Rattle.sd_cert.specs.OneFault.{HasOneFault}
 use Rattle.sd_run.specs.declared.text.TextRefusal.{TextRefusal}
 use Rattle.sd_run.specs.declared.text.TextRefusal.TheVariants.{Reading, Typing, NotYet}
 use Rattle.sd_run.specs.declared.verdict.PairVerdict.{PairVerdict}
-use Rattle.sd_run.specs.Words.{Task, JobNames, verify, replay, job_of}
+use Rattle.sd_words.specs.Words.{Task, JobNames, verify, replay, job_of}
 use Rattle.sd_run.specs.declared.verdict.Otherwise.{Otherwise}
 use Rattle.sd_run.specs.declared.verdict.Otherwise.TheVariants.{Unproved}
 use Rattle.sd_run.specs.Report.{usage_text, is_safe, report}
@@ -115,7 +115,7 @@ module _ (one_table : ShowsOneTable) (one_fault : HasOneFault) (words : List (Li
 
   module _ (content : List ℕ → Option (List ℕ)) (job : JobNames) (named : job_of words ≡ Some job) where
     task_alike : (task : Task) → job.task ≡ task → (t : Texts) → IsCertificateKnown task content → IsTaskReply task content t o → IsTaskReply task content t p → AreAlike words o p
-    task_alike (verify name) task t known a b = reports job name named task (zero_or_one o a.is_report.status) (zero_or_one p b.is_report.status)
+    task_alike (verify workers leaves name) task t known a b = reports job workers leaves name named task (zero_or_one o a.is_report.status) (zero_or_one p b.is_report.status)
     task_alike (replay name) task t known a b = same (replies_same (content name) t known a b)
 
     texts_alike : (t : Texts) → IsCertificateKnown job.task content → IsTextsReply job.task content t o → IsTextsReply job.task content t p → AreAlike words o p
@@ -167,7 +167,7 @@ module _ (words : List (List ℕ)) (content : List ℕ → Option (List ℕ)) wh
   staged o (old_refused job r named a is) = inr (job, named, inl (r, a, is))
   staged o (new_refused job P r named accepted a is) = inr (job, named, inr (P, accepted, inl (r, a, is)))
   staged o (clashing job t r named h clash is) = rows_read o job t named h (inl (r, clash, is))
-  staged o (compared job t name named task m r) = task_row o job t (verify name) named task m r
+  staged o (compared job t workers leaves name named task m r) = task_row o job t (verify workers leaves name) named task m r
   staged o (too_long job t name named task m long is) = task_row o job t (replay name) named task m (inl (long, is))
   staged o (certificate_refused job t name bytes e named task m holds short r is) = task_row o job t (replay name) named task m (inr (bytes, holds, short, inr (e, r, is)))
   staged o (replayed job t name bytes named task m holds short r) = task_row o job t (replay name) named task m (inr (bytes, holds, short, inl r))

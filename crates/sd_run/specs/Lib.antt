@@ -1,5 +1,3 @@
-pub mod Words
-pub mod Jobs
 pub mod Texts
 pub mod Report
 pub mod Compared

@@ -48,15 +48,12 @@ IsCertified t live None None = Unit {0}
 IsCertified t live (Some name) (Some file) = (file.0 ≡ name) × Accepts (programs_of t) (digests_of t) file.1 live
 IsCertified t live _ _ = ⊥
 
--- how many cubes a search for a proof may close
-abbrev pub default_leaves : ℕ
-default_leaves = 2000
-
--- Two texts were compared: each live candidate has a proof, and each other one died lawfully.
-pub record IsComparison (name : Option (List ℕ)) (t : Texts) (o : Outcome) : Type 0 where
+-- Two texts were compared, by searches that may close so many cubes: each live candidate has a proof, and each other
+-- one died lawfully.
+pub record IsComparison (leaves : ℕ) (name : Option (List ℕ)) (t : Texts) (o : Outcome) : Type 0 where
   pub live : List Bool
   pub proofs : List Proved
-  pub settled : IsSettled default_leaves (programs_of t) live o.deaths proofs
+  pub settled : IsSettled leaves (programs_of t) live o.deaths proofs
   pub is_report : IsReport Unknown t live o
   pub certified : IsCertified t live name o.certificate
 

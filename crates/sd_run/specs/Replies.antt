@@ -18,7 +18,7 @@ use Rattle.sd_run.specs.declared.reply.Report.{Report}
 use Rattle.sd_run.specs.declared.reply.Reply.{Reply}
 use Rattle.sd_run.specs.declared.matching.Matched.{Matched}
 use Rattle.sd_run.specs.Texts.{Holds, Texts, programs_of, clash_of, digests_of}
-use Rattle.sd_run.specs.Words.{Task, verify, replay}
+use Rattle.sd_words.specs.Words.{Task, verify, replay}
 use Rattle.sd_run.specs.Outcome.{Outcome, message, IsComparison, IsReplay, IsRefused}
 use Rattle.sd_run.specs.Report.{certificate_size}
 use Rattle.sd_run.specs.MatchErrors.{match_error}
@@ -95,7 +95,7 @@ IsReplayReply known t o =
 
 -- what a task on two texts comes to
 abbrev pub IsTaskReply : Task → (List ℕ → Option (List ℕ)) → Texts → Outcome → Type 0
-IsTaskReply (verify name) content t o = IsComparison name t o
+IsTaskReply (verify workers leaves name) content t o = IsComparison leaves name t o
 IsTaskReply (replay name) content t o = IsReplayReply (content name) t o
 
 -- the texts clash, or they were judged

@@ -1,10 +1,10 @@
 use Rattle.std.proofs.Common.{◌∙◌, ap, Err}
-use Rattle.sd_run.specs.Jobs.{names_of}
+use Rattle.sd_words.specs.Jobs.{names_of}
 use Rattle.sd_run.specs.Outcome.{message}
 use Rattle.sd_run.specs.Replies.{texts_of, outcome_of}
 use Rattle.sd_run.specs.Answer.{no_job, old_rose, new_rose, certificate_rose}
 use Rattle.sd_run.proofs.Certified.{ok-map}
-use Rattle.sd_run.proofs.Rows.{are_read, known_accepted, old_row, new_row, texts_row, rose_since, certificate_since}
+use Rattle.sd_run.proofs.Rows.{are_read, known_accepted, old_row, new_row, texts_row, rose_since, certificate_since, named_by, unnamed_by}
 use Rattle.sd_run.proofs.answering.reply_to.Goals as goal
 
 pub returns-in_default-clause-answer : goal.returns-in_default-clause-answer
