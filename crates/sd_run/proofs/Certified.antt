@@ -22,7 +22,7 @@ use Rattle.sd_run.specs.Replies.{IsMade}
 pub made-certified : (t : Texts) (proofs : List Proved) (live : List Bool) (name : Option (List ℕ)) (made : Option (List ℕ × List ℕ))
     → length live ≡ length (claims_in (programs_of t)) → IsInductive (programs_of t) live proofs → IsMade t (programs_of t) proofs name made → IsCertified t live name made
 made-certified t proofs live None None size inductive m = tt
-made-certified t proofs live (Some name) (Some file) size inductive m = (m.0, written-accepted (programs_of t) (digests_of t) proofs file.1 live m.1 size inductive)
+made-certified t proofs live (Some name) (Some file) size inductive m = (m.0, written-accepted (programs_of t) (digests_of t) proofs file.1 live m.1 size inductive, m.2)
 made-certified t proofs live None (Some file) size inductive m = absurd m
 made-certified t proofs live (Some name) None size inductive m = absurd m
 

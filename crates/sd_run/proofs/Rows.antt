@@ -74,7 +74,7 @@ module _ (words : List (List ℕ)) (content : List ℕ → Option (List ℕ)) (o
   row_known (certificate_refused job t name bytes e a b c d l r is) = known_by o.status 5 (status_is o 5 _ is) (5, omega arith, refl)
   row_known (replayed job t name bytes a b c d l r) = known_by o.status (status_of o.pairs) r.is_report.status (zero_or_one (list_all (λ v. is_safe v.state) o.pairs))
 
-  same_job : (a b : JobNames) → job_of words ≡ Some a → job_of words ≡ Some b → a ≡ b
+  pub same_job : (a b : JobNames) → job_of words ≡ Some a → job_of words ≡ Some b → a ≡ b
   same_job a b one other = let e : ◌≡◌ {A = Option JobNames} (Some a) (Some b) = sym one ∙ other in cc
 
   -- what holds of no pairs, and of the pairs of any two texts that are compared or have a certificate, holds of each row for the

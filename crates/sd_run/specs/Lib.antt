@@ -12,4 +12,5 @@ pub mod Outcome
 pub mod Replies
 pub mod Answer
 pub mod OneAnswer
+pub mod Replayed
 pub mod Writing

@@ -62,10 +62,11 @@ outcome_with report deaths certificate =
       certificate = certificate;
     }
 
--- the certificate is made where a file is named for it
+-- the certificate is made where a file is named for it, and doesn't pass the limit of a replay
 abbrev pub IsMade : Texts → PairedPrograms → List Proved → Option (List ℕ) → Option (List ℕ × List ℕ) → Type 0
 IsMade t work proofs None None = Unit {0}
-IsMade t work proofs (Some name) (Some file) = (file.0 ≡ name) × IsWritten work (digests_of t) proofs file.1
+IsMade t work proofs (Some name) (Some file) =
+    (file.0 ≡ name) × IsWritten work (digests_of t) proofs file.1 × (length file.1 ≤ 9223372036854775807)
 IsMade t work proofs _ _ = ⊥
 
 -- what is answered where the text that this word names has a fault
