@@ -15,7 +15,7 @@ use Rattle.sd_run.specs.declared.verdict.PairVerdict.{PairVerdict}
 use Rattle.sd_run.specs.declared.verdict.VerdictState.{VerdictState}
 use Rattle.sd_run.specs.declared.verdict.VerdictState.TheVariants.{Safe}
 use Rattle.sd_run.specs.declared.verdict.Otherwise.TheVariants.{Unknown, Unproved}
-use Rattle.sd_run.specs.Words.{Task, JobNames, verify, replay, job_of}
+use Rattle.sd_words.specs.Words.{Task, JobNames, verify, replay, job_of}
 use Rattle.sd_run.specs.Texts.{Texts, programs_of, digests_of, AreRead, AreMatched}
 use Rattle.sd_run.specs.Verdicts.{flag_live, state_of, verdict_by, verdict_of, verdicts_of}
 use Rattle.sd_run.specs.Report.{is_safe, report}
@@ -152,14 +152,15 @@ confirms t live o r =
 record IsCertifiedReport (content : List ℕ → Option (List ℕ)) (job : JobNames) (file : List ℕ) (o : Outcome) : Type 0 where
   texts : Texts
   matched : AreMatched content job texts
-  comparison : IsComparison (Some file) texts o
+  leaves : ℕ
+  comparison : IsComparison leaves (Some file) texts o
 
 not_reported : (o : Outcome) (code : ℕ) (text : List ℕ) → o ≡ message code text → 1 < code → IsReported o → ⊥
 not_reported o code text is more r =
     let e : o.status ≡ code = ap (λ (p : Outcome). p.status) is in
     elim r [ inl zero ↦ omega (arith, e, zero, more) | inr one ↦ omega (arith, e, one, more) ]
 
-module _ (words : List (List ℕ)) (content : List ℕ → Option (List ℕ)) (o : Outcome) (job : JobNames) (file : List ℕ) (named : job_of words ≡ Some job) (task : job.task ≡ verify (Some file)) (r : IsReported o) where
+module _ (words : List (List ℕ)) (content : List ℕ → Option (List ℕ)) (o : Outcome) (job : JobNames) (workers leaves : ℕ) (file : List ℕ) (named : job_of words ≡ Some job) (task : job.task ≡ verify workers leaves (Some file)) (r : IsReported o) where
   no_message : (code : ℕ) (text : List ℕ) → o ≡ message code text → 1 < code → IsCertifiedReport content job file o
   no_message code text is more = absurd (not_reported o code text is more r)
 
@@ -172,19 +173,20 @@ module _ (words : List (List ℕ)) (content : List ℕ → Option (List ℕ)) (o
   certified_report (old_refused j x n a is) = no_refusal _ _ is (refusal_status_is x)
   certified_report (new_refused j P x n accepted a is) = no_refusal _ _ is (refusal_status_is x)
   certified_report (clashing j t x n h clash is) = no_message 4 _ is (omega arith)
-  certified_report (compared j t name n k m c) =
+  certified_report (compared j t ws ls name n k m c) =
       let s : j ≡ job = same_job words content o j job n named in
-      let e : ◌≡◌ {A = Task} (verify name) (verify (Some file)) = sym k ∙ (ap (λ (x : JobNames). x.task) s ∙ task) in
+      let e : ◌≡◌ {A = Task} (verify ws ls name) (verify workers leaves (Some file)) = sym k ∙ (ap (λ (x : JobNames). x.task) s ∙ task) in
       record {
         texts = t;
         matched = subst (λ (x : JobNames). AreMatched content x t) s m;
-        comparison = subst (λ (x : Option (List ℕ)). IsComparison x t o) (cc) c;
+        leaves = ls;
+        comparison = subst (λ (x : Option (List ℕ)). IsComparison ls x t o) (cc) c;
       }
   certified_report (too_long j t name n k m long is) = no_message 9 _ is (omega arith)
   certified_report (certificate_refused j t name bytes e n k m holds short f is) = no_message 5 _ is (omega arith)
   certified_report (replayed j t name bytes n k m holds short c) =
       let s : j ≡ job = same_job words content o j job n named in
-      let e : ◌≡◌ {A = Task} (replay name) (verify (Some file)) = sym k ∙ (ap (λ (x : JobNames). x.task) s ∙ task) in
+      let e : ◌≡◌ {A = Task} (replay name) (verify workers leaves (Some file)) = sym k ∙ (ap (λ (x : JobNames). x.task) s ∙ task) in
       absurd (cc)
 
 -- a certificate that is there
@@ -208,10 +210,9 @@ certificate_there t live file (Some made) h = record {
 -- a report of a replay is the only answer
 only_answer : (words : List (List ℕ)) (o p : Outcome) (job : JobNames) (name : List ℕ) → job_of words ≡ Some job → job.task ≡ replay name → IsReported o → AreAlike words o p → o ≡ p
 only_answer words o p job name named task r (same e) = e
-only_answer words o p job name named task r (refused five also) = absurd (elim r [ inl e ↦ omega (arith, e, five) | inr e ↦ omega (arith, e, five) ])
-only_answer words o p job name named task r (reports j n m k a b) =
+only_answer words o p job name named task r (reports j ws ls n m k a b) =
     let s : j ≡ job = same_job words (λ _. None) o j job m named in
-    let e : ◌≡◌ {A = Task} (verify n) (replay name) = sym k ∙ (ap (λ (x : JobNames). x.task) s ∙ task) in
+    let e : ◌≡◌ {A = Task} (verify ws ls n) (replay name) = sym k ∙ (ap (λ (x : JobNames). x.task) s ∙ task) in
     absurd (cc)
 
 module _ (one_answer : OneAnswer) (first : List ℕ → Option (List ℕ)) (before : JobNames) (t : Texts) (old_bytes new_bytes : List ℕ) (old_known : first before.old ≡ Some old_bytes) (new_known : first before.new ≡ Some new_bytes) (matched : AreMatched first before t) where
@@ -252,9 +253,9 @@ module _ (one_answer : OneAnswer) (first : List ℕ → Option (List ℕ)) (befo
         )
 
 pub written_is_replayed : OneAnswer → WrittenIsReplayed
-written_is_replayed one_answer words content o old new file named (old_bytes, old_known) (new_bytes, new_known) answer reported =
-    let job : JobNames = record { old = old; new = new; task = verify (Some file) } in
-    let c = certified_report words content o job file named refl reported answer in
+written_is_replayed one_answer words content o old new file workers leaves named (old_bytes, old_known) (new_bytes, new_known) answer reported =
+    let job : JobNames = record { old = old; new = new; task = verify workers leaves (Some file) } in
+    let c = certified_report words content o job workers leaves file named refl reported answer in
     let r = c.comparison in
     let there = certificate_there c.texts r.live file o.certificate r.certified in
     record {

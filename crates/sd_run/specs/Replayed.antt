@@ -3,7 +3,7 @@ use Rattle.std.specs.Prelude.{◌≡◌, ◌↔◌, ℕ, List, [], ◌∷◌, Op
 use Rattle.sd_base.specs.Value.{Text}
 use Rattle.sd_run.specs.declared.verdict.PairVerdict.{PairVerdict}
 use Rattle.sd_run.specs.declared.verdict.VerdictState.TheVariants.{Safe, Unknown, Unproved, Signature, UnmatchedRecursion}
-use Rattle.sd_run.specs.Words.{Task, verify, replay, job_of}
+use Rattle.sd_words.specs.Words.{Task, verify, replay, job_of}
 use Rattle.sd_run.specs.Outcome.{Outcome}
 use Rattle.sd_run.specs.Answer.{Answer}
 use Rattle.sd_run.specs.OneAnswer.{IsKnown, IsReported}
@@ -52,7 +52,8 @@ pub record IsConfirmed (known_old known_new : Option (List ℕ)) (file : List �
 abbrev pub WrittenIsReplayed : Type 0
 WrittenIsReplayed =
     (words : List (List ℕ)) (content : List ℕ → Option (List ℕ)) (o : Outcome) (old new file : List ℕ)
-    → NamesTask words old new (verify (Some file))
+    (workers leaves : ℕ)
+    → NamesTask words old new (verify workers leaves (Some file))
     → IsKnown (content old)
     → IsKnown (content new)
     → Answer words content o
