@@ -21,7 +21,7 @@ use Rattle.sd_run.specs.Verdicts.{flag_live, state_of, verdict_by, verdict_of, v
 use Rattle.sd_run.specs.Report.{is_safe, report}
 use Rattle.sd_run.specs.Outcome.{Outcome, message, status_of, IsReport, IsCertified, IsComparison, IsReplay}
 use Rattle.sd_run.specs.Answer.{Answer, no_job, old_refused, new_refused, clashing, compared, too_long, certificate_refused, replayed}
-use Rattle.sd_run.specs.OneAnswer.{IsReported, IsCertificateKnown, AreKnown, AreAlike, same, refused, reports, OneAnswer}
+use Rattle.sd_run.specs.OneAnswer.{IsReported, IsCertificateKnown, AreKnown, AreAlike, same, reports, OneAnswer}
 use Rattle.sd_run.specs.Replayed.{NamesTask, AgreeOnPair, Agree, Confirms, IsConfirmed, WrittenIsReplayed}
 use Rattle.sd_run.proofs.Rows.{refusal_status_is, same_job}
 
