@@ -16,5 +16,6 @@ pub mod HeaderLemmas
 pub mod TableLemmas
 pub mod ReplayLemmas
 pub mod ReplayFaultLemmas
+pub mod OneFaultLemmas
 pub mod SpellLemmas
 pub mod WrittenLemmas

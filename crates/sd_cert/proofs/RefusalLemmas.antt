@@ -1,7 +1,7 @@
 -- No line of a certificate is refused just where it fits the digests and the pairs.
 use Rattle.std.proofs.Common.{◌≡◌, ℕ, zero, suc, ◌+◌, Bool, true, false, List, [], ◌∷◌, ◌++◌, map, length, drop, refl, sym, ap, ◌∙◌, subst, arith, append_assoc, eqb-true, eq-eqb, leb-true, le-leb, ltb-true, lt-ltb, add-one}
 use Rattle.std.proofs.lemmas.Bool.{and_parts}
-use Rattle.std.specs.Prelude.{Option, Some, None, slice_get, ◌&&◌, nat_lt, nat_le, min}
+use Rattle.std.specs.Prelude.{Option, Some, None, slice_get, nat_lt, nat_le, min}
 use Rattle.std.specs.List.{flat_map}
 use Rattle.std.specs.Cmp.Derive.{both_true}
 use Rattle.std.proofs.lemmas.Slice.Eq.{slice_eq-Decides}

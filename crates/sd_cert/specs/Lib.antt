@@ -15,4 +15,5 @@ pub mod BadSteps
 pub mod Tables
 pub mod ReplayFaults
 pub mod OneTable
+pub mod OneFault
 pub mod Written

@@ -14,7 +14,7 @@ use Rattle.sd_cert.specs.Accepts.{Ascend, Accepts}
 use Rattle.sd_cert.specs.ReplayFaults.{IsReplayFault}
 use Rattle.sd_run.specs.declared.verdict.Otherwise.TheVariants.{Unknown, Unproved}
 use Rattle.sd_run.specs.Texts.{Texts, programs_of, digests_of}
-use Rattle.sd_run.specs.Outcome.{Outcome, IsReport, IsCertified, IsComparison, IsReplay, IsRefused, default_leaves}
+use Rattle.sd_run.specs.Outcome.{Outcome, IsReport, IsCertified, IsComparison, IsReplay, IsRefused}
 use Rattle.sd_run.specs.Replies.{IsMade}
 
 -- ---- what is made shows the table
@@ -22,22 +22,22 @@ use Rattle.sd_run.specs.Replies.{IsMade}
 pub made-certified : (t : Texts) (proofs : List Proved) (live : List Bool) (name : Option (List ℕ)) (made : Option (List ℕ × List ℕ))
     → length live ≡ length (claims_in (programs_of t)) → IsInductive (programs_of t) live proofs → IsMade t (programs_of t) proofs name made → IsCertified t live name made
 made-certified t proofs live None None size inductive m = tt
-made-certified t proofs live (Some name) (Some file) size inductive m = (m.0, written-accepted (programs_of t) (digests_of t) proofs file.1 live m.1 size inductive)
+made-certified t proofs live (Some name) (Some file) size inductive m = (m.0, written-accepted (programs_of t) (digests_of t) proofs file.1 live m.1 size inductive, m.2)
 made-certified t proofs live None (Some file) size inductive m = absurd m
 made-certified t proofs live (Some name) None size inductive m = absurd m
 
 -- ---- comparisons
 
 -- the proofs of a settled table ascend
-pub settled-ascends : (work : PairedPrograms) (live : List Bool) (deaths : List Death) (proofs slice : List Proved) → IsSettled default_leaves work live deaths proofs → slice ≡ proofs → Ascend 0 (length (claims_in work)) (proved_of slice)
-settled-ascends work live deaths proofs slice s is =
+pub settled-ascends : (leaves : ℕ) (work : PairedPrograms) (live : List Bool) (deaths : List Death) (proofs slice : List Proved) → IsSettled leaves work live deaths proofs → slice ≡ proofs → Ascend 0 (length (claims_in work)) (proved_of slice)
+settled-ascends leaves work live deaths proofs slice s is =
     subst (λ (ps : List Proved). Ascend 0 (length (claims_in work)) (proved_of ps)) (sym is)
     (inductive-ascends (queries_of work live) (length (claims_in work)) live proofs s.size s.inductive)
 
-pub comparison-of : (t : Texts) (work : PairedPrograms) (name : Option (List ℕ)) (o : Outcome) (live : List Bool) (proofs slice : List Proved) → work ≡ programs_of t → IsSettled default_leaves work live o.deaths proofs → slice ≡ proofs
-    → IsMade t work slice name o.certificate → IsReport Unknown t live o → IsComparison name t o
-comparison-of t work name o live proofs slice is settled same made is_report =
-    let s = subst (λ (w : PairedPrograms). IsSettled default_leaves w live o.deaths proofs) is settled in
+pub comparison-of : (leaves : ℕ) (t : Texts) (work : PairedPrograms) (name : Option (List ℕ)) (o : Outcome) (live : List Bool) (proofs slice : List Proved) → work ≡ programs_of t → IsSettled leaves work live o.deaths proofs → slice ≡ proofs
+    → IsMade t work slice name o.certificate → IsReport Unknown t live o → IsComparison leaves name t o
+comparison-of leaves t work name o live proofs slice is settled same made is_report =
+    let s = subst (λ (w : PairedPrograms). IsSettled leaves w live o.deaths proofs) is settled in
     record {
       live = live;
       proofs = proofs;

@@ -30,7 +30,7 @@ use Rattle.sd_run.specs.declared.verdict.Otherwise.TheVariants as otherwise
 use Rattle.sd_run.specs.TextRefusals.{IsAccepted}
 use Rattle.sd_run.specs.Texts.{Texts, programs_of}
 use Rattle.sd_rounds.specs.declared.settle.Death.{Death}
-use Rattle.sd_run.specs.Outcome.{Outcome, IsComparison, IsReplay, default_leaves}
+use Rattle.sd_run.specs.Outcome.{Outcome, IsComparison, IsReplay}
 use Rattle.sd_run.specs.Verdicts.{NoNewFailure, AreNewFailures}
 use Rattle.sd_run.proofs.Settling.{IsOpenAt, dead_open}
 use Rattle.sd_run.proofs.VerdictLemmas.{IsRight, all_right}
@@ -57,12 +57,12 @@ module _ (t : Texts) (old_read : IsAccepted t.old_bytes t.old) (new_read : IsAcc
   failed old new n x at when o =
       open_fails (programs_of t) o.seen n x o.facts o.cube well_formed (propositional_kept t.old old_read.typed old) (propositional_kept t.new new_read.typed new) at when o.query o.«open»
 
-  pub compared_right : (name : Option (List ℕ)) (o : Outcome) → IsComparison name t o → AreRight o.deaths o.pairs
-  compared_right name o c =
+  pub compared_right : (leaves : ℕ) (name : Option (List ℕ)) (o : Outcome) → IsComparison leaves name t o → AreRight o.deaths o.pairs
+  compared_right leaves name o c =
       subst (AreRight o.deaths) (sym c.is_report.verdicts)
       (all_right t.old t.new old_read.typed new_read.typed otherwise.Unknown c.live o.deaths
       (λ n x. live_safe (programs_of t) c.live c.proofs n x well_formed c.settled.inductive)
-      (λ is old new n x at when dead unspent. failed old new n x at when (dead_open default_leaves (programs_of t) c.live o.deaths c.proofs c.settled n (slice_get_within (claims_in (programs_of t)) n x at.at) dead unspent))
+      (λ is old new n x at when dead unspent. failed old new n x at when (dead_open leaves (programs_of t) c.live o.deaths c.proofs c.settled n (slice_get_within (claims_in (programs_of t)) n x at.at) dead unspent))
       c.settled.size)
 
   pub replayed_right : (bytes : List ℕ) (o : Outcome) → IsReplay bytes t o → AreRight o.deaths o.pairs

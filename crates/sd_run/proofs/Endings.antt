@@ -9,7 +9,7 @@ use Rattle.sd_run.specs.declared.running.CertificateFile.{CertificateFile}
 use Rattle.sd_run.specs.declared.running.CertificateFile.TheVariants.{Untouched, NotStarted, Cut, Whole}
 use Rattle.sd_run.specs.declared.text.TextRefusal.{TextRefusal}
 use Rattle.sd_run.specs.TextRefusals.{refusal_status}
-use Rattle.sd_run.specs.Words.{JobNames, verify, job_of}
+use Rattle.sd_words.specs.Words.{JobNames, verify, job_of}
 use Rattle.sd_run.specs.Report.{is_safe}
 use Rattle.sd_run.specs.Texts.{Texts, AreMatched}
 use Rattle.sd_run.specs.Outcome.{Outcome, message, IsCertified}
@@ -46,7 +46,7 @@ module _ (words : List (List ℕ)) (content : List ℕ → Option (List ℕ)) (o
   row_status (old_refused job r a b is) = refusal_row_status o r _ is
   row_status (new_refused job old r a b c is) = refusal_row_status o r _ is
   row_status (clashing job t r a b c is) = message_status o 4 _ is (omega arith)
-  row_status (compared job t name a b c r) = zero_or_one_status (list_all (λ v. is_safe v.state) o.pairs) o.status r.is_report.status
+  row_status (compared job t workers leaves name a b c r) = zero_or_one_status (list_all (λ v. is_safe v.state) o.pairs) o.status r.is_report.status
   row_status (too_long job t name a b c d is) = inr (ap (λ (p : Outcome). p.status) is)
   row_status (certificate_refused job t name bytes e a b c d l r is) = message_status o 5 _ is (omega arith)
   row_status (replayed job t name bytes a b c d l r) = zero_or_one_status (list_all (λ v. is_safe v.state) o.pairs) o.status r.is_report.status
@@ -59,7 +59,9 @@ module _ (words : List (List ℕ)) (content : List ℕ → Option (List ℕ)) (o
   record NamesFile (file : List ℕ × List ℕ) : Type 0 where
     job : JobNames
     named : job_of words ≡ Some job
-    task : job.task ≡ verify (Some file.0)
+    workers : ℕ
+    leaves : ℕ
+    task : job.task ≡ verify workers leaves (Some file.0)
     texts : Texts
     matched : AreMatched content job texts
 
@@ -80,7 +82,7 @@ module _ (words : List (List ℕ)) (content : List ℕ → Option (List ℕ)) (o
   row_file file (old_refused job r a b is) e = absurd (message_file file (refusal_status r) _ is e)
   row_file file (new_refused job old r a b c is) e = absurd (message_file file (refusal_status r) _ is e)
   row_file file (clashing job t r a b c is) e = absurd (message_file file 4 _ is e)
-  row_file file (compared job t name a b c r) e = record { job = job; named = a; task = b ∙ ap verify (certified_file t r.live name o.certificate file r.certified e); texts = t; matched = c }
+  row_file file (compared job t workers leaves name a b c r) e = record { job = job; named = a; workers = workers; leaves = leaves; task = b ∙ ap (verify workers leaves) (certified_file t r.live name o.certificate file r.certified e); texts = t; matched = c }
   row_file file (too_long job t name a b c d is) e = absurd (message_file file 9 _ is e)
   row_file file (certificate_refused job t name bytes x a b c d l r is) e = absurd (message_file file 5 _ is e)
   row_file file (replayed job t name bytes a b c d l r) e = absurd (no_file file o.certificate r.no_certificate e)
@@ -91,7 +93,7 @@ module _ (words : List (List ℕ)) (content : List ℕ → Option (List ℕ)) (o
   file_rose None first before now a e same rose = absurd rose
   file_rose (Some file) first before now a e same rose =
       let n = row_file file a e in
-      record { job = n.job; named = n.named; name = file.0; task = n.task; texts = n.texts; matched = n.matched; rose = subst (λ (k : ℕ). Rose k (now file.0)) (same file.0) rose }
+      record { job = n.job; named = n.named; workers = n.workers; leaves = n.leaves; name = file.0; task = n.task; texts = n.texts; matched = n.matched; rose = subst (λ (k : ℕ). Rose k (now file.0)) (same file.0) rose }
 
 -- ---- what the end of a run tells
 

@@ -8,6 +8,7 @@ pub mod Comparison
 pub mod Certified
 pub mod Rows
 pub mod OneAnswerLemmas
+pub mod ReplayedLemmas
 pub mod Endings
 pub mod ComparedTrees
 pub mod Booleans

@@ -13,10 +13,11 @@ use Rattle.sd_types.specs.Declarations.{first_broken}
 use Rattle.sd_match.specs.Refusals.{Refusal}
 use Rattle.sd_cert.specs.declared.fault.CertError.{CertError}
 use Rattle.sd_cert.specs.OneTable.{ShowsOneTable}
+use Rattle.sd_cert.specs.OneFault.{HasOneFault}
 use Rattle.sd_run.specs.declared.text.TextRefusal.{TextRefusal}
 use Rattle.sd_run.specs.declared.text.TextRefusal.TheVariants.{Reading, Typing, NotYet}
 use Rattle.sd_run.specs.declared.verdict.PairVerdict.{PairVerdict}
-use Rattle.sd_run.specs.Words.{Task, JobNames, verify, replay, job_of}
+use Rattle.sd_words.specs.Words.{Task, JobNames, verify, replay, job_of}
 use Rattle.sd_run.specs.declared.verdict.Otherwise.{Otherwise}
 use Rattle.sd_run.specs.declared.verdict.Otherwise.TheVariants.{Unproved}
 use Rattle.sd_run.specs.Report.{usage_text, is_safe, report}
@@ -24,9 +25,9 @@ use Rattle.sd_run.specs.MatchErrors.{match_error}
 use Rattle.sd_run.specs.Texts.{Texts, programs_of, AreRead, AreMatched, digests_of}
 use Rattle.sd_run.specs.TextRefusals.{IsAccepted, IsTextRefusal, refusal_status, text_error}
 use Rattle.sd_run.specs.Outcome.{Outcome, message, status_of, IsReport, IsReplay, IsRefused}
-use Rattle.sd_run.specs.Replies.{IsJudged, IsReplayReply, IsTaskReply, IsTextsReply}
+use Rattle.sd_run.specs.Replies.{refusal, IsJudged, IsReplayReply, IsTaskReply, IsTextsReply}
 use Rattle.sd_run.specs.Answer.{Answer, no_job, old_refused, new_refused, clashing, compared, too_long, certificate_refused, replayed}
-use Rattle.sd_run.specs.OneAnswer.{IsKnown, IsCertificateKnown, AreKnown, IsReported, AreAlike, same, refused, reports, OneAnswer}
+use Rattle.sd_run.specs.OneAnswer.{IsKnown, IsCertificateKnown, AreKnown, IsReported, AreAlike, same, reports, OneAnswer}
 use Rattle.sd_run.proofs.Comparison.{one_accepted}
 use Rattle.sd_run.proofs.Rows.{known_accepted}
 use Rattle.sd_run.specs.ComparedPrograms.{IsComparedProgram}
@@ -79,9 +80,6 @@ zero_or_one o is = go (list_all (λ (v : PairVerdict). is_safe v.state) o.pairs)
     go true e = inl e
     go false e = inr e
 
-status_is : (o : Outcome) (code : ℕ) (text : List ℕ) → o ≡ message code text → o.status ≡ code
-status_is o code text e = ap (λ (p : Outcome). p.status) e
-
 -- two reports from one table
 report_same : (w : Otherwise) (t : Texts) (live : List Bool) (o p : Outcome) → IsReport w t live o → IsReport w t live p → o.deaths ≡ p.deaths → o.certificate ≡ p.certificate → o ≡ p
 report_same w t live o p a b deaths certificate =
@@ -91,29 +89,34 @@ report_same w t live o p a b deaths certificate =
     let text = a.text ∙ (ap (report (programs_of t).old (programs_of t).new) pairs ∙ sym b.text) in
     λ i. record { status = status i; text = text i; pairs = pairs i; table = table i; deaths = deaths i; certificate = certificate i }
 
-module _ (one_table : ShowsOneTable) (words : List (List ℕ)) (o p : Outcome) where
+module _ (one_table : ShowsOneTable) (one_fault : HasOneFault) (words : List (List ℕ)) (o p : Outcome) where
   replay_same : (bytes : List ℕ) (t : Texts) → IsReplay bytes t o → IsReplay bytes t p → o ≡ p
   replay_same bytes t r s =
       let live = one_table (programs_of t) (digests_of t) bytes r.live s.live r.accepted s.accepted in
       report_same Unproved t s.live o p (subst (λ (l : List Bool). IsReport Unproved t l o) live r.is_report) s.is_report (r.no_death ∙ sym s.no_death) (r.no_certificate ∙ sym s.no_certificate)
 
-  judged_alike : (bytes : List ℕ) (t : Texts) → IsJudged bytes t o → IsJudged bytes t p → AreAlike words o p
-  judged_alike bytes t (inl r) (inl s) = same (replay_same bytes t r s)
-  judged_alike bytes t (inl r) (inr (e, f, is)) = absurd (not_refused bytes t o e r f)
-  judged_alike bytes t (inr (e, f, is)) (inl r) = absurd (not_refused bytes t p e r f)
-  judged_alike bytes t (inr (e, f, is)) (inr (d, g, js)) = refused (status_is o 5 _ is) (status_is p 5 _ js)
+  refusal_same : (bytes : List ℕ) (t : Texts) (e f : CertError) → IsRefused bytes t e → IsRefused bytes t f → o ≡ refusal e → p ≡ refusal f → o ≡ p
+  refusal_same bytes t e f r s is js =
+      let same = one_fault (programs_of t) (digests_of t) bytes e f (record { fault = r.fault; named = r.named }) (record { fault = s.fault; named = s.named }) in
+      is ∙ (ap (λ (x : CertError). refusal x) same ∙ sym js)
 
-  replay_alike : (known : Option (List ℕ)) (t : Texts) → IsKnown known → IsReplayReply known t o → IsReplayReply known t p → AreAlike words o p
-  replay_alike known t (bytes, k) (inl (long, is)) (inl (long', js)) = same (is ∙ sym js)
-  replay_alike known t (bytes, k) (inl (long, is)) (inr (b, holds, short, judged)) = absurd (omega (arith, long bytes k, short, ap length (holds bytes k)))
-  replay_alike known t (bytes, k) (inr (b, holds, short, judged)) (inl (long, is)) = absurd (omega (arith, long bytes k, short, ap length (holds bytes k)))
-  replay_alike known t (bytes, k) (inr (b, holds, short, judged)) (inr (c, holds', short', judged')) =
-      judged_alike bytes t (subst (λ (x : List ℕ). IsJudged x t o) (sym (holds bytes k)) judged) (subst (λ (x : List ℕ). IsJudged x t p) (sym (holds' bytes k)) judged')
+  judged_same : (bytes : List ℕ) (t : Texts) → IsJudged bytes t o → IsJudged bytes t p → o ≡ p
+  judged_same bytes t (inl r) (inl s) = replay_same bytes t r s
+  judged_same bytes t (inl r) (inr (e, f, is)) = absurd (not_refused bytes t o e r f)
+  judged_same bytes t (inr (e, f, is)) (inl r) = absurd (not_refused bytes t p e r f)
+  judged_same bytes t (inr (e, f, is)) (inr (d, g, js)) = refusal_same bytes t e d f g is js
+
+  replies_same : (known : Option (List ℕ)) (t : Texts) → IsKnown known → IsReplayReply known t o → IsReplayReply known t p → o ≡ p
+  replies_same known t (bytes, k) (inl (long, is)) (inl (long', js)) = is ∙ sym js
+  replies_same known t (bytes, k) (inl (long, is)) (inr (b, holds, short, judged)) = absurd (omega (arith, long bytes k, short, ap length (holds bytes k)))
+  replies_same known t (bytes, k) (inr (b, holds, short, judged)) (inl (long, is)) = absurd (omega (arith, long bytes k, short, ap length (holds bytes k)))
+  replies_same known t (bytes, k) (inr (b, holds, short, judged)) (inr (c, holds', short', judged')) =
+      judged_same bytes t (subst (λ (x : List ℕ). IsJudged x t o) (sym (holds bytes k)) judged) (subst (λ (x : List ℕ). IsJudged x t p) (sym (holds' bytes k)) judged')
 
   module _ (content : List ℕ → Option (List ℕ)) (job : JobNames) (named : job_of words ≡ Some job) where
     task_alike : (task : Task) → job.task ≡ task → (t : Texts) → IsCertificateKnown task content → IsTaskReply task content t o → IsTaskReply task content t p → AreAlike words o p
-    task_alike (verify name) task t known a b = reports job name named task (zero_or_one o a.is_report.status) (zero_or_one p b.is_report.status)
-    task_alike (replay name) task t known a b = replay_alike (content name) t known a b
+    task_alike (verify workers leaves name) task t known a b = reports job workers leaves name named task (zero_or_one o a.is_report.status) (zero_or_one p b.is_report.status)
+    task_alike (replay name) task t known a b = same (replies_same (content name) t known a b)
 
     texts_alike : (t : Texts) → IsCertificateKnown job.task content → IsTextsReply job.task content t o → IsTextsReply job.task content t p → AreAlike words o p
     texts_alike t known (inl (r, clash, is)) (inl (s, clash', js)) = same (is ∙ (ap (λ (x : Refusal). message 4 (match_error x)) (same_Some r s (sym clash ∙ clash')) ∙ sym js))
@@ -164,18 +167,18 @@ module _ (words : List (List ℕ)) (content : List ℕ → Option (List ℕ)) wh
   staged o (old_refused job r named a is) = inr (job, named, inl (r, a, is))
   staged o (new_refused job P r named accepted a is) = inr (job, named, inr (P, accepted, inl (r, a, is)))
   staged o (clashing job t r named h clash is) = rows_read o job t named h (inl (r, clash, is))
-  staged o (compared job t name named task m r) = task_row o job t (verify name) named task m r
+  staged o (compared job t workers leaves name named task m r) = task_row o job t (verify workers leaves name) named task m r
   staged o (too_long job t name named task m long is) = task_row o job t (replay name) named task m (inl (long, is))
   staged o (certificate_refused job t name bytes e named task m holds short r is) = task_row o job t (replay name) named task m (inr (bytes, holds, short, inr (e, r, is)))
   staged o (replayed job t name bytes named task m holds short r) = task_row o job t (replay name) named task m (inr (bytes, holds, short, inl r))
 
-  module _ (one_table : ShowsOneTable) (o p : Outcome) where
+  module _ (one_table : ShowsOneTable) (one_fault : HasOneFault) (o p : Outcome) where
     new_alike : (job : JobNames) → job_of words ≡ Some job → IsKnown (content job.old) → IsKnown (content job.new) → IsCertificateKnown job.task content → AfterNew job o → AfterNew job p → AreAlike words o p
     new_alike job named old new c (inl a) (inl b) = refused_alike words (content job.new) (codes "new") o p new a b
     new_alike job named old (bytes, k) c (inl (r, a, is)) (inr (t, h, b)) = absurd (not_both bytes r t.new (a bytes k) (new_accepted job t bytes k h))
     new_alike job named old (bytes, k) c (inr (t, h, b)) (inl (r, a, is)) = absurd (not_both bytes r t.new (a bytes k) (new_accepted job t bytes k h))
     new_alike job named old new c (inr (t, h, a)) (inr (s, g, b)) =
-        texts_alike one_table words o p content job named t c a (subst (λ (x : Texts). IsTextsReply job.task content x p) (one_texts job s t old new g h) b)
+        texts_alike one_table one_fault words o p content job named t c a (subst (λ (x : Texts). IsTextsReply job.task content x p) (one_texts job s t old new g h) b)
 
     old_alike : (job : JobNames) → job_of words ≡ Some job → IsKnown (content job.old) → IsKnown (content job.new) → IsCertificateKnown job.task content → AfterOld job o → AfterOld job p → AreAlike words o p
     old_alike job named old new c (inl a) (inl b) = refused_alike words (content job.old) (codes "old") o p old a b
@@ -191,5 +194,5 @@ module _ (words : List (List ℕ)) (content : List ℕ → Option (List ℕ)) wh
         let k = known job named in
         old_alike job named k.0 k.1 k.2 a (subst (λ (x : JobNames). AfterOld x p) (same_Some j job (sym m ∙ named)) b)
 
-pub one_answer : ShowsOneTable → OneAnswer
-one_answer one_table words content o p known a b = words_alike words content one_table o p known (staged words content o a) (staged words content p b)
+pub one_answer : ShowsOneTable → HasOneFault → OneAnswer
+one_answer one_table one_fault words content o p known a b = words_alike words content one_table one_fault o p known (staged words content o a) (staged words content p b)

@@ -1,12 +1,14 @@
 -- What follows from a row of the table of answers.
 use Rattle.std.proofs.Common.{◌≡◌, ◌∙◌, sym, ap, subst, refl, ℕ, Bool, true, false, List, [], ◌∷◌, arith, inl, inr}
-use Rattle.std.specs.Prelude.{Option, Some, Contains, ◌⊎◌, Result, Err, codes, if◌then◌else◌}
+use Rattle.std.specs.Prelude.{Option, None, Some, option_map, Contains, ◌⊎◌, Result, Err, codes, if◌then◌else◌}
 use Rattle.std.specs.List.{list_all}
 use Rattle.sd_base.specs.Causes.{Rose, AllSame}
 use Rattle.sd_base.specs.Outside.{WhereKnown}
 use Rattle.sd_ast.specs.declared.Program.{Program}
 use Rattle.sd_run.specs.declared.verdict.PairVerdict.{PairVerdict}
-use Rattle.sd_run.specs.Words.{Task, JobNames, verify, replay, job_of}
+use Rattle.sd_words.specs.Words.{Task, JobNames, verify, replay, job_of}
+use Rattle.sd_words.specs.declared.job.Job.{Job}
+use Rattle.sd_words.specs.Jobs.{names_of}
 use Rattle.sd_run.specs.Report.{is_safe}
 use Rattle.sd_parse.specs.declared.answer.ReadError.TheVariants as read
 use Rattle.sd_run.specs.declared.text.TextRefusal.{TextRefusal}
@@ -67,12 +69,12 @@ module _ (words : List (List ℕ)) (content : List ℕ → Option (List ℕ)) (o
   row_known (old_refused job r a b is) = known_by o.status (refusal_status r) (status_is o (refusal_status r) _ is) (refusal_known r)
   row_known (new_refused job old r a b c is) = known_by o.status (refusal_status r) (status_is o (refusal_status r) _ is) (refusal_known r)
   row_known (clashing job t r a b c is) = known_by o.status 4 (status_is o 4 _ is) (4, omega arith, refl)
-  row_known (compared job t name a b c r) = known_by o.status (status_of o.pairs) r.is_report.status (zero_or_one (list_all (λ v. is_safe v.state) o.pairs))
+  row_known (compared job t workers leaves name a b c r) = known_by o.status (status_of o.pairs) r.is_report.status (zero_or_one (list_all (λ v. is_safe v.state) o.pairs))
   row_known (too_long job t name a b c d is) = known_by o.status 9 (status_is o 9 _ is) nine_known
   row_known (certificate_refused job t name bytes e a b c d l r is) = known_by o.status 5 (status_is o 5 _ is) (5, omega arith, refl)
   row_known (replayed job t name bytes a b c d l r) = known_by o.status (status_of o.pairs) r.is_report.status (zero_or_one (list_all (λ v. is_safe v.state) o.pairs))
 
-  same_job : (a b : JobNames) → job_of words ≡ Some a → job_of words ≡ Some b → a ≡ b
+  pub same_job : (a b : JobNames) → job_of words ≡ Some a → job_of words ≡ Some b → a ≡ b
   same_job a b one other = let e : ◌≡◌ {A = Option JobNames} (Some a) (Some b) = sym one ∙ other in cc
 
   -- what holds of no pairs, and of the pairs of any two texts that are compared or have a certificate, holds of each row for the
@@ -96,8 +98,8 @@ module _ (words : List (List ℕ)) (content : List ℕ → Option (List ℕ)) (o
   row_headline (old_refused job r a b is) = silent_for NoNewFailure (λ P Q. tt) (refusal_status r) _ is
   row_headline (new_refused job old r a b c is) = silent_for NoNewFailure (λ P Q. tt) (refusal_status r) _ is
   row_headline (clashing job t r a b c is) = silent_for NoNewFailure (λ P Q. tt) 4 _ is
-  row_headline (compared job t name a b c r) =
-      let s = c.are_read in texts_for NoNewFailure (λ P Q. tt) job t a s (right_safe t s.old_read s.new_read o.deaths o.pairs (compared_right t s.old_read s.new_read name o r))
+  row_headline (compared job t workers leaves name a b c r) =
+      let s = c.are_read in texts_for NoNewFailure (λ P Q. tt) job t a s (right_safe t s.old_read s.new_read o.deaths o.pairs (compared_right t s.old_read s.new_read leaves name o r))
   row_headline (too_long job t name a b c d is) = silent_for NoNewFailure (λ P Q. tt) 9 _ is
   row_headline (certificate_refused job t name bytes e a b c d l r is) = silent_for NoNewFailure (λ P Q. tt) 5 _ is
   row_headline (replayed job t name bytes a b c d l r) =
@@ -112,8 +114,8 @@ module _ (words : List (List ℕ)) (content : List ℕ → Option (List ℕ)) (o
   row_unknown (old_refused job r a b is) = silent_for Unknowns (λ P Q p q. tt) (refusal_status r) _ is
   row_unknown (new_refused job old r a b c is) = silent_for Unknowns (λ P Q p q. tt) (refusal_status r) _ is
   row_unknown (clashing job t r a b c is) = silent_for Unknowns (λ P Q p q. tt) 4 _ is
-  row_unknown (compared job t name a b c r) =
-      let s = c.are_read in texts_for Unknowns (λ P Q p q. tt) job t a s (right_unknown t s.old_read s.new_read o.deaths o.pairs (compared_right t s.old_read s.new_read name o r))
+  row_unknown (compared job t workers leaves name a b c r) =
+      let s = c.are_read in texts_for Unknowns (λ P Q p q. tt) job t a s (right_unknown t s.old_read s.new_read o.deaths o.pairs (compared_right t s.old_read s.new_read leaves name o r))
   row_unknown (too_long job t name a b c d is) = silent_for Unknowns (λ P Q p q. tt) 9 _ is
   row_unknown (certificate_refused job t name bytes e a b c d l r is) = silent_for Unknowns (λ P Q p q. tt) 5 _ is
   row_unknown (replayed job t name bytes a b c d l r) =
@@ -158,7 +160,7 @@ texts_row words content mid o job t named read same h = go job.task refl h
   where
     go : (k : Task) → job.task ≡ k → IsTextsReply k mid t o → Answer words content o
     go k e (inl (r, clash, is)) = clashing job t r named read clash is
-    go (verify name) e (inr (none, reply)) = compared job t name named e (record { are_read = read; no_clash = none }) reply
+    go (verify workers leaves name) e (inr (none, reply)) = compared job t workers leaves name named e (record { are_read = read; no_clash = none }) reply
     go (replay name) e (inr (none, reply)) = replay_row words content o job t name (mid name) named e (record { are_read = read; no_clash = none }) (same name) reply
 
 -- ---- failed readings
@@ -168,5 +170,13 @@ pub rose_since : (first before now : List ℕ → ℕ) (name : List ℕ) → All
 rose_since first before now name same rose = subst (λ (k : ℕ). Rose k (now name)) (same name) rose
 
 pub certificate_since : (task : Task) (first before now : List ℕ → ℕ) → AllSame first before → CertificateRose task before now → CertificateRose task first now
-certificate_since (verify name) first before now same rose = absurd rose
+certificate_since (verify workers leaves name) first before now same rose = absurd rose
 certificate_since (replay name) first before now same rose = rose_since first before now name same rose
+
+-- ---- the job that the words name
+
+pub named_by : (words : List (List ℕ)) (found : Option Job) (job : Job) → option_map names_of found ≡ job_of words → found ≡ Some job → job_of words ≡ Some (names_of job)
+named_by words found job named is = sym named ∙ ap (option_map names_of) is
+
+pub unnamed_by : (words : List (List ℕ)) (found : Option Job) → option_map names_of found ≡ job_of words → found ≡ None → job_of words ≡ None
+unnamed_by words found named is = sym named ∙ ap (option_map names_of) is

@@ -5,7 +5,7 @@ use Rattle.sd_base.specs.Causes.{Rose}
 use Rattle.sd_ast.specs.declared.Program.{Program}
 use Rattle.sd_extract.specs.Propositional.{IsPropositionalProgram}
 use Rattle.sd_cert.specs.declared.fault.CertError.{CertError}
-use Rattle.sd_run.specs.Words.{Task, verify, replay, JobNames, job_of}
+use Rattle.sd_words.specs.Words.{Task, verify, replay, JobNames, job_of}
 use Rattle.sd_match.specs.Refusals.{Refusal}
 use Rattle.sd_run.specs.Texts.{Holds, Texts, AreRead, AreMatched, clash_of}
 use Rattle.sd_run.specs.declared.text.TextRefusal.{TextRefusal}
@@ -55,11 +55,11 @@ pub data Answer (words : List (List ℕ)) (content : List ℕ → Option (List �
       → Answer words content o
   -- 0 or 1: the two texts are compared.
   compared :
-      (job : JobNames) (t : Texts) (name : Option (List ℕ))
+      (job : JobNames) (t : Texts) (workers leaves : ℕ) (name : Option (List ℕ))
       → job_of words ≡ Some job
-      → job.task ≡ verify name
+      → job.task ≡ verify workers leaves name
       → AreMatched content job t
-      → IsComparison name t o
+      → IsComparison leaves name t o
       → Answer words content o
   -- 9: the certificate passes its limit.
   too_long :
@@ -111,7 +111,7 @@ UnknownIsFailure words content deaths pairs =
 
 -- the count of a certificate that is to be read rose
 abbrev pub CertificateRose : Task → (List ℕ → ℕ) → (List ℕ → ℕ) → Type 0
-CertificateRose (verify name) before now = ⊥
+CertificateRose (verify workers leaves name) before now = ⊥
 CertificateRose (replay name) before now = Rose (before name) (now name)
 
 -- The words name a job, and the reading of one of its files failed: each file that comes before is as it has to be.
@@ -142,8 +142,10 @@ pub record CertificateWriteRose (words : List (List ℕ)) (content : List ℕ �
     : Type 0 where
   pub job : JobNames
   pub named : job_of words ≡ Some job
+  pub workers : ℕ
+  pub leaves : ℕ
   pub name : List ℕ
-  pub task : job.task ≡ verify (Some name)
+  pub task : job.task ≡ verify workers leaves (Some name)
   pub texts : Texts
   pub matched : AreMatched content job texts
   pub rose : Rose (before name) (now name)

@@ -1,5 +1,3 @@
-pub mod Words
-pub mod Jobs
 pub mod Texts
 pub mod Report
 pub mod Compared
@@ -14,4 +12,5 @@ pub mod Outcome
 pub mod Replies
 pub mod Answer
 pub mod OneAnswer
+pub mod Replayed
 pub mod Writing

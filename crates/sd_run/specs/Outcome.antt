@@ -1,5 +1,5 @@
 -- What a job comes to.
-use Rattle.std.specs.Prelude.{◌≡◌, ◌≢◌, ℕ, Bool, List, [], Option, None, Some, if◌then◌else◌}
+use Rattle.std.specs.Prelude.{◌≡◌, ◌≢◌, ◌≤◌, ℕ, Bool, List, [], length, Option, None, Some, if◌then◌else◌}
 use Rattle.std.specs.List.{list_all}
 use Rattle.sd_cand.specs.Words.{words_of}
 use Rattle.sd_kernel.specs.declared.proved.Proved.{Proved}
@@ -42,21 +42,19 @@ pub record IsReport (otherwise : Otherwise) (t : Texts) (live : List Bool) (o : 
   pub status : o.status ≡ status_of o.pairs
   pub text : o.text ≡ report (programs_of t).old (programs_of t).new o.pairs
 
--- a certificate is there where a file is named for it, and shows this table
+-- a certificate is there where a file is named for it, shows this table, and doesn't pass the limit of a replay
 abbrev pub IsCertified : Texts → List Bool → Option (List ℕ) → Option (List ℕ × List ℕ) → Type 0
 IsCertified t live None None = Unit {0}
-IsCertified t live (Some name) (Some file) = (file.0 ≡ name) × Accepts (programs_of t) (digests_of t) file.1 live
+IsCertified t live (Some name) (Some file) =
+    (file.0 ≡ name) × Accepts (programs_of t) (digests_of t) file.1 live × (length file.1 ≤ 9223372036854775807)
 IsCertified t live _ _ = ⊥
 
--- how many cubes a search for a proof may close
-abbrev pub default_leaves : ℕ
-default_leaves = 2000
-
--- Two texts were compared: each live candidate has a proof, and each other one died lawfully.
-pub record IsComparison (name : Option (List ℕ)) (t : Texts) (o : Outcome) : Type 0 where
+-- Two texts were compared, by searches that may close so many cubes: each live candidate has a proof, and each other
+-- one died lawfully.
+pub record IsComparison (leaves : ℕ) (name : Option (List ℕ)) (t : Texts) (o : Outcome) : Type 0 where
   pub live : List Bool
   pub proofs : List Proved
-  pub settled : IsSettled default_leaves (programs_of t) live o.deaths proofs
+  pub settled : IsSettled leaves (programs_of t) live o.deaths proofs
   pub is_report : IsReport Unknown t live o
   pub certified : IsCertified t live name o.certificate
 

@@ -18,7 +18,7 @@ use Rattle.sd_run.specs.declared.reply.Report.{Report}
 use Rattle.sd_run.specs.declared.reply.Reply.{Reply}
 use Rattle.sd_run.specs.declared.matching.Matched.{Matched}
 use Rattle.sd_run.specs.Texts.{Holds, Texts, programs_of, clash_of, digests_of}
-use Rattle.sd_run.specs.Words.{Task, verify, replay}
+use Rattle.sd_words.specs.Words.{Task, verify, replay}
 use Rattle.sd_run.specs.Outcome.{Outcome, message, IsComparison, IsReplay, IsRefused}
 use Rattle.sd_run.specs.Report.{certificate_size}
 use Rattle.sd_run.specs.MatchErrors.{match_error}
@@ -62,10 +62,11 @@ outcome_with report deaths certificate =
       certificate = certificate;
     }
 
--- the certificate is made where a file is named for it
+-- the certificate is made where a file is named for it, and doesn't pass the limit of a replay
 abbrev pub IsMade : Texts → PairedPrograms → List Proved → Option (List ℕ) → Option (List ℕ × List ℕ) → Type 0
 IsMade t work proofs None None = Unit {0}
-IsMade t work proofs (Some name) (Some file) = (file.0 ≡ name) × IsWritten work (digests_of t) proofs file.1
+IsMade t work proofs (Some name) (Some file) =
+    (file.0 ≡ name) × IsWritten work (digests_of t) proofs file.1 × (length file.1 ≤ 9223372036854775807)
 IsMade t work proofs _ _ = ⊥
 
 -- what is answered where the text that this word names has a fault
@@ -95,7 +96,7 @@ IsReplayReply known t o =
 
 -- what a task on two texts comes to
 abbrev pub IsTaskReply : Task → (List ℕ → Option (List ℕ)) → Texts → Outcome → Type 0
-IsTaskReply (verify name) content t o = IsComparison name t o
+IsTaskReply (verify workers leaves name) content t o = IsComparison leaves name t o
 IsTaskReply (replay name) content t o = IsReplayReply (content name) t o
 
 -- the texts clash, or they were judged

@@ -7,7 +7,7 @@ use Rattle.sd_extract.specs.Programs.{core_program}
 use Rattle.sd_match.specs.Refusals.{Refusal, refusal_of}
 use Rattle.sd_product.specs.Work.{PairedPrograms}
 use Rattle.sd_cert.specs.declared.digest.Digests.{Digests}
-use Rattle.sd_run.specs.Words.{JobNames}
+use Rattle.sd_words.specs.Words.{JobNames}
 use Rattle.sd_run.specs.TextRefusals.{IsAccepted}
 
 -- these bytes are the content, where that is known

@@ -3,7 +3,7 @@ ghost use Rattle.std.specs.Prelude.{◌≡◌, ◌≢◌, ◌↔◌, IfOk, IsErr
 ghost use Rattle.sd_base.specs.Causes.{NoFault};
 ghost use Rattle.sd_base.specs.Outside.{AllStay};
 ghost use Rattle.sd_run.specs.Answer.{Answer, CertificateRose, ReadRose};
-ghost use Rattle.sd_run.specs.Jobs.{task_of};
+ghost use Rattle.sd_words.specs.Jobs.{task_of, IsInLimits};
 ghost use Rattle.sd_run.specs.TextRefusals.{IsAccepted};
 ghost use Rattle.sd_run.specs.Texts.{clash_of};
 ghost use Rattle.sd_run.specs.Replies.{outcome_of, texts_of, IsMatched, IsTextReply, IsTaskReply, IsTextsReply};
@@ -15,8 +15,8 @@ use crate::replaying::replay_file;
 use crate::reply::{Reply, Stop, message};
 use crate::text::{Text, TextFault, read_text};
 use crate::text_error::{refusal_status, text_error};
-use crate::words::{Task, job_named};
 use sd_base::Files;
+use sd_words::{Task, job_named};
 use std::alloc::Global;
 
 const USAGE: &str =
@@ -45,7 +45,8 @@ fn judge_texts<'a, F: Files>(
     task: Task<'a>,
     matched: &Matched,
 ) -> Result<Reply<'a>, Stop>
-    requires { IsMatched matched.now }
+    requires matched { IsMatched matched.now }
+    requires limits { IsInLimits task }
     ensures reply { IfOk result (λ reply. IsTaskReply (task_of task.entry) (F.content files.old)
         (texts_of matched.now.old matched.now.new) (outcome_of reply)) }
     ensures cause { IsErrOf result Stop.Failed → CertificateRose (task_of task.entry) (F.read_faults files.old)
@@ -55,7 +56,11 @@ fn judge_texts<'a, F: Files>(
         → NoFault F.read_faults F.start_faults F.append_faults files.old files.new }
 {
     match task {
-        Task::Verify(name) => Ok(compare(alloc, matched, name)?),
+        Task::Verify {
+            workers: _,
+            leaves,
+            certificate,
+        } => Ok(compare(alloc, matched, leaves, certificate)?),
         Task::Replay(name) => replay_file(alloc, files, matched, name),
     }
 }
@@ -68,6 +73,7 @@ fn reply_on<'a, F: Files>(
     old: Text,
     new: Text,
 ) -> Result<Reply<'a>, Stop>
+    requires limits { IsInLimits task }
     requires old_accepted { IsAccepted old.bytes.items old.program }
     requires new_accepted { IsAccepted new.bytes.items new.program }
     ensures reply { IfOk result (λ reply. IsTextsReply (task_of task.entry) (F.content files.old) (texts_of old new)
@@ -98,7 +104,8 @@ pub fn reply_to<'a, F: Files>(
         → NoFault F.read_faults F.start_faults F.append_faults files.old files.new }
     ensures stay { AllStay F.content files.old files.new }
 {
-    let Some(job) = job_named(words) else {
+    let found = job_named(alloc, words)?;
+    let Some(job) = found else {
         return Ok(message(alloc, 2, USAGE.as_bytes())?);
     };
     let old = match read_text(alloc, files, job.old) {

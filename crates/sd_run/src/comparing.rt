@@ -1,5 +1,5 @@
 //! The comparison of two texts.
-ghost use Rattle.std.specs.Prelude.{◌≡◌, length, IfOk};
+ghost use Rattle.std.specs.Prelude.{◌≡◌, ◌≤◌, length, IfOk};
 ghost use Rattle.std.specs.Option.{option_copied};
 ghost use Rattle.sd_product.specs.Inductive.{proved_of};
 ghost use Rattle.sd_product.specs.Work.{claims_in};
@@ -15,9 +15,6 @@ use sd_cert::write_certificate;
 use sd_kernel::Proved;
 use sd_rounds::settle_one;
 use std::alloc::Global;
-
-/// How many cubes a search for a proof may close.
-const DEFAULT_LEAVES: u32 = 2000;
 
 /// The certificate of two texts with these proofs, if a file is named for it.
 fn certify<'a>(
@@ -37,17 +34,20 @@ fn certify<'a>(
     Ok(Some(NamedCertificate { name, text }))
 }
 
-/// Judges the pairs of two texts. The certificate is made where a file is named for it.
+/// Judges the pairs of two texts, each search with so many leaves. The certificate is made where a file is named for
+/// it.
 pub fn compare<'a>(
     alloc: Global,
     matched: &Matched,
+    leaves: u32,
     name: Option<&'a str>,
 ) -> Result<Reply<'a>, NoMemory>
-    requires { IsMatched matched.now }
-    ensures { IfOk result (λ reply. IsComparison (option_copied name.entry) (texts_of matched.now.old matched.now.new)
-        (outcome_of reply)) }
+    requires matched { IsMatched matched.now }
+    requires leaves { 1 ≤ leaves }
+    ensures { IfOk result (λ reply. IsComparison leaves (option_copied name.entry)
+        (texts_of matched.now.old matched.now.new) (outcome_of reply)) }
 {
-    let settled = settle_one(alloc, &matched.work, DEFAULT_LEAVES)?;
+    let settled = settle_one(alloc, &matched.work, leaves)?;
     let certificate = certify(alloc, matched, settled.proofs.as_slice(), name)?;
     let report = report_on(alloc, matched, &settled.table, Otherwise::Unknown)?;
     Ok(Reply {

@@ -1,4 +1,4 @@
-//! The relative verifier: what the words of its command line ask for, its report, and the top call.
+//! The relative verifier: its report, and the top call.
 #![tactic(auto)]
 
 mod answering;
@@ -17,7 +17,6 @@ mod running;
 mod text;
 mod text_error;
 mod verdict;
-mod words;
 
 pub use running::{CertificateFile, Ended, Status, run};
 pub use verdict::{PairVerdict, VerdictState};

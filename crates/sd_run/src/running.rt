@@ -125,10 +125,11 @@ fn end_with(reply: Reply<'_>, code: u8, certificate_file: CertificateFile) -> En
 ///
 /// `verify OLD NEW` reads two program texts and writes the report on their pairs of procedures (after Lahiri and
 /// others 2013: differential assertion checking); with `--certificate FILE` it writes before that the certificate of
-/// the report to a file. `replay OLD NEW CERTIFICATE` writes the report from a certificate that it checks. The
-/// statuses: 0 every pair is safe; 1 some pair isn't; 2 the words name no job; 3 a text is no program that this version
-/// takes; 4 the two texts declare a name with two types; 5 the certificate is refused; 6 the reading of a file failed;
-/// 7 the writing failed; 8 memory ran out; 9 a text or the certificate passes a limit.
+/// the report to a file, and with `--leaves N` each search closes at most so many branches. `replay OLD NEW
+/// CERTIFICATE` writes the report from a certificate that it checks. The statuses: 0 every pair is safe; 1 some pair
+/// isn't; 2 the words name no job; 3 a text is no program that this version takes; 4 the two texts declare a name with
+/// two types; 5 the certificate is refused; 6 the reading of a file failed; 7 the writing failed; 8 memory ran out; 9 a
+/// text or the certificate passes a limit.
 pub fn run<R: Threads + Sync, F: Files, S: Sink, G: Gate>(
     _rt: &R,
     alloc: Global,
@@ -161,8 +162,8 @@ pub fn run<R: Threads + Sync, F: Files, S: Sink, G: Gate>(
     ensures silent { (result.status.code ≡ 6) ⊎ (result.status.code ≡ 8) → SaysNothing result
         × AllStay F.content files.old files.new × (S.written out.new ≡ S.written out.old) }
 
-    // The faults have their causes, and the first one ends the run: a file is read only where those before it are
-    // accepted.
+    // The faults have their causes, and where no call failed none was counted. A file is read only where those before
+    // it are accepted.
     ensures read_fault { result.status.code ≡ 6 → ReadRose (map string_bytes words.now) (F.content files.old)
         (F.read_faults files.old) (F.read_faults files.new) }
     ensures write_fault { result.status.code ≡ 7

@@ -1,0 +1,1 @@
+procedure p(b: bool) { assert b; }
