@@ -15,7 +15,8 @@ Without names all rows are run. A row is a folder whose name says what it shows.
     stdout           exactly what the program must write; without it, nothing
     status           the exit status; without it, 0
     certificate_out  exactly what the file `certificate` must hold after the run
-    branches         how many branches a proof in the file `certificate` closes at most after the run; it has one proof at least
+    branches         how many branches the proofs in the file `certificate` close at most after the run: a line of one number for all of them,
+                     of which there is one at least, or lines `PAIR CANDIDATE NUMBER`, each for one that has to be there
     then_words, then_stdout, then_status
                      a second run in the same folder
 
@@ -89,24 +90,34 @@ def fault_of_run(program, folder, row, prefix):
 
 
 def closed_branches(certificate):
-    """How many branches each proof of a certificate closes."""
-    counts = []
+    """How many branches each proof of a certificate closes, by its pair and its candidate."""
+    counts, pair = {}, None
     for line in certificate.decode().splitlines():
-        word = line.split(" ", 1)[0]
-        if word == "candidate":
-            counts.append(0)
-        elif word in ("close", "rows"):
-            counts[-1] += 1
+        words = line.split(" ")
+        if words[0] == "pair":
+            pair = int(words[1])
+        elif words[0] == "candidate":
+            place = (pair, int(words[1]))
+            counts[place] = 0
+        elif words[0] in ("close", "rows"):
+            counts[place] += 1
     return counts
 
 
-def fault_of_branches(certificate, most):
+def fault_of_branches(certificate, limits):
     """Why the proofs of a certificate are too long, or None."""
     counts = closed_branches(certificate or b"")
     if not counts:
         return "the certificate has no proof"
-    if max(counts) > most:
-        return "a proof closes %d branches, and not at most %d" % (max(counts), most)
+    for line in limits.decode().splitlines():
+        *place, most = map(int, line.split())
+        places = [tuple(place)] if place else sorted(counts)
+        for pair, candidate in places:
+            count = counts.get((pair, candidate))
+            if count is None:
+                return "pair %d has no proof of its candidate %d" % (pair, candidate)
+            if count > most:
+                return "the proof of candidate %d of pair %d closes %d branches, and not at most %d" % (candidate, pair, count, most)
     return None
 
 
@@ -128,9 +139,9 @@ def fault_of(program, row):
                 return ("second run: " if prefix else "") + fault
         after = {name: read(os.path.join(folder, name)) for name in os.listdir(folder)}
     expected = dict(before)
-    most = read(os.path.join(row, "branches"))
-    if most is not None:
-        fault = fault_of_branches(after.get("certificate"), int(most))
+    limits = read(os.path.join(row, "branches"))
+    if limits is not None:
+        fault = fault_of_branches(after.get("certificate"), limits)
         if fault:
             return fault
         expected["certificate"] = after["certificate"]

@@ -1,5 +1,5 @@
 -- Tests of parts and of lists.
-use Rattle.std.proofs.Common.{◌≡◌, ◌∙◌, sym, ap, refl, suc, zero, Bool, true, false, ◌&&◌, List, [], ◌∷◌, ◌++◌, ◌↔◌, Contains, arith}
+use Rattle.std.proofs.Common.{◌≡◌, ◌∙◌, sym, ap, refl, suc, zero, Bool, true, false, List, [], ◌∷◌, ◌++◌, ◌↔◌, Contains, arith}
 use Rattle.std.proofs.lemmas.Bool.{and_parts, and_from}
 use Rattle.std.specs.List.{list_all, AllByRecursion}
 use Rattle.std.proofs.lemmas.List.Folds.{list_all-append}

@@ -1,5 +1,5 @@
 -- A replay confirms what was written as a certificate.
-use Rattle.std.proofs.Common.{◌≡◌, ◌∙◌, sym, ap, subst, refl, ℕ, Bool, true, false, ◌&&◌, List, [], ◌∷◌, ◌++◌, length, drop, ◌<◌, ◌≤◌, ◌↔◌, inl, inr, arith}
+use Rattle.std.proofs.Common.{◌≡◌, ◌∙◌, sym, ap, subst, refl, ℕ, Bool, true, false, ◌&&◌, List, [], ◌∷◌, ◌++◌, length, drop, ◌<◌, ◌≤◌, inl, inr, arith}
 use Rattle.std.specs.Prelude.{Option, None, Some, ◌⊎◌, is_some, if◌then◌else◌}
 use Rattle.std.specs.List.{list_all}
 use Rattle.std.proofs.lemmas.Option.{none-some, same_Some}
@@ -16,13 +16,13 @@ use Rattle.sd_run.specs.declared.verdict.VerdictState.{VerdictState}
 use Rattle.sd_run.specs.declared.verdict.VerdictState.TheVariants.{Safe}
 use Rattle.sd_run.specs.declared.verdict.Otherwise.TheVariants.{Unknown, Unproved}
 use Rattle.sd_words.specs.Words.{Task, JobNames, verify, replay, job_of}
-use Rattle.sd_run.specs.Texts.{Texts, programs_of, digests_of, AreRead, AreMatched}
+use Rattle.sd_run.specs.Texts.{Texts, programs_of, digests_of, AreMatched}
 use Rattle.sd_run.specs.Verdicts.{flag_live, state_of, verdict_by, verdict_of, verdicts_of}
 use Rattle.sd_run.specs.Report.{is_safe, report}
 use Rattle.sd_run.specs.Outcome.{Outcome, message, status_of, IsReport, IsCertified, IsComparison, IsReplay}
 use Rattle.sd_run.specs.Answer.{Answer, no_job, old_refused, new_refused, clashing, compared, too_long, certificate_refused, replayed}
 use Rattle.sd_run.specs.OneAnswer.{IsReported, IsCertificateKnown, AreKnown, AreAlike, same, reports, OneAnswer}
-use Rattle.sd_run.specs.Replayed.{NamesTask, AgreeOnPair, Agree, Confirms, IsConfirmed, WrittenIsReplayed}
+use Rattle.sd_run.specs.Replayed.{NamesTask, AgreeOnPair, Agree, Confirms, WrittenIsReplayed}
 use Rattle.sd_run.proofs.Rows.{refusal_status_is, same_job}
 
 -- ---- verdicts from one table

@@ -175,8 +175,8 @@ certificate_since (replay name) first before now same rose = rose_since first be
 
 -- ---- the job that the words name
 
-pub named_by : (words : List (List ℕ)) (found : Option Job) (job : Job) → option_map names_of found ≡ job_of words → found ≡ Some job → job_of words ≡ Some (names_of job)
-named_by words found job named is = sym named ∙ ap (option_map names_of) is
+pub named_by : (asked : Option JobNames) (found : Option Job) (job : Job) → option_map names_of found ≡ asked → found ≡ Some job → asked ≡ Some (names_of job)
+named_by asked found job named is = sym named ∙ ap (option_map names_of) is
 
-pub unnamed_by : (words : List (List ℕ)) (found : Option Job) → option_map names_of found ≡ job_of words → found ≡ None → job_of words ≡ None
-unnamed_by words found named is = sym named ∙ ap (option_map names_of) is
+pub unnamed_by : (asked : Option JobNames) (found : Option Job) → option_map names_of found ≡ asked → found ≡ None → asked ≡ None
+unnamed_by asked found named is = sym named ∙ ap (option_map names_of) is

@@ -1,0 +1,8 @@
+procedure f(b1: bool, b2: bool, b3: bool, b4: bool, r: int) returns (s: int) {
+  s := r;
+  if (b1) { s := s + 1; }
+  if (b2) { s := s + 2; }
+  if (b3) { s := s + 3; }
+  if (b4) { s := s + 4; }
+  assert s <= 1000;
+}

@@ -1,0 +1,6 @@
+procedure f(b1: bool, b2: bool, b3: bool, x: int) returns (r: int) {
+  r := x;
+  if (b3) { r := 3 + r; }
+  if (b2) { r := 2 + r; }
+  if (b1) { r := 1 + r; }
+}

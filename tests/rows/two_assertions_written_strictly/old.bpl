@@ -1,0 +1,4 @@
+procedure f(x0: int, x1: int) {
+  assert x0 >= 0;
+  assert x1 >= 1;
+}

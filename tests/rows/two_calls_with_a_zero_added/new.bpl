@@ -1,0 +1,10 @@
+procedure f(x: int) returns (y: int) {
+  assert !(x == 3);
+  y := x + 1;
+}
+procedure g(x: int) returns (y: int) {
+  y := x;
+  call y := f(0 + y);
+  call y := f(0 + y);
+  assert !(y < 0);
+}
