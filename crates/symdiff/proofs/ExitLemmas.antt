@@ -1,6 +1,6 @@
 -- What the end of a run tells of the exit status.
-use Rattle.std.proofs.Common.{◌≡◌, ◌≢◌, subst, refl, ℕ, List, inl, inr}
-use Rattle.std.specs.Prelude.{Option, None, Some}
+use Rattle.std.proofs.Common.{◌≡◌, ◌≢◌, ◌∙◌, sym, ap, subst, refl, ℕ, List, inl, inr}
+use Rattle.std.specs.Prelude.{Option, None, Some, Result, Ok, String, Vec, map, string_bytes}
 use Rattle.std.proofs.lemmas.Bool.Decides.{eqb_tells}
 use Rattle.sd_base.specs.Causes.{Rose}
 use Rattle.sd_base.specs.Outside.{appended}
@@ -9,7 +9,8 @@ use Rattle.sd_run.specs.declared.running.CertificateFile.{CertificateFile}
 use Rattle.sd_run.specs.declared.running.CertificateFile.TheVariants.{Untouched, NotStarted, Cut, Whole}
 use Rattle.sd_run.specs.Answer.{Answer, CertificateWriteRose}
 use Rattle.sd_run.specs.Writing.{outcome, certificate_size, whole, IsBroken, FilesAfter, IsCutShort, SaysNothing}
-use Rattle.symdiff.specs.Exit.{IsAnswered, IsBegun, WriteRose}
+use Rattle.symdiff.specs.declared.NoWords.{NoWords}
+use Rattle.symdiff.specs.Exit.{words_read, IsAnswered, IsBegun, WriteRose}
 
 whole_unbroken : (certificate : Option (List ℕ × List ℕ)) → IsBroken (whole certificate) → ⊥
 whole_unbroken None bad = bad
@@ -63,3 +64,9 @@ module _ {D : Type 0} (words : List (List ℕ)) (content : D → List ℕ → Op
   write_rose Cut r = inr (inl (r.1 refl))
   write_rose Untouched r = inr (inr (r.2 (λ bad. bad)))
   write_rose Whole r = inr (inr (r.2 (λ bad. bad)))
+
+-- ---- words
+
+-- the words that were collected are those that count
+pub words-known : {A B : Type 0} (collected : Result (Vec (String A) B) NoWords) (words : Vec (String A) B) (all : List (String A)) → collected ≡ Ok words → all ≡ words.items → map string_bytes all ≡ words_read collected
+words-known collected words all is same = ap (map string_bytes) same ∙ sym (ap words_read is)

@@ -1,6 +1,5 @@
 -- What the exit status tells.
-use Rattle.std.specs.Prelude.{◌≡◌, ◌⊎◌, ℕ, List, [], map, Option, Result, Ok, Err, string_bytes}
-use Rattle.std.specs.Global.{Vec, String}
+use Rattle.std.specs.Prelude.{◌≡◌, ◌⊎◌, ℕ, List, [], map, Option, Result, Ok, Err, String, Vec, string_bytes}
 use Rattle.sd_base.specs.Causes.{Rose}
 use Rattle.sd_base.specs.Outside.{appended}
 use Rattle.sd_run.specs.declared.running.CertificateFile.{CertificateFile}
@@ -10,7 +9,7 @@ use Rattle.sd_run.specs.Writing.{whole, FilesAfter, IsCutShort}
 use Rattle.symdiff.specs.declared.NoWords.{NoWords}
 
 -- the words that count: where one isn't text there are none
-abbrev pub words_read : Result (Vec String) NoWords → List (List ℕ)
+abbrev pub words_read : {A B : Type 0} → Result (Vec (String A) B) NoWords → List (List ℕ)
 words_read (Ok words) = map string_bytes words.items
 words_read (Err e) = []
 
