@@ -11,6 +11,7 @@ Without names all rows are run. A row is a folder whose name says what it shows.
                      a text by its pieces: each line is a number and a JSON string, which is written so many times; `{n}` in it is
                      the number of the repetition, from 0
     words            the arguments, one a line; without it they are: verify old.bpl new.bpl
+    stdin            what stands in the pipe that is the standard input; without it that is empty
     certificate      a file that is there before the run
     stdout           exactly what the program must write; without it, nothing
     status           the exit status; without it, 0
@@ -33,7 +34,7 @@ import tempfile
 
 ROWS = os.path.join(os.path.dirname(os.path.abspath(__file__)), "rows")
 TEXTS = ("old", "new")
-KNOWN = {"about", "words", "certificate", "stdout", "status", "certificate_out", "branches", "then_words", "then_stdout", "then_status"}
+KNOWN = {"about", "words", "stdin", "certificate", "stdout", "status", "certificate_out", "branches", "then_words", "then_stdout", "then_status"}
 KNOWN |= {name + ending for name in TEXTS for ending in (".bpl", ".repeat")}
 SECONDS = 120
 
@@ -76,8 +77,9 @@ def fault_of_run(program, folder, row, prefix):
     words = ["verify", "old.bpl", "new.bpl"] if words is None else words.decode().splitlines()
     status = int(read(os.path.join(row, prefix + "status")) or 0)
     stdout = read(os.path.join(row, prefix + "stdout")) or b""
+    piped = read(os.path.join(row, "stdin")) or b""
     try:
-        done = subprocess.run([program] + words, cwd=folder, capture_output=True, timeout=SECONDS, stdin=subprocess.DEVNULL)
+        done = subprocess.run([program] + words, cwd=folder, capture_output=True, timeout=SECONDS, input=piped)
     except subprocess.TimeoutExpired:
         return "no end within %d seconds" % SECONDS
     if done.returncode != status:

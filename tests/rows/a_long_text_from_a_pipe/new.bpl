@@ -1,0 +1,1 @@
+procedure f(x: int) { assert 5 < x; }

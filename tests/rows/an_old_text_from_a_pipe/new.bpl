@@ -1,0 +1,1 @@
+procedure f(x: int) { assert x > 4; }
